@@ -1,0 +1,12 @@
+pub mod Keys
+pub mod Order
+pub mod Lattice
+pub mod Exact
+pub mod Cleared
+pub mod Folds
+pub mod Mirror
+pub mod Rounded
+pub mod Signed
+pub mod Within
+pub mod Ratio
+pub mod Zeros

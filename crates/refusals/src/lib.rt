@@ -1,0 +1,63 @@
+// What is refused: one case for each row of 01's table of refusal numbers.
+//
+// A refusal returns its number only, and every lent buffer keeps its contents. The rules of the
+// other crates' specs/ speak of numbers, as 01 does (`Paper`); the code speaks of these cases, and
+// this is the one place that turns a case into its number.
+ghost use mathlib.Core.Path.{_≡_};
+ghost use Rattle.refusals.specs.Number.{numberOf};
+
+pub enum Refusal {
+    // 1: a spec value outside the rules
+    SpecOutside,
+    // 2: the number of cells is 0, infinite, over max_cells or over 4,096
+    CellCount,
+    // 3: the lent cells are not n, or one does not fit
+    CellsDoNotFit,
+    // 4: a stored ring is wrong, two overlap, or there are more than the room
+    StoredRings,
+    // 5: an argument of a cut or a root outside its domain, or over 64 segments or points
+    ArgumentOutside,
+    // 6: more changes than lent records
+    ChangesOverRoom,
+    // 7: the change indices do not strictly rise
+    IndicesDoNotRise,
+    // 8: an after-cell does not fit
+    AfterDoesNotFit,
+    // 9: no such bin, the bin holds something else, or the change adds material
+    ChangeDoesNotApply,
+    // 10: a ring is not finite, or in a move or parts empty
+    RingOutside,
+    // 11: over 256 pieces in hand, or over the store's room
+    RingsOverRoom,
+    // 12: the generation would pass 2^64 - 1
+    GenerationsSpent,
+    // 13: an arc
+    Arc,
+    // 14: envelope points or a query outside the domain, or over 1,024 points
+    EnvelopeOutside,
+    // 15: a malformed job line
+    LineMalformed,
+}
+
+// 01's number of a refusal.
+pub fn number(r: Refusal) -> u32
+    ensures { λ n. ⌜ n ≡ numberOf r ⌝ }
+{
+    match r {
+        Refusal::SpecOutside => 1,
+        Refusal::CellCount => 2,
+        Refusal::CellsDoNotFit => 3,
+        Refusal::StoredRings => 4,
+        Refusal::ArgumentOutside => 5,
+        Refusal::ChangesOverRoom => 6,
+        Refusal::IndicesDoNotRise => 7,
+        Refusal::AfterDoesNotFit => 8,
+        Refusal::ChangeDoesNotApply => 9,
+        Refusal::RingOutside => 10,
+        Refusal::RingsOverRoom => 11,
+        Refusal::GenerationsSpent => 12,
+        Refusal::Arc => 13,
+        Refusal::EnvelopeOutside => 14,
+        Refusal::LineMalformed => 15,
+    }
+}
