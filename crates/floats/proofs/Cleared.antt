@@ -24,7 +24,7 @@ plain-zero64 = rw zero64-is (plain-zero binary64)
 
 -- either zero equals zero
 pub minus-zero-eq : (f : Format) (x : Float) → T (fits f x) → T (minusZero x) → T (eq x (fin false 0 (pos 0)))
-unfolding eq
+unfolding eq minusZero
 minus-zero-eq f nan h t = absurd t
 minus-zero-eq f (inf s) h t = absurd t
 minus-zero-eq f (fin s zero e) h t = subst (λ (z : Float). T (eq z (fin false 0 (pos 0)))) (sym (zero-is f s e h)) (at s)
@@ -89,6 +89,7 @@ unfolding test-of
 test-other x h = rw (is-false (eq x (fin false 0 (pos 0))) h) refl
 
 test-is : (x : Float) → T (fits binary64 x) → test-of x ≡ minusZero x
+unfolding minusZero
 test-is nan h = test-other nan (unfold eq in tt)
 test-is (inf s) h = test-other (inf s) (unfold eq in tt)
 test-is (fin s zero e) h = ap test-of (zero-is binary64 s e h) ∙ test-zero s

@@ -11,6 +11,7 @@ use lib.Ieee.{Float, nan, inf, fin, Format, binary32, binary64, prec, emax, low,
 use lib.Ieee.Bits.{is-true, is-false}
 use lib.Ieee.Fits.{and-l, and-r, up-pos, down-pos, round-fits}
 use lib.Ieee.Exact.{HasValue, round-exact}
+use Rattle.floats.specs.Numbers.{minusZero}
 use Rattle.floats.specs.Kinds.{Plain}
 use Rattle.floats.proofs.Keys.{top, key, eq-key, key-fin, mag, mag-exact, mag-lt, fits-low, back, below-pow, carry-eq, cross-l, cross-r}
 use Rattle.floats.proofs.Order.{same-sign, number-of}
@@ -41,7 +42,7 @@ in-units l m (pos k) h = mul-assoc m (2 ^ k) (2 ^ l) ∙ ap (λ (x : ℕ). m * x
 in-units l m (negsuc k) h =
     ap (λ (x : ℕ). x * 2 ^ l) (mul-one m) ∙ ap (λ (x : ℕ). m * 2 ^ x) (sym (back (suc k) l (below-pow (suc k) l h))) ∙ ap (λ (x : ℕ). m * x) (pow-add 2 (l - suc k) (suc k)) ∙ sym (mul-assoc m (2 ^ (l - suc k)) (2 ^ suc k))
 
-fits-small : (f : Format) (s : Bool) (m : ℕ) (e : ℤ) → T (fits f (fin s m e)) → m < 2 ^ prec f
+pub fits-small : (f : Format) (s : Bool) (m : ℕ) (e : ℤ) → T (fits f (fin s m e)) → m < 2 ^ prec f
 unfolding fits
 fits-small f s zero e t = pow-pos (prec f)
 fits-small f s (suc m) e t =
@@ -75,7 +76,7 @@ unfolding fits
 zero-is f s e t = ap (λ (z : ℤ). fin s 0 z) (flat e (eqb→eq (up e * down e) 1 t))
 
 pub plain-zero : (f : Format) → Plain f (fin false 0 (pos 0))
-unfolding fits isNan
+unfolding fits isNan minusZero
 plain-zero f = record { held = tt; number = tt; unsigned = tt }
 
 -- the key of either zero

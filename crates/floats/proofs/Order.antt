@@ -121,6 +121,7 @@ same-sign f s m n e d p q h =
 
 -- what is not zero has no magnitude of zero
 pub mag-zero : (f : Format) (m : ℕ) (e : ℤ) → Plain f (fin true m e) → mag f (fin true m e) ≡ 0 → ⊥
+unfolding minusZero
 mag-zero f zero e p h = p .unsigned
 mag-zero f (suc m) e p h =
     lt-irrefl 0 (subst (λ (z : ℕ). 0 < z) (sym (mag-exact f true (suc m) e (p .held)) ∙ ap (λ (z : ℕ). z * down e) h ∙ zero-mul (down e)) (mul-pos (mul-pos (zero-lt-suc m) (up-pos e)) (pow-pos (low f))))
@@ -176,7 +177,3 @@ lt-is-not-le {x = x} {y = y} p q = sym (not-not (lt x y)) ∙ ap not (sym (le-is
     not-not : (b : Bool) → not (not b) ≡ b
     not-not true = refl
     not-not false = refl
-
-example : Plain binary64 (ofBits binary64 4607182418800017408)
-unfolding fits isNan ofBits
-example = plain-test binary64 (ofBits binary64 4607182418800017408) tt

@@ -20,12 +20,14 @@ use Rattle.floats.proofs.Signed.{neg-finite, sum-units, one-unit, no-si
 
 -- ---- a rounded value is -0.0 only where its sign is minus and it is zero
 zero-sign : (x : Float) → T (minusZero x) → T (minus? x)
+unfolding minusZero
 zero-sign nan t = absurd t
 zero-sign (inf s) t = absurd t
 zero-sign (fin s zero e) t = t
 zero-sign (fin s (suc m) e) t = absurd t
 
 zero-size : (f : Format) (x : Float) → T (fits f x) → T (minusZero x) → mag f x ≡ 0
+unfolding minusZero
 zero-size f nan h t = absurd t
 zero-size f (inf s) h t = absurd t
 zero-size f (fin s zero e) h t = ap (λ (z : Float). mag f z) (zero-is f s e h) ∙ zero-mag f s

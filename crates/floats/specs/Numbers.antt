@@ -44,7 +44,7 @@ unfoldable pub sizeOf : Float → Float
 sizeOf x = pick (lt x zero64) (neg x) x
 
 -- ---- -0.0
-abbrev pub minusZero : Float → Bool
+unfoldable pub minusZero : Float → Bool
 minusZero nan = false
 minusZero (inf s) = false
 minusZero (fin s zero e) = s

@@ -1,0 +1,4 @@
+pub mod Root
+pub mod RootBits
+pub mod Length
+pub mod Whole

@@ -1,0 +1,59 @@
+-- What is known of a spec that is not refused. Assumes nothing.
+use mathlib.Core.Path.{_≡_, refl, sym, ap, _∙_, subst}
+use mathlib.Core.Bool.{Bool, true, false, not, _&&_, false≢true}
+use mathlib.Core.Option.{Option, none, some}
+use Prim.Native.Nat.{ℕ, zero, suc, _+_, _*_, _≤_, _<_}
+use native.Mathlib.Omega.{arith}
+use lib.Dec.{eqb, leb}
+use lib.Ieee.{Float}
+use borrow.Author.Tests.{leb-true, eqb-false}
+use Rattle.refusals.specs.Paper.{Paper, answers, refuses, demand}
+use Rattle.refusals.specs.Limits.{cellLimit}
+use Rattle.numbers.specs.Whole.{wholeUp}
+use Rattle.numbers.proofs.Wholes.{up-most}
+use Rattle.stock.specs.declared.TurnStockSpec.{TurnStockSpec}
+use Rattle.stock.specs.Spec.{cleanSpec, specGood, quotient, counted, cellsOf}
+
+-- two answers that are the same
+pub same-answer : {A : Type 0} {a b : A} → answers a ≡ answers b → a ≡ b
+same-answer h = cc
+
+-- a refusal is no answer
+pub no-answer : {A : Type 0} (n : ℕ) (a : A) → refuses n ≡ answers a → ⊥
+no-answer n a h = let z : _≡_ {A = ℕ} 0 1 = cc in omega arith
+
+-- what is demanded of an answer holds
+pub demanded : {A : Type 0} (t : Bool) (n : ℕ) (p : Paper A) (a : A) → demand t n p ≡ answers a → (t ≡ true) × (p ≡ answers a)
+unfolding demand
+demanded true n p a h = (refl, h)
+demanded false n p a h = absurd (no-answer n a h)
+
+and-both : (a b : Bool) → (a && b) ≡ true → (a ≡ true) × (b ≡ true)
+and-both true b e = (refl, e)
+and-both false b e = absurd (false≢true e)
+
+not-zero : (n : ℕ) → not (eqb n 0) ≡ true → 0 < n
+not-zero zero h = absurd (false≢true h)
+not-zero (suc n) h = omega arith
+
+-- its numbers are within the rules, and it has some cells, no more than it may have and no more than the limit
+pub record Checked (spec : TurnStockSpec) (n : ℕ) : Type 0 where
+  pub good : specGood (cleanSpec spec) ≡ true
+  pub some-cells : 0 < n
+  pub few : n ≤ cellLimit
+  pub most : n ≤ spec .«max_cells»
+
+pub checked : (spec : TurnStockSpec) (n : ℕ) → cellsOf spec ≡ answers n → Checked spec n
+unfolding cellsOf cleanSpec
+checked spec n h =
+    let s = cleanSpec spec in
+    let d = demanded (specGood s) 1 (counted (spec .«max_cells») (wholeUp (quotient s) cellLimit)) n h in
+    go (d .0) (wholeUp (quotient s) cellLimit) refl (d .1)
+  where
+    go : specGood (cleanSpec spec) ≡ true → (o : Option ℕ) → wholeUp (quotient (cleanSpec spec)) cellLimit ≡ o → counted (spec .«max_cells») o ≡ answers n → Checked spec n
+    go g none e k = absurd (no-answer 2 n k)
+    go g (some m) e k =
+        let d = demanded (not (eqb m 0) && leb m (spec .«max_cells»)) 2 (answers m) n k in
+        let b = and-both (not (eqb m 0)) (leb m (spec .«max_cells»)) (d .0) in
+        let s : m ≡ n = same-answer (d .1) in
+        subst (λ (i : ℕ). Checked spec i) s (record { good = g; some-cells = not-zero m (b .0); few = up-most (quotient (cleanSpec spec)) cellLimit m e; most = leb-true m (spec .«max_cells») (b .1) })

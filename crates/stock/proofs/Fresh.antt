@@ -1,0 +1,25 @@
+-- A new stock: what `fill` answers and leaves, by what its rule says. Assumes nothing.
+use mathlib.Core.Path.{_≡_, refl, sym, ap, _∙_}
+use mathlib.Core.List.{List}
+use Prim.Native.Nat.{ℕ, _*_}
+use borrow.Author.Tests.{eq-eqb}
+use lib.ListN.{length}
+use lib.Ieee.{Float}
+use Rattle.refusals.specs.declared.Refusal.{Refusal}
+use Rattle.refusals.specs.Number.{numberOf}
+use Rattle.refusals.specs.Paper.{Paper, answers, refuses, papers}
+use Rattle.stock.specs.declared.TurnStockSpec.{TurnStockSpec}
+use Rattle.stock.specs.declared.Counted.the-variants.{Cells, Refused}
+use Rattle.stock.specs.Spec.{cleanSpec, cellsOf}
+use Rattle.stock.specs.Cell.{newOf, newCells, freshCell, cellsLike, Filled}
+
+-- as many numbers as n cells have
+pub new-is : (spec : TurnStockSpec) (len n : ℕ) → cellsOf spec ≡ answers n → len ≡ 4 * n → answers n ≡ newOf spec len
+unfolding newOf
+new-is spec len n e h = simp (papers, e, eq-eqb len (4 * n) h)
+
+pub left : (spec : TurnStockSpec) (cs : List Float) (r : Refusal) → refuses (numberOf r) ≡ newOf spec (length cs) → Filled spec (Refused r) cs cs
+left spec cs r e = record { answer = e; cells = ap (λ (p : Paper ℕ). newCells spec p cs) e }
+
+pub made : (spec : TurnStockSpec) (cs cs' : List Float) (n : ℕ) → answers n ≡ newOf spec (length cs) → cs' ≡ cellsLike (freshCell (cleanSpec spec)) n → Filled spec (Cells n) cs cs'
+made spec cs cs' n e h = record { answer = e; cells = h ∙ ap (λ (p : Paper ℕ). newCells spec p cs) e }

@@ -1,0 +1,3 @@
+pub mod Spec
+pub mod Bin
+pub mod Cell
