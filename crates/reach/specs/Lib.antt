@@ -1,0 +1,3 @@
+pub mod Low
+pub mod Reach
+pub mod Closed
