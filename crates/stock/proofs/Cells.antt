@@ -2,21 +2,21 @@
 use mathlib.Core.Path.{_≡_, refl, sym, ap, _∙_, subst}
 use mathlib.Core.Bool.{Bool, true, false, _&&_}
 use mathlib.Core.List.{List, [], _∷_, _++_}
-use Prim.Native.Nat.{ℕ, zero, suc, _+_, _*_, _-_, _≤_, _<_}
+use Prim.Native.Nat.{ℕ, zero, suc, _+_, _*_, _-_, _/_, _≤_, _<_}
 use native.Mathlib.Nat.{le-trans, le-of-eq}
 use native.Mathlib.Numerals.{add-one}
 use native.Mathlib.Omega.{arith}
-use lib.Dec.{leb}
+use lib.Dec.{ltb}
 use lib.ListN.{length, take, drop, getD, length-append, List·getD-eq-default}
 use lib.Seq.{sets, sets-eq}
 use lib.Ieee.{Float, nan}
-use borrow.Author.Tests.{le-leb, lt-leb}
+use borrow.Author.Tests.{lt-ltb, le-ltb}
 use Rattle.refusals.specs.Lent.{over}
 use Rattle.refusals.proofs.Written.{length-over, over-more}
 use Rattle.floats.specs.Pick.{pick-true, pick-false}
 use Rattle.stock.specs.declared.TurnStockSpec.{TurnStockSpec}
 use Rattle.stock.specs.declared.TurnCell.{TurnCell}
-use Rattle.stock.specs.Cell.{numberAt, cellFrom, cellAt, noCell, fourOf, putAt, cellFits, fitTo, cellsLike}
+use Rattle.stock.specs.Cell.{numberAt, cellFrom, cellAt, noCell, fourOf, putCell, cellFits, fitTo, cellsLike}
 
 -- past the end of a list there is no cell
 pub no-cell : (xs : List Float) (at : ℕ) → length xs ≤ at → cellFrom xs at ≡ noCell
@@ -26,14 +26,14 @@ no-cell xs at h =
     let d : length xs ≤ at + 3 = omega arith in
     simp (List·getD-eq-default xs nan h, List·getD-eq-default xs nan a, List·getD-eq-default xs nan b, List·getD-eq-default xs nan d)
 
--- a list that is long enough takes the cell, and one that is not stays
-pub put-room : (xs : List Float) (at : ℕ) (c : TurnCell) → at + 4 ≤ length xs → putAt xs at c ≡ sets xs at (fourOf c)
-unfolding putAt
-put-room xs at c h = pick-true _ _ _ (le-leb (at + 4) (length xs) h)
+-- a list that has the bin takes the cell, and one that has it not stays
+pub put-room : (xs : List Float) (i : ℕ) (c : TurnCell) → 4 * i + 4 ≤ length xs → putCell xs i c ≡ sets xs (4 * i) (fourOf c)
+unfolding putCell
+put-room xs i c h = pick-true _ _ _ (lt-ltb i (length xs / 4) (omega arith))
 
-pub put-none : (xs : List Float) (at : ℕ) (c : TurnCell) → length xs < at + 4 → putAt xs at c ≡ xs
-unfolding putAt
-put-none xs at c h = pick-false _ _ _ (lt-leb (at + 4) (length xs) h)
+pub put-none : (xs : List Float) (i : ℕ) (c : TurnCell) → length xs < 4 * i + 4 → putCell xs i c ≡ xs
+unfolding putCell
+put-none xs i c h = pick-false _ _ _ (le-ltb i (length xs / 4) (omega arith))
 
 -- one cell more fits
 pub fit-more : (s : TurnStockSpec) (cs : List Float) (i : ℕ) → fitTo s cs (i + 1) ≡ (fitTo s cs i && cellFits s (cellAt cs i))
@@ -46,10 +46,10 @@ length-like c zero = refl
 length-like c (suc n) = let h = length-like c n in length-append (cellsLike c n) (fourOf c) ∙ (omega arith)
 
 -- one cell more, written behind i like it
-pub like-more : (c : TurnCell) (cs cs₀ : List Float) (i : ℕ) → cs ≡ over (cellsLike c i) cs₀ → 4 * i + 4 ≤ length cs₀ → putAt cs (4 * i) c ≡ over (cellsLike c (i + 1)) cs₀
+pub like-more : (c : TurnCell) (cs cs₀ : List Float) (i : ℕ) → cs ≡ over (cellsLike c i) cs₀ → 4 * i + 4 ≤ length cs₀ → putCell cs i c ≡ over (cellsLike c (i + 1)) cs₀
 unfolding cellsLike
 like-more c cs cs₀ i e h =
     let l = length-like c i in
     let r : 4 * i + 4 ≤ length cs = subst (λ (xs : List Float). 4 * i + 4 ≤ length xs) (sym e) (le-trans h (le-of-eq (sym (length-over (cellsLike c i) cs₀ (omega arith))))) in
-    put-room cs (4 * i) c r
+    put-room cs i c r
     ∙ rw (add-one i, e) (ap (λ (k : ℕ). sets (over (cellsLike c i) cs₀) k (fourOf c)) (sym l) ∙ over-more (cellsLike c i) (fourOf c) cs₀ (omega arith))

@@ -1,9 +1,9 @@
 -- The cells of a stock, four numbers each, and when they fit it. Assumes nothing.
 use mathlib.Core.Path.{_≡_}
-use Prim.Native.Nat.{ℕ, zero, suc, _+_, _*_}
+use Prim.Native.Nat.{ℕ, zero, suc, _+_, _*_, _/_}
 use mathlib.Core.Bool.{Bool, true, not, _&&_}
 use mathlib.Core.List.{List, [], _∷_, _++_}
-use lib.Dec.{eqb, leb}
+use lib.Dec.{eqb, ltb}
 use lib.ListN.{length, getD}
 use lib.Seq.{sets}
 use lib.Ieee.{Float, nan, le, eq}
@@ -43,9 +43,9 @@ noCell = record { outer = record { «lower_mm» = nan; «upper_mm» = nan }; inn
 abbrev pub fourOf : TurnCell → List Float
 fourOf c = c .outer .«lower_mm» ∷ c .outer .«upper_mm» ∷ c .inner .«lower_mm» ∷ c .inner .«upper_mm» ∷ []
 
--- a list with a cell's numbers from a place on, if it is long enough, and as it was if it is not
-unfoldable pub putAt : List Float → ℕ → TurnCell → List Float
-putAt xs at c = pick (leb (at + 4) (length xs)) (sets xs at (fourOf c)) xs
+-- a list with c as the cell of bin i, if it has that bin, and as it was if it has not
+unfoldable pub putCell : List Float → ℕ → TurnCell → List Float
+putCell xs i c = pick (ltb i (length xs / 4)) (sets xs (4 * i) (fourOf c)) xs
 
 -- ---- when cells fit
 

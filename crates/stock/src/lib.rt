@@ -8,7 +8,7 @@ ghost use Prim.Native.Nat.{_+_, _*_, _≤_};
 ghost use lib.ListN.{length};
 ghost use Rattle.stock.specs.Spec.{cleanSpec, specGood, cellsOf, countedPaper};
 ghost use Rattle.stock.specs.Bin.{binOf, binFor, binnedPaper};
-ghost use Rattle.stock.specs.Cell.{cellAt, cellFrom, noCell, numberAt, fourOf, cellFits, pairFits, sameCell, fitTo, stockOf, putAt, Filled, freshCell, cellsLike};
+ghost use Rattle.stock.specs.Cell.{cellAt, cellFrom, noCell, numberAt, fourOf, cellFits, pairFits, sameCell, fitTo, stockOf, putCell, Filled, freshCell, cellsLike};
 use refusals::CELL_LIMIT;
 use refusals::Refusal;
 
@@ -209,21 +209,18 @@ pub fn cell_at(cells: &[f64], i: usize) -> TurnCell
     }
 }
 
-// A cell's four numbers, written from a place on; nothing where there is no room for them.
-pub fn put_cell(list: &mut [f64], at: usize, c: TurnCell)
-    ensures { λ _. ⌜ now (list .exit) ≡ putAt (now (list .entry)) at c ⌝ }
+// The cell of bin i, written; nothing where the list has no such bin.
+pub fn put_cell(cells: &mut [f64], i: usize, c: TurnCell)
+    ensures { λ _. ⌜ now (cells .exit) ≡ putCell (now (cells .entry)) i c ⌝ }
 {
-    let len = list.len();
-    if len < 4 {
+    if cells.len() / 4 <= i {
         return;
     }
-    if len - 4 < at {
-        return;
-    }
-    list[at] = c.outer.lower_mm;
-    list[at + 1] = c.outer.upper_mm;
-    list[at + 2] = c.inner.lower_mm;
-    list[at + 3] = c.inner.upper_mm;
+    let at = 4 * i;
+    cells[at] = c.outer.lower_mm;
+    cells[at + 1] = c.outer.upper_mm;
+    cells[at + 2] = c.inner.lower_mm;
+    cells[at + 3] = c.inner.upper_mm;
 }
 
 fn pair_fits(s: TurnStockSpec, b: RadiusBounds) -> bool
@@ -308,7 +305,7 @@ fn put_all(cells: &mut [f64], n: usize, c: TurnCell)
 {
     let mut i: usize = 0;
     while i < n {
-        put_cell(cells, 4 * i, c);
+        put_cell(cells, i, c);
         i += 1;
     }
 }

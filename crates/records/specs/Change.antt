@@ -1,0 +1,77 @@
+-- Changes of cells, by rising index, and their list in lent memory. Assumes nothing.
+use mathlib.Core.Path.{_≡_}
+use mathlib.Core.List.{List, [], _∷_, _++_, map}
+use Prim.Native.Nat.{ℕ, zero, suc, _+_, _*_, _/_, min}
+use lib.Dec.{ltb}
+use lib.ListN.{length, getD, set}
+use lib.Seq.{sets}
+use lib.Ieee.{Float}
+use Rattle.refusals.specs.Paper.{Paper, answers, refuses}
+use Rattle.refusals.specs.Lent.{over}
+use Rattle.floats.specs.Pick.{pick}
+use Rattle.stock.specs.declared.TurnCell.{TurnCell}
+use Rattle.stock.specs.declared.TurnChange.{TurnChange}
+use Rattle.stock.specs.Cell.{cellAt, fourOf, sameCell}
+
+-- ---- what changes, where f says what the cell of each bin becomes
+
+abbrev pub changeOf : (ℕ → TurnCell → TurnCell) → List Float → ℕ → TurnChange
+changeOf f cs i = record { index = i; before = cellAt cs i; after = f i (cellAt cs i) }
+
+-- the change of bin i, if its cell becomes another
+unfoldable pub changeAt : (ℕ → TurnCell → TurnCell) → List Float → ℕ → List TurnChange
+changeAt f cs i = pick (sameCell (cellAt cs i) (f i (cellAt cs i))) [] (changeOf f cs i ∷ [])
+
+-- the changes of the bins below n, by rising index
+unfoldable pub changesTo : (ℕ → TurnCell → TurnCell) → List Float → ℕ → List TurnChange
+changesTo f cs zero = []
+changesTo f cs (suc i) = changesTo f cs i ++ changeAt f cs i
+
+-- ---- the list in lent memory
+
+abbrev pub indicesOf : List TurnChange → List ℕ
+indicesOf l = map (λ (c : TurnChange). c .index) l
+
+-- the cell before, the cell after
+abbrev pub rowOf : TurnChange → List Float
+rowOf c = fourOf (c .before) ++ fourOf (c .after)
+
+unfoldable pub numbersOf : List TurnChange → List Float
+numbersOf [] = []
+numbersOf (c ∷ l) = rowOf c ++ numbersOf l
+
+-- room for changes: the lesser of the indices and of the rows of eight numbers
+abbrev pub roomOf : ℕ → ℕ → ℕ
+roomOf indices numbers = min indices (numbers / 8)
+
+-- change j of such a list
+abbrev pub changeFrom : List ℕ → List Float → ℕ → TurnChange
+changeFrom is xs j = record { index = getD is j 0; before = cellAt xs (2 * j); after = cellAt xs (2 * j + 1) }
+
+-- the first k changes of it
+unfoldable pub changesFrom : List ℕ → List Float → ℕ → List TurnChange
+changesFrom is xs zero = []
+changesFrom is xs (suc j) = changesFrom is xs j ++ (changeFrom is xs j ∷ [])
+
+-- the two lists with change k at its place, if there is room for it
+pub record PutChange (k : ℕ) (c : TurnChange) (is is' : List ℕ) (xs xs' : List Float) : Type 0 where
+  pub indices : is' ≡ pick (ltb k (roomOf (length is) (length xs))) (set is k (c .index)) is
+  pub numbers : xs' ≡ pick (ltb k (roomOf (length is) (length xs))) (sets xs (8 * k) (rowOf c)) xs
+
+-- ---- the answer of a call that proposes changes
+
+-- how many there are
+abbrev pub countOf : Paper (List TurnChange) → Paper ℕ
+countOf (answers l) = answers (length l)
+countOf (refuses n) = refuses n
+
+-- a refusal writes nothing
+abbrev pub writtenOf : Paper (List TurnChange) → List TurnChange
+writtenOf (answers l) = l
+writtenOf (refuses n) = []
+
+-- The two lists after a proposal: its changes over the front, the rest as it was.
+pub record Proposed (p : Paper (List TurnChange)) (r : Paper ℕ) (is is' : List ℕ) (xs xs' : List Float) : Type 0 where
+  pub answer : r ≡ countOf p
+  pub indices : is' ≡ over (indicesOf (writtenOf p)) is
+  pub numbers : xs' ≡ over (numbersOf (writtenOf p)) xs
