@@ -1,3 +1,4 @@
 pub mod Placed
-pub mod Listed
+pub mod Rising
 pub mod ReadBack
+pub mod Proposals

@@ -1,17 +1,21 @@
 -- Changes of cells, by rising index, and their list in lent memory. Assumes nothing.
 use mathlib.Core.Path.{_≡_}
+use mathlib.Core.Bool.{Bool, not, _&&_}
 use mathlib.Core.List.{List, [], _∷_, _++_, map}
 use Prim.Native.Nat.{ℕ, zero, suc, _+_, _*_, _/_, min}
-use lib.Dec.{ltb}
+use lib.Dec.{leb, ltb}
 use lib.ListN.{length, getD, set}
 use lib.Seq.{sets}
 use lib.Ieee.{Float}
-use Rattle.refusals.specs.Paper.{Paper, answers, refuses}
+use Rattle.refusals.specs.Number.{numberOf}
+use Rattle.refusals.specs.Paper.{Paper, answers, refuses, demand}
 use Rattle.refusals.specs.Lent.{over}
 use Rattle.floats.specs.Pick.{pick}
 use Rattle.stock.specs.declared.TurnCell.{TurnCell}
 use Rattle.stock.specs.declared.TurnChange.{TurnChange}
 use Rattle.stock.specs.Cell.{cellAt, fourOf, sameCell}
+use Rattle.records.specs.declared.Previewed.{Previewed}
+use Rattle.records.specs.declared.Previewed.the-variants.{Changes, Refused}
 
 -- ---- what changes, where f says what the cell of each bin becomes
 
@@ -58,7 +62,32 @@ pub record PutChange (k : ℕ) (c : TurnChange) (is is' : List ℕ) (xs xs' : Li
   pub indices : is' ≡ pick (ltb k (roomOf (length is) (length xs))) (set is k (c .index)) is
   pub numbers : xs' ≡ pick (ltb k (roomOf (length is) (length xs))) (sets xs (8 * k) (rowOf c)) xs
 
+-- the change is one, and there is room for it behind k others
+abbrev pub lists : ℕ → ℕ → TurnChange → Bool
+lists room k c = not (sameCell (c .before) (c .after)) && ltb k room
+
+-- the two lists with the change behind k others, and how many there are then
+pub record Listed (k k' : ℕ) (c : TurnChange) (is is' : List ℕ) (xs xs' : List Float) : Type 0 where
+  pub count : k' ≡ pick (lists (roomOf (length is) (length xs)) k c) (k + 1) k
+  pub indices : is' ≡ pick (lists (roomOf (length is) (length xs)) k c) (set is k (c .index)) is
+  pub numbers : xs' ≡ pick (lists (roomOf (length is) (length xs)) k c) (sets xs (8 * k) (rowOf c)) xs
+
+-- the two lists with the changes of the bins below i over their fronts, and how many those are
+pub record Listing (f : ℕ → TurnCell → TurnCell) (cs : List Float) (i k : ℕ) (is is' : List ℕ) (xs xs' : List Float) : Type 0 where
+  pub count : k ≡ length (changesTo f cs i)
+  pub indices : is' ≡ over (indicesOf (changesTo f cs i)) is
+  pub numbers : xs' ≡ over (numbersOf (changesTo f cs i)) xs
+
 -- ---- the answer of a call that proposes changes
+
+-- what it says, case by case
+abbrev pub previewedPaper : Previewed → Paper ℕ
+previewedPaper (Changes k) = answers k
+previewedPaper (Refused c) = refuses (numberOf c)
+
+-- 6 unless there is room for the changes
+abbrev pub settled : ℕ → List TurnChange → Paper (List TurnChange)
+settled room l = demand (leb (length l) room) 6 (answers l)
 
 -- how many there are
 abbrev pub countOf : Paper (List TurnChange) → Paper ℕ
@@ -71,7 +100,7 @@ writtenOf (answers l) = l
 writtenOf (refuses n) = []
 
 -- The two lists after a proposal: its changes over the front, the rest as it was.
-pub record Proposed (p : Paper (List TurnChange)) (r : Paper ℕ) (is is' : List ℕ) (xs xs' : List Float) : Type 0 where
-  pub answer : r ≡ countOf p
+pub record Proposed (p : Paper (List TurnChange)) (r : Previewed) (is is' : List ℕ) (xs xs' : List Float) : Type 0 where
+  pub answer : previewedPaper r ≡ countOf p
   pub indices : is' ≡ over (indicesOf (writtenOf p)) is
   pub numbers : xs' ≡ over (numbersOf (writtenOf p)) xs

@@ -5,8 +5,15 @@
 // the cell of each bin becomes, and the bins whose cell is then another one are the changes.
 ghost use mathlib.Core.Path.{_≡_};
 ghost use lib.ListN.{length};
-ghost use Rattle.records.specs.Change.{roomOf, PutChange};
+ghost use Rattle.records.specs.Change.{roomOf, PutChange, Listed};
+use refusals::Refusal;
 use stock::TurnChange;
+
+// How many changes were written.
+pub enum Previewed {
+    Changes(usize),
+    Refused(Refusal),
+}
 
 // How many changes the two lists have room for.
 pub fn room(indices: usize, numbers: usize) -> usize
@@ -17,7 +24,7 @@ pub fn room(indices: usize, numbers: usize) -> usize
 }
 
 // Change k, written at its place; nothing where there is no room for it.
-pub fn put_change(indices: &mut [usize], numbers: &mut [f64], k: usize, change: TurnChange)
+fn put_change(indices: &mut [usize], numbers: &mut [f64], k: usize, change: TurnChange)
     ensures { λ _. ⌜ PutChange k change (now (indices .entry)) (now (indices .exit)) (now (numbers .entry)) (now (numbers .exit)) ⌝ }
 {
     if room(indices.len(), numbers.len()) <= k {
@@ -27,4 +34,26 @@ pub fn put_change(indices: &mut [usize], numbers: &mut [f64], k: usize, change: 
     indices[k] = change.index;
     stock::put_cell(numbers, at, change.before);
     stock::put_cell(numbers, at + 1, change.after);
+}
+
+// The change, written behind k others where its cells differ and there is room; how many there are
+// then.
+pub fn list_change(
+    indices: &mut [usize],
+    numbers: &mut [f64],
+    k: usize,
+    change: TurnChange,
+) -> usize
+    ensures { λ r. ⌜ Listed k r change (now (indices .entry)) (now (indices .exit)) (now (numbers .entry)) (now (numbers .exit)) ⌝ }
+{
+    let before = change.before;
+    let after = change.after;
+    if stock::same_cell(before, after) {
+        return k;
+    }
+    if room(indices.len(), numbers.len()) <= k {
+        return k;
+    }
+    put_change(indices, numbers, k, change);
+    k + 1
 }

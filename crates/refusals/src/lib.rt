@@ -69,3 +69,4 @@ pub const POINT_LIMIT: usize = 64;
 pub const ENVELOPE_LIMIT: usize = 1024;
 pub const RING_LIMIT: usize = 256;
 pub const PIECE_LIMIT: usize = 256;
+pub const LAST_GENERATION: u64 = 0xffff_ffff_ffff_ffff;

@@ -6,13 +6,16 @@ use Prim.Native.Nat.{ℕ, zero, suc, _+_, _*_, _≤_, _<_}
 use native.Mathlib.Omega.{arith}
 use lib.Dec.{eqb, leb}
 use lib.Ieee.{Float}
-use borrow.Author.Tests.{leb-true, eqb-false}
-use Rattle.refusals.specs.Paper.{Paper, answers, refuses, demand}
+use mathlib.Core.List.{List}
+use lib.ListN.{length}
+use borrow.Author.Tests.{leb-true, eqb-true}
+use Rattle.refusals.specs.Paper.{Paper, answers, refuses, demand, onward, onward-answers}
 use Rattle.refusals.specs.Limits.{cellLimit}
 use Rattle.numbers.specs.Whole.{wholeUp}
 use Rattle.numbers.proofs.Wholes.{up-most}
 use Rattle.stock.specs.declared.TurnStockSpec.{TurnStockSpec}
 use Rattle.stock.specs.Spec.{cleanSpec, specGood, quotient, counted, cellsOf}
+use Rattle.stock.specs.Cell.{fitTo, cellsFit, stockOf}
 
 -- two answers that are the same
 pub same-answer : {A : Type 0} {a b : A} → answers a ≡ answers b → a ≡ b
@@ -57,3 +60,29 @@ checked spec n h =
         let b = and-both (not (eqb m 0)) (leb m (spec .«max_cells»)) (d .0) in
         let s : m ≡ n = same-answer (d .1) in
         subst (λ (i : ℕ). Checked spec i) s (record { good = g; some-cells = not-zero m (b .0); few = up-most (quotient (cleanSpec spec)) cellLimit m e; most = leb-true m (spec .«max_cells») (b .1) })
+
+-- ---- a stock that is not refused
+pub stock-is : (spec : TurnStockSpec) (cs : List Float) (n : ℕ) → cellsOf spec ≡ answers n → stockOf spec cs ≡ demand (cellsFit (cleanSpec spec) cs n) 3 (answers n)
+unfolding stockOf
+stock-is spec cs n e = simp (e, onward-answers)
+
+-- its spec has as many cells, and they fit
+pub record Stocked (spec : TurnStockSpec) (cs : List Float) (n : ℕ) : Type 0 where
+  pub count : cellsOf spec ≡ answers n
+  pub fit : cellsFit (cleanSpec spec) cs n ≡ true
+
+pub stocked : (spec : TurnStockSpec) (cs : List Float) (n : ℕ) → stockOf spec cs ≡ answers n → Stocked spec cs n
+unfolding stockOf onward
+stocked spec cs n = go (cellsOf spec) refl
+  where
+    go : (p : Paper ℕ) → cellsOf spec ≡ p → onward p (λ m. demand (cellsFit (cleanSpec spec) cs m) 3 (answers m)) ≡ answers n → Stocked spec cs n
+    go (answers m) e h =
+        let d = demanded (cellsFit (cleanSpec spec) cs m) 3 (answers m) n h in
+        let s : m ≡ n = same-answer (d .1) in
+        subst (λ (k : ℕ). Stocked spec cs k) s (record { count = e; fit = d .0 })
+    go (refuses r) e h = absurd (no-answer r n h)
+
+-- exactly n cells are lent
+pub stock-length : (spec : TurnStockSpec) (cs : List Float) (n : ℕ) → stockOf spec cs ≡ answers n → length cs ≡ 4 * n
+unfolding cellsFit
+stock-length spec cs n h = eqb-true (length cs) (4 * n) (and-both (eqb (length cs) (4 * n)) (fitTo (cleanSpec spec) cs n) (stocked spec cs n h .fit) .0)

@@ -1,0 +1,26 @@
+-- `changes::first_refusal` meets its contract. Assumes nothing.
+use native.Mathlib.Omega.{arith}
+use borrow.Author.Needs.{needs}
+use Rattle.refusals.specs.Paper.{papers}
+use Rattle.floats.specs.Pick.{picks}
+use Rattle.changes.specs.Commit.{passAll, passingPaper}
+use Rattle.changes.proofs.first_refusal.Statement.{statement}
+use Rattle.changes.proofs.first_refusal.Tie as tie
+
+returns : tie.Need-returns
+unfolding passAll passingPaper
+returns c = search (papers, picks, ← c .before .before .held-of .ensures, ← c .before .indices-rise .ensures)
+
+returns-2 : tie.Need-returns-2
+unfolding passAll
+returns-2 c = search (papers, picks, ← c .before .before .before .held-of .ensures, ← c .before .before .indices-rise .ensures, c .each-passes .ensures)
+
+pub first-refusal-spec : {M : Type 1} → statement M
+first-refusal-spec =
+    tie.close
+    (tie.spec
+    (λ c κs. search needs)
+    (λ c κs. search needs)
+    returns
+    (λ c κs. search needs)
+    returns-2)
