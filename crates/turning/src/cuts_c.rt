@@ -1,0 +1,150 @@
+// Previews, commits and the difference of two stocks.
+ghost use mathlib.Core.Path.{_≡_};
+ghost use lib.ListN.{length};
+ghost use Rattle.records.specs.Change.{roomOf, previewedPaper};
+ghost use Rattle.changes.specs.Commit.{appliedPaper, applyOf};
+ghost use Rattle.changes.specs.Difference.{differenceOf};
+ghost use Rattle.cuts.specs.declared.Cut.the-variants.{Thread, ThreadInner, Drill};
+ghost use Rattle.cuts.specs.Preview.{previewCut};
+ghost use Rattle.turning.specs.Boundary.{specFrom, Gives, GivesChanges, GivesStock};
+use changes::Applied;
+use crate::stock_c;
+use records::Previewed;
+
+// How many changes were written, or the number of the refusal.
+fn give_changes(answer: Previewed, count: &mut usize) -> u32
+    ensures { λ r. ⌜ Gives (previewedPaper answer) r (now (count .entry)) (now (count .exit)) ⌝ }
+{
+    match answer {
+        Previewed::Refused(r) => refusals::number(r),
+        Previewed::Changes(k) => {
+            *count = k;
+            0
+        }
+    }
+}
+
+// The generation after a commit, or the number of the refusal.
+fn give_generation(answer: Applied, generation: &mut u64) -> u32
+    ensures { λ r. ⌜ Gives (appliedPaper answer) r (now (generation .entry)) (now (generation .exit)) ⌝ }
+{
+    match answer {
+        Applied::Refused(r) => refusals::number(r),
+        Applied::Generation(g) => {
+            *generation = g;
+            0
+        }
+    }
+}
+
+#[no_mangle]
+pub extern "C" fn turning_thread_cut(
+    z_min: f64,
+    z_max: f64,
+    outer: f64,
+    bore: f64,
+    cell: f64,
+    max_cells: usize,
+    cells: &[f64],
+    z0: f64,
+    z1: f64,
+    radius: f64,
+    indices: &mut [usize],
+    records: &mut [f64],
+    count: &mut usize,
+) -> u32
+    ensures { λ r. ⌜ GivesChanges (previewCut (specFrom «z_min» «z_max» outer bore cell «max_cells») (now (cells .entry)) (Thread z0 z1 radius) (roomOf (length (now (indices .entry))) (length (now (records .entry))))) r (now (count .entry)) (now (count .exit)) (now (indices .entry)) (now (indices .exit)) (now (records .entry)) (now (records .exit)) ⌝ }
+{
+    let spec = stock_c::spec_of(z_min, z_max, outer, bore, cell, max_cells);
+    let answer = cuts::thread_cut(spec, cells, z0, z1, radius, indices, records);
+    give_changes(answer, count)
+}
+
+#[no_mangle]
+pub extern "C" fn turning_thread_cut_inner(
+    z_min: f64,
+    z_max: f64,
+    outer: f64,
+    bore: f64,
+    cell: f64,
+    max_cells: usize,
+    cells: &[f64],
+    z0: f64,
+    z1: f64,
+    radius: f64,
+    indices: &mut [usize],
+    records: &mut [f64],
+    count: &mut usize,
+) -> u32
+    ensures { λ r. ⌜ GivesChanges (previewCut (specFrom «z_min» «z_max» outer bore cell «max_cells») (now (cells .entry)) (ThreadInner z0 z1 radius) (roomOf (length (now (indices .entry))) (length (now (records .entry))))) r (now (count .entry)) (now (count .exit)) (now (indices .entry)) (now (indices .exit)) (now (records .entry)) (now (records .exit)) ⌝ }
+{
+    let spec = stock_c::spec_of(z_min, z_max, outer, bore, cell, max_cells);
+    let answer = cuts::thread_cut_inner(spec, cells, z0, z1, radius, indices, records);
+    give_changes(answer, count)
+}
+
+#[no_mangle]
+pub extern "C" fn turning_drill(
+    z_min: f64,
+    z_max: f64,
+    outer: f64,
+    bore: f64,
+    cell: f64,
+    max_cells: usize,
+    cells: &[f64],
+    tip_z: f64,
+    radius: f64,
+    cone: f64,
+    indices: &mut [usize],
+    records: &mut [f64],
+    count: &mut usize,
+) -> u32
+    ensures { λ r. ⌜ GivesChanges (previewCut (specFrom «z_min» «z_max» outer bore cell «max_cells») (now (cells .entry)) (Drill «tip_z» radius cone) (roomOf (length (now (indices .entry))) (length (now (records .entry))))) r (now (count .entry)) (now (count .exit)) (now (indices .entry)) (now (indices .exit)) (now (records .entry)) (now (records .exit)) ⌝ }
+{
+    let spec = stock_c::spec_of(z_min, z_max, outer, bore, cell, max_cells);
+    let answer = cuts::drill(spec, cells, tip_z, radius, cone, indices, records);
+    give_changes(answer, count)
+}
+
+#[no_mangle]
+pub extern "C" fn turning_apply(
+    z_min: f64,
+    z_max: f64,
+    outer: f64,
+    bore: f64,
+    cell: f64,
+    max_cells: usize,
+    cells: &mut [f64],
+    generation: &mut u64,
+    indices: &[usize],
+    records: &[f64],
+    changes: usize,
+) -> u32
+    ensures { λ r. ⌜ GivesStock (applyOf (specFrom «z_min» «z_max» outer bore cell «max_cells») (now (cells .entry)) (now (generation .entry)) (now (indices .entry)) (now (records .entry)) changes) r (now (cells .entry)) (now (cells .exit)) (now (generation .entry)) (now (generation .exit)) ⌝ }
+{
+    let spec = stock_c::spec_of(z_min, z_max, outer, bore, cell, max_cells);
+    let before = *generation;
+    let answer = changes::apply(spec, cells, before, indices, records, changes);
+    give_generation(answer, generation)
+}
+
+#[no_mangle]
+pub extern "C" fn turning_changes_to(
+    z_min: f64,
+    z_max: f64,
+    outer: f64,
+    bore: f64,
+    cell: f64,
+    max_cells: usize,
+    cells: &[f64],
+    after: &[f64],
+    indices: &mut [usize],
+    records: &mut [f64],
+    count: &mut usize,
+) -> u32
+    ensures { λ r. ⌜ GivesChanges (differenceOf (specFrom «z_min» «z_max» outer bore cell «max_cells») (now (cells .entry)) (now (after .entry)) (roomOf (length (now (indices .entry))) (length (now (records .entry))))) r (now (count .entry)) (now (count .exit)) (now (indices .entry)) (now (indices .exit)) (now (records .entry)) (now (records .exit)) ⌝ }
+{
+    let spec = stock_c::spec_of(z_min, z_max, outer, bore, cell, max_cells);
+    let answer = changes::changes_to(spec, cells, after, indices, records);
+    give_changes(answer, count)
+}

@@ -1,0 +1,8 @@
+// The C boundary: libturning.a, whose interface is include/turning.h.
+//
+// Every call returns 0 where it is accepted, else the refusal number of document 01, and a refusal
+// writes nothing. The calls are thin: each makes the spec, calls the library, and turns its answer
+// into a number and out-parameters. Their promises cite the library's own rules.
+mod cuts_c;
+mod numbers_c;
+mod stock_c;
