@@ -64,7 +64,13 @@ pub fn thread_cut(
 ) -> Previewed
     ensures { λ r. ⌜ Proposed (previewCut spec (now (cells .entry)) (Thread z0 z1 radius) (roomOf (length (now (indices .entry))) (length (now (numbers .entry))))) r (now (indices .entry)) (now (indices .exit)) (now (numbers .entry)) (now (numbers .exit)) ⌝ }
 {
-    preview_cut(spec, cells, Cut::Thread { z0, z1, radius }, indices, numbers)
+    preview_cut(
+        spec,
+        cells,
+        Cut::Thread { z0, z1, radius },
+        indices,
+        numbers,
+    )
 }
 
 // An internal thread cut between z0 and z1 out to its root: only the upper inner bound grows.

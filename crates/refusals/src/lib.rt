@@ -64,9 +64,15 @@ pub fn number(r: Refusal) -> u32
 
 // The limits of 01, at which a refusal begins.
 pub const CELL_LIMIT: usize = 4096;
+
 pub const SEGMENT_LIMIT: usize = 64;
+
 pub const POINT_LIMIT: usize = 64;
+
 pub const ENVELOPE_LIMIT: usize = 1024;
+
 pub const RING_LIMIT: usize = 256;
+
 pub const PIECE_LIMIT: usize = 256;
+
 pub const LAST_GENERATION: u64 = 0xffff_ffff_ffff_ffff;

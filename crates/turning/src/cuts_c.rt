@@ -7,8 +7,8 @@ ghost use Rattle.changes.specs.Difference.{differenceOf};
 ghost use Rattle.cuts.specs.declared.Cut.the-variants.{Thread, ThreadInner, Drill};
 ghost use Rattle.cuts.specs.Preview.{previewCut};
 ghost use Rattle.turning.specs.Boundary.{specFrom, Gives, GivesChanges, GivesStock};
-use changes::Applied;
 use crate::stock_c;
+use changes::Applied;
 use records::Previewed;
 
 // How many changes were written, or the number of the refusal.

@@ -1,0 +1,353 @@
+//! The rows of the table: numbers, cells, cuts; the rest is in `queries`.
+use super::queries::{envelopes, rings, volumes};
+use super::{Side, Table, library_side, side};
+use crate::call::{Call, List, Room, Simple, Spec};
+use crate::generate::Rng;
+use crate::generate::numbers::{parts, radicand};
+use crate::oracle::cuts::{segment, stock_with_length};
+use crate::oracle::stock::{Bar, bar, camlib_spec, camlib_stock, fresh, to_camlib};
+use length::turning::stock as with_length;
+use plain::motion::Curve;
+use plain::turning::stock::{TurnSide, TurnStock};
+use std::hint::black_box;
+
+pub fn spec(cells: usize, outer: f64, bore: f64) -> Spec {
+    Spec {
+        z_min: 0.,
+        z_max: cells as f64 * 0.125,
+        outer,
+        bore,
+        cell: 0.125,
+        max_cells: 4096,
+    }
+}
+
+fn room(n: usize) -> Room {
+    Room {
+        indices: n,
+        records: 8 * n,
+    }
+}
+
+pub fn all(table: &Table) {
+    numbers(table);
+    let bar = bar(&spec(4096, 50., 0.)).unwrap();
+    cells(table, &bar);
+    noses(table, &bar);
+    polygons(table, &bar);
+    rings(table);
+    volumes(table, &bar);
+    envelopes(table);
+}
+
+fn numbers(table: &Table) {
+    let mut rng = Rng::new(1);
+    const MANY: usize = 1024;
+    let mut xs: Vec<f64> = vec![];
+    while xs.len() < MANY {
+        let x = radicand(&mut rng);
+        if x.is_normal() && x > 0. {
+            xs.push(x);
+        }
+    }
+    let shop: Vec<f64> = (0..MANY).map(|_| rng.between(0.01, 2500.)).collect();
+    for (name, xs) in [("root, every exponent", &xs), ("root, shop sizes", &shop)] {
+        table.row(name, || {
+            [
+                side(MANY, || {
+                    xs.iter().map(|x| black_box(*x).sqrt()).sum::<f64>()
+                }),
+                None,
+                root_side(xs),
+            ]
+        });
+    }
+    let pairs: Vec<(f64, f64)> = (0..MANY).map(|_| parts(&mut rng)).collect();
+    let shop: Vec<(f64, f64)> = (0..MANY)
+        .map(|_| (rng.between(-50., 50.), rng.between(-400., 400.)))
+        .collect();
+    for (name, xs) in [("length, any parts", &pairs), ("length, shop sizes", &shop)] {
+        table.row(name, || {
+            let hypot = |p: &(f64, f64)| black_box(p.0).hypot(p.1);
+            let ruled = |p: &(f64, f64)| (black_box(p.0) * p.0 + p.1 * p.1).sqrt();
+            [
+                side(MANY, move || xs.iter().map(hypot).sum::<f64>()),
+                side(MANY, move || xs.iter().map(ruled).sum::<f64>()),
+                length_side(xs),
+            ]
+        });
+    }
+}
+
+#[cfg(feature = "stage2")]
+fn root_side(xs: &[f64]) -> Option<Side<'_>> {
+    side(xs.len(), move || {
+        let mut root = 0.;
+        for x in xs {
+            // SAFETY: the pointer is to one f64.
+            black_box(unsafe { crate::library::c::turning_root(black_box(*x), &mut root) });
+            black_box(root);
+        }
+    })
+}
+
+#[cfg(feature = "stage2")]
+fn length_side(pairs: &[(f64, f64)]) -> Option<Side<'_>> {
+    side(pairs.len(), move || {
+        let mut length = 0.;
+        for (x, y) in pairs {
+            // SAFETY: the pointer is to one f64.
+            black_box(unsafe { crate::library::c::turning_length(black_box(*x), *y, &mut length) });
+            black_box(length);
+        }
+    })
+}
+
+#[cfg(not(feature = "stage2"))]
+fn root_side(_: &[f64]) -> Option<Side<'_>> {
+    None
+}
+
+#[cfg(not(feature = "stage2"))]
+fn length_side(_: &[(f64, f64)]) -> Option<Side<'_>> {
+    None
+}
+
+/// The fit of 4,096 cells, threads, the drill.
+fn cells(table: &Table, bar: &Bar) {
+    let cells = fresh(bar);
+    let lent = || cells.as_flattened().to_vec();
+    let camlib_cells: Vec<_> = cells.iter().map(to_camlib).collect();
+    let stock = camlib_stock(bar, &cells, &[]);
+    table.row(
+        "fit of 4,096 cells: apply of no changes, from_parts",
+        || {
+            [
+                side(1, || {
+                    TurnStock::from_parts(camlib_spec(&bar.spec), camlib_cells.clone(), vec![])
+                }),
+                None,
+                library_side(Call::Apply {
+                    spec: bar.spec,
+                    cells: lent(),
+                    generation: 0,
+                    list: List::default(),
+                }),
+            ]
+        },
+    );
+    table.row("changes_to, 4,096 cells, none differ", || {
+        [
+            side(1, || stock.changes_to(black_box(&stock))),
+            None,
+            library_side(Call::ChangesTo {
+                spec: bar.spec,
+                cells: lent(),
+                after: lent(),
+                room: room(bar.n),
+            }),
+        ]
+    });
+    let cut = |cut: Simple| {
+        library_side(Call::Cut {
+            spec: bar.spec,
+            cells: lent(),
+            cut,
+            room: room(bar.n),
+        })
+    };
+    for (name, z0, z1) in [("all", 0., 512.), ("40", 100., 105.)] {
+        let radius = 40.;
+        table.row(&format!("thread_cut, {name} of 4,096 bins"), || {
+            [
+                side(1, || stock.thread_cut(black_box(z0), z1, radius)),
+                None,
+                cut(Simple::ThreadCut { z0, z1, radius }),
+            ]
+        });
+        table.row(&format!("thread_cut_inner, {name} of 4,096 bins"), || {
+            [
+                side(1, || stock.thread_cut_inner(black_box(z0), z1, radius)),
+                None,
+                cut(Simple::ThreadCutInner { z0, z1, radius }),
+            ]
+        });
+    }
+    for (name, tip_z) in [("all", -1.), ("half", 256.)] {
+        let (radius, cone) = (8., 3.);
+        table.row(&format!("drill, {name} of 4,096 bins"), || {
+            [
+                side(1, || stock.drill(black_box(tip_z), radius, cone)),
+                None,
+                cut(Simple::Drill {
+                    tip_z,
+                    radius,
+                    cone,
+                }),
+            ]
+        });
+    }
+}
+
+/// Noses over 4,096 bins: one segment and 64, long and short, of several radii, both sides.
+fn noses(table: &Table, bar: &Bar) {
+    let cells = fresh(bar);
+    let stock = camlib_stock(bar, &cells, &[]);
+    let ruled = stock_with_length(bar, &cells);
+    let z_max = bar.spec.z_max;
+    let mut rng = Rng::new(1);
+    for rn in [0.8, 10., 50.] {
+        let over = |r: f64| r + rn;
+        let long = |k: usize| {
+            let by = k as f64 * 0.01;
+            [over(38.) + by, 0.5 + by, over(36.3), z_max - 0.5, 0.]
+        };
+        let mut short = |_| {
+            let z = rng.between(1., z_max - 1.);
+            [
+                over(rng.between(30., 48.)),
+                z,
+                over(rng.between(30., 48.)),
+                z + rng.between(-1., 1.),
+                0.,
+            ]
+        };
+        let chain = |k: usize| {
+            let at = |j: usize| {
+                (
+                    over(38. + 3. * (j as f64 * 0.7).sin()),
+                    z_max * j as f64 / 64.,
+                )
+            };
+            let ((a_r, a_z), (b_r, b_z)) = (at(k), at(k + 1));
+            [a_r, a_z, b_r, b_z, 0.]
+        };
+        let lists: [(&str, Vec<[f64; 5]>); 5] = [
+            ("1 long", vec![long(0)]),
+            ("1 short", vec![short(0)]),
+            ("64 long", (0..64).map(long).collect()),
+            ("64 short", (0..64).map(&mut short).collect()),
+            ("64 in a chain", (0..64).map(chain).collect()),
+        ];
+        for (name, list) in &lists {
+            for (side_name, side_number) in [("outside", 0), ("inside", 1)] {
+                nose_row(
+                    table,
+                    bar,
+                    &stock,
+                    &ruled,
+                    rn,
+                    name,
+                    list,
+                    side_name,
+                    side_number,
+                );
+            }
+        }
+        let sagging: Vec<[f64; 5]> = lists[4]
+            .1
+            .iter()
+            .map(|s| [s[0], s[1], s[2], s[3], 0.01])
+            .collect();
+        nose_row(
+            table,
+            bar,
+            &stock,
+            &ruled,
+            rn,
+            "64 in a chain, sag 0.01",
+            &sagging,
+            "outside",
+            0,
+        );
+    }
+}
+
+#[allow(clippy::too_many_arguments)]
+fn nose_row(
+    table: &Table,
+    bar: &Bar,
+    stock: &TurnStock,
+    ruled: &with_length::TurnStock,
+    rn: f64,
+    name: &str,
+    list: &[[f64; 5]],
+    side_name: &str,
+    side_number: u32,
+) {
+    let outside = side_number == 0;
+    // The inside nose runs as deep under the surface as the outside one above it.
+    let list: Vec<[f64; 5]> = list
+        .iter()
+        .map(|s| {
+            let down = |r: f64| if outside { r } else { r - 2. * rn - 20. };
+            [down(s[0]), s[1], down(s[2]), s[3], s[4]]
+        })
+        .collect();
+    let segments: Vec<_> = list.iter().map(segment).collect();
+    let (a, b, sag) = segments[0];
+    let curve = Curve::Line {
+        start: [a[0], 0., a[1]],
+        end: [b[0], 0., b[1]],
+    };
+    let single = list.len() == 1 && sag == 0.;
+    let (untouched, with) = if outside {
+        (TurnSide::Outer, with_length::TurnSide::Outer)
+    } else {
+        (TurnSide::Inner, with_length::TurnSide::Inner)
+    };
+    table.row(&format!("preview, {name}, rn {rn}, {side_name}"), || {
+        let alone = side(1, || stock.preview(black_box(&curve), rn, untouched, 0.));
+        [
+            alone.filter(|_| single),
+            side(1, || ruled.preview_segments(black_box(&segments), rn, with)),
+            library_side(Call::Preview {
+                spec: bar.spec,
+                cells: fresh(bar).as_flattened().to_vec(),
+                side: side_number,
+                rn,
+                segments: list.as_flattened().to_vec(),
+                room: room(bar.n),
+            }),
+        ]
+    });
+}
+
+fn polygons(table: &Table, bar: &Bar) {
+    let cells = fresh(bar);
+    let stock = camlib_stock(bar, &cells, &[]);
+    let insert = |z0: f64, z1: f64, count: usize| -> Vec<[f64; 2]> {
+        // Half a circle below and a straight top.
+        let (middle, half) = ((z0 + z1) / 2., (z1 - z0) / 2.);
+        (0..count)
+            .map(|k| {
+                let t = std::f64::consts::PI * (1. + k as f64 / (count - 1) as f64);
+                [middle + half * t.cos(), 60. + 20. * t.sin()]
+            })
+            .collect()
+    };
+    let cases = [
+        ("4 points over 64 bins", insert(100., 108., 4)),
+        ("4 points over all bins", insert(-1., 513., 4)),
+        ("64 points over 64 bins", insert(100., 108., 64)),
+        ("64 points over all bins", insert(-1., 513., 64)),
+    ];
+    for (name, points) in &cases {
+        table.row(&format!("preview_polygon, {name}"), || {
+            [
+                side(1, || {
+                    stock.preview_polygon(black_box(points), TurnSide::Outer, 0.01)
+                }),
+                None,
+                library_side(Call::PreviewPolygon {
+                    spec: bar.spec,
+                    cells: cells.as_flattened().to_vec(),
+                    side: 0,
+                    excess: 0.01,
+                    points: points.as_flattened().to_vec(),
+                    room: room(bar.n),
+                }),
+            ]
+        });
+    }
+}

@@ -1,0 +1,140 @@
+//! The inputs of a call of turning.h, and what an accepted call answers.
+
+/// A stock's spec.
+#[derive(Clone, Copy, Debug)]
+pub struct Spec {
+    pub z_min: f64,
+    pub z_max: f64,
+    pub outer: f64,
+    pub bore: f64,
+    pub cell: f64,
+    pub max_cells: usize,
+}
+
+/// Room for changes: how many indices and how many record numbers are lent.
+#[derive(Clone, Copy, Debug)]
+pub struct Room {
+    pub indices: usize,
+    pub records: usize,
+}
+
+impl Room {
+    /// How many changes it holds.
+    pub fn changes(self) -> usize {
+        self.indices.min(self.records / 8)
+    }
+}
+
+/// A lent change list: 8 numbers in `records` for each index.
+#[derive(Clone, Debug, Default)]
+pub struct List {
+    pub indices: Vec<usize>,
+    pub records: Vec<f64>,
+    pub changes: usize,
+}
+
+/// Lent rings: the numbers lent, and how many rings of them are stored.
+#[derive(Clone, Debug, Default)]
+pub struct Store {
+    pub rings: Vec<f64>,
+    pub count: usize,
+}
+
+/// A change of a cell.
+#[derive(Clone, Copy, Debug, PartialEq)]
+pub struct Change {
+    pub index: usize,
+    pub before: [f64; 4],
+    pub after: [f64; 4],
+}
+
+/// The single cuts that have no list of points.
+#[derive(Clone, Copy, Debug)]
+pub enum Simple {
+    ThreadCut { z0: f64, z1: f64, radius: f64 },
+    ThreadCutInner { z0: f64, z1: f64, radius: f64 },
+    Drill { tip_z: f64, radius: f64, cone: f64 },
+}
+
+/// A call, `turning_` left off its name. Cells, segments, points and rings are flat, as lent.
+#[rustfmt::skip]
+#[derive(Clone, Debug)]
+pub enum Call {
+    Root { x: f64 },
+    Length { x: f64, y: f64 },
+    Validate { spec: Spec },
+    Bin { spec: Spec, i: usize },
+    New { spec: Spec, cells_len: usize },
+    Preview { spec: Spec, cells: Vec<f64>, side: u32, rn: f64, segments: Vec<f64>, room: Room },
+    PreviewPolygon { spec: Spec, cells: Vec<f64>, side: u32, excess: f64, points: Vec<f64>, room: Room },
+    Cut { spec: Spec, cells: Vec<f64>, cut: Simple, room: Room },
+    Apply { spec: Spec, cells: Vec<f64>, generation: u64, list: List },
+    ChangesTo { spec: Spec, cells: Vec<f64>, after: Vec<f64>, room: Room },
+    RemoveRing { spec: Spec, store: Store, generation: u64, ring: [f64; 4] },
+    ApplyMove { spec: Spec, cells: Vec<f64>, store: Store, generation: u64, list: List, removed: Vec<f64> },
+    FromParts { spec: Spec, cells: Vec<f64>, given: Vec<f64>, rings_len: usize },
+    Volume { spec: Spec, cells: Vec<f64>, store: Store },
+    EnvelopeAt { spec: Spec, cells: Vec<f64>, z: f64 },
+    EnvelopeOrder { points: Vec<f64> },
+    Within { points: Vec<f64>, lo: f64, hi: f64 },
+    RadiusAt { points: Vec<f64>, u: f64 },
+    RadiusRange { points: Vec<f64>, lo: f64, hi: f64 },
+}
+
+impl Call {
+    pub fn name(&self) -> &'static str {
+        match self {
+            Call::Root { .. } => "root",
+            Call::Length { .. } => "length",
+            Call::Validate { .. } => "validate",
+            Call::Bin { .. } => "bin",
+            Call::New { .. } => "new",
+            Call::Preview { .. } => "preview",
+            Call::PreviewPolygon { .. } => "preview_polygon",
+            Call::Cut { cut, .. } => match cut {
+                Simple::ThreadCut { .. } => "thread_cut",
+                Simple::ThreadCutInner { .. } => "thread_cut_inner",
+                Simple::Drill { .. } => "drill",
+            },
+            Call::Apply { .. } => "apply",
+            Call::ChangesTo { .. } => "changes_to",
+            Call::RemoveRing { .. } => "remove_ring",
+            Call::ApplyMove { .. } => "apply_move",
+            Call::FromParts { .. } => "from_parts",
+            Call::Volume { .. } => "volume",
+            Call::EnvelopeAt { .. } => "envelope_at",
+            Call::EnvelopeOrder { .. } => "envelope_order",
+            Call::Within { .. } => "within",
+            Call::RadiusAt { .. } => "radius_at",
+            Call::RadiusRange { .. } => "radius_range",
+        }
+    }
+}
+
+/// What an accepted call answers.
+#[derive(Clone, Debug, PartialEq)]
+pub enum Answer {
+    /// A root or a length.
+    Number(f64),
+    /// How many bins.
+    Bins(usize),
+    /// A bin's range.
+    Range(f64, f64),
+    /// The cells of a new stock.
+    Cells(Vec<[f64; 4]>),
+    /// The changes of a preview or a difference.
+    Changes(Vec<Change>),
+    /// The cells, the rings stored and the generation, of which a call has what it lends.
+    Stock(Vec<[f64; 4]>, Vec<[f64; 4]>, u64),
+    /// The least and the greatest volume.
+    Volume(f64, f64),
+    /// What a query found, or none.
+    Found(Option<Vec<f64>>),
+    /// The order of an envelope's points.
+    Order(i32),
+    /// A part of the points: its first and how many.
+    Part(usize, usize),
+}
+
+/// An answer, or document 01's number of the refusal.
+pub type Outcome = Result<Answer, u32>;

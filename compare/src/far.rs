@@ -1,0 +1,177 @@
+//! How far 01's length leads from the untouched Rust: nose lines with no sag, by both camlibs.
+use crate::call::Call;
+use crate::generate::{self, Rng};
+use crate::oracle::MILLION;
+use crate::oracle::cuts::{change_with_length, segment, stock_with_length};
+use crate::oracle::stock::{Bar, bar, camlib_stock, cells, change_from_camlib};
+use length::turning::stock as with_length;
+use plain::motion::Curve;
+use plain::turning::stock as camlib;
+
+/// Lines whose squares are of one kind.
+#[derive(Default)]
+struct Kind {
+    lines: usize,
+    lists: usize,
+    values: usize,
+    differ: usize,
+    ulps: u64,
+    mm: f64,
+    farthest: String,
+}
+
+const KINDS: [&str; 4] = [
+    "sum normal or no length, every number within 1,000 and no part tiny",
+    "sum normal or no length, other",
+    "sum subnormal",
+    "sum vanishes",
+];
+
+/// What the rounded sum of the rounded squares is, as an index into `KINDS`.
+fn kind(a: [f64; 2], b: [f64; 2], rn: f64) -> usize {
+    let d = [b[0] - a[0], b[1] - a[1]];
+    let sum = d[0] * d[0] + d[1] * d[1];
+    let ordinary = |x: f64| x.abs() <= 1000.;
+    let not_tiny = |x: f64| x == 0. || x.abs() >= 1e-6;
+    if d == [0., 0.] || sum >= f64::MIN_POSITIVE {
+        let shop = [a, b, [rn, 0.]].as_flattened().iter().all(|x| ordinary(*x));
+        !(shop && d.into_iter().all(not_tiny)) as usize
+    } else if sum > 0. {
+        2
+    } else {
+        3
+    }
+}
+
+/// A nose line with no sag on a stock.
+struct Line {
+    bar: Bar,
+    cells: Vec<[f64; 4]>,
+    outside: bool,
+    rn: f64,
+    a: [f64; 2],
+    b: [f64; 2],
+}
+
+/// The first segment of a nose call, where all of it is accepted.
+fn line(rng: &mut Rng) -> Option<Line> {
+    let call = generate::cuts::nose(rng);
+    let Call::Preview {
+        spec,
+        cells: lent,
+        side,
+        rn,
+        segments,
+        ..
+    } = call
+    else {
+        return None;
+    };
+    let bar = bar(&spec).ok()?;
+    let cells = cells(&bar, &lent).ok()?;
+    let usable = |x: &f64| x.is_finite() && x.abs() <= MILLION;
+    let first = segments.first_chunk::<5>()?;
+    let accepted = side < 2 && usable(&rn) && rn >= 0. && first.iter().all(usable);
+    let (a, b, _) = segment(first);
+    let outside = side == 0;
+    accepted.then_some(Line {
+        bar,
+        cells,
+        outside,
+        rn,
+        a,
+        b,
+    })
+}
+
+/// The changed cells by index, with 01's length.
+fn ruled(line: &Line) -> Vec<(usize, [f64; 4])> {
+    let side = match line.outside {
+        true => with_length::TurnSide::Outer,
+        false => with_length::TurnSide::Inner,
+    };
+    let stock = stock_with_length(&line.bar, &line.cells);
+    let changes = stock.preview_segments(&[(line.a, line.b, 0.)], line.rn, side);
+    let changes = changes.unwrap();
+    changes
+        .iter()
+        .map(change_with_length)
+        .map(|c| (c.index, c.after))
+        .collect()
+}
+
+/// The changed cells by index, by the untouched Rust.
+fn untouched(line: &Line) -> Vec<(usize, [f64; 4])> {
+    let side = match line.outside {
+        true => camlib::TurnSide::Outer,
+        false => camlib::TurnSide::Inner,
+    };
+    let curve = Curve::Line {
+        start: [line.a[0], 0., line.a[1]],
+        end: [line.b[0], 0., line.b[1]],
+    };
+    let stock = camlib_stock(&line.bar, &line.cells, &[]);
+    let changes = stock.preview(&curve, line.rn, side, 0.).unwrap();
+    changes
+        .iter()
+        .map(change_from_camlib)
+        .map(|c| (c.index, c.after))
+        .collect()
+}
+
+impl Kind {
+    fn take(&mut self, line: &Line) {
+        let (ours, theirs) = (ruled(line), untouched(line));
+        self.lines += 1;
+        if !ours.iter().map(|c| c.0).eq(theirs.iter().map(|c| c.0)) {
+            self.lists += 1;
+            return;
+        }
+        for ((_, ours), (_, theirs)) in ours.iter().zip(&theirs) {
+            for (x, y) in ours.iter().zip(theirs) {
+                self.value(line, *x, *y);
+            }
+        }
+    }
+
+    fn value(&mut self, line: &Line, x: f64, y: f64) {
+        self.values += 1;
+        if x == y {
+            return;
+        }
+        self.differ += 1;
+        self.mm = self.mm.max((x - y).abs());
+        // Radii in cells are not negative, so their bits are in order.
+        let ulps = x.to_bits().abs_diff(y.to_bits());
+        if ulps > self.ulps {
+            self.ulps = ulps;
+            let Line { a, b, rn, .. } = line;
+            self.farthest = format!("{x:e} for {y:e}, a {a:?} b {b:?} rn {rn}");
+        }
+    }
+}
+
+/// Prints, for so many lines, how many values differ and by how much.
+pub fn far(count: usize, seed: u64) {
+    let mut rng = Rng::new(seed);
+    let mut kinds: [Kind; 4] = Default::default();
+    let mut left = count;
+    while left > 0 {
+        if let Some(line) = line(&mut rng) {
+            kinds[kind(line.a, line.b, line.rn)].take(&line);
+            left -= 1;
+        }
+    }
+    println!("| rounded squares | lines | lists that differ | values | differ | ulps | mm |");
+    println!("|---|---|---|---|---|---|---|");
+    for (name, k) in KINDS.iter().zip(&kinds) {
+        println!(
+            "| {name} | {} | {} | {} | {} | {} | {:e} |",
+            k.lines, k.lists, k.values, k.differ, k.ulps, k.mm
+        );
+    }
+    println!();
+    for (name, k) in KINDS.iter().zip(&kinds) {
+        println!("farthest, {name}: {}", k.farthest);
+    }
+}

@@ -1,0 +1,94 @@
+//! Seeded calls: ordinary ones, ones on the limits, damaged ones.
+//!
+//! A generator first makes a call that is accepted, and then damages any of its parts now and then,
+//! so that several reasons for a refusal meet and their order shows.
+pub mod cuts;
+pub mod envelope;
+pub mod numbers;
+pub mod rings;
+pub mod stock;
+
+use crate::call::Call;
+
+/// Numbers that look random, the same for the same seed (splitmix64).
+pub struct Rng(u64);
+
+impl Rng {
+    pub fn new(seed: u64) -> Self {
+        Self(seed)
+    }
+    pub fn word(&mut self) -> u64 {
+        self.0 = self.0.wrapping_add(0x9E37_79B9_7F4A_7C15);
+        let x = (self.0 ^ (self.0 >> 30)).wrapping_mul(0xBF58_476D_1CE4_E5B9);
+        let x = (x ^ (x >> 27)).wrapping_mul(0x94D0_49BB_1331_11EB);
+        x ^ (x >> 31)
+    }
+    /// Below the limit, which is above 0.
+    pub fn below(&mut self, limit: usize) -> usize {
+        ((self.word() as u128 * limit as u128) >> 64) as usize
+    }
+    /// Once in so many times.
+    pub fn once_in(&mut self, times: usize) -> bool {
+        self.below(times) == 0
+    }
+    pub fn pick<T: Copy>(&mut self, from: &[T]) -> T {
+        from[self.below(from.len())]
+    }
+    pub fn between(&mut self, low: f64, high: f64) -> f64 {
+        let part = (self.word() >> 11) as f64 / (1_u64 << 53) as f64;
+        low + (high - low) * part
+    }
+    /// Between, and often one that a person would write.
+    pub fn written(&mut self, low: f64, high: f64) -> f64 {
+        match self.below(6) {
+            0 => self.between(low, high).round().clamp(low, high),
+            1 => ((self.between(low, high) * 10.).round() / 10.).clamp(low, high),
+            2 => ((self.between(low, high) * 1000.).round() / 1000.).clamp(low, high),
+            3 => self.pick(&[low, high]),
+            _ => self.between(low, high),
+        }
+    }
+}
+
+/// The generator of a family's calls, by the family's name.
+pub fn family(name: &str) -> Option<fn(&mut Rng) -> Call> {
+    Some(match name {
+        "root" => numbers::root_call,
+        "length" => numbers::length_call,
+        "stock" => stock::stock_call,
+        "thread" => cuts::thread,
+        "thread_inner" => cuts::thread_inner,
+        "drill" => cuts::drill,
+        "apply" => cuts::apply,
+        "changes_to" => cuts::changes_to,
+        "nose" => cuts::nose,
+        "polygon" => cuts::polygon,
+        "rings" => rings::remove_ring,
+        "moves" => rings::apply_move,
+        "parts" => rings::from_parts,
+        "volume" => rings::volume,
+        "envelope_at" => stock::envelope_at,
+        "envelope" => envelope::envelope_call,
+        _ => return None,
+    })
+}
+
+/// Every family, the stage of turning.h it came with, and how many calls are made by default.
+pub const FAMILIES: [(&str, u32, usize); 16] = [
+    ("root", 2, 20_000_000),
+    ("length", 2, 20_000_000),
+    ("stock", 3, 200_000),
+    ("thread", 3, 200_000),
+    ("thread_inner", 3, 200_000),
+    ("drill", 3, 200_000),
+    ("apply", 3, 200_000),
+    ("changes_to", 3, 200_000),
+    ("nose", 4, 300_000),
+    ("polygon", 4, 300_000),
+    ("rings", 5, 200_000),
+    ("moves", 5, 200_000),
+    ("parts", 5, 100_000),
+    ("volume", 6, 100_000),
+    ("envelope_at", 6, 200_000),
+    ("envelope", 6, 400_000),
+];

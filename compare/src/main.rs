@@ -1,0 +1,80 @@
+//! compare FAMILY|all [COUNT] [SEED] | far [COUNT] [SEED] | record [COUNT] [SEED] [FAMILY] | bench [WORD]
+use compare::generate::FAMILIES;
+use compare::{bench, far, record, run};
+use std::process::ExitCode;
+
+const SEED: u64 = 1;
+
+fn usage() -> ExitCode {
+    eprintln!("compare FAMILY [COUNT] [SEED]   compares so many calls; status 1 on a difference");
+    eprintln!(
+        "compare all [PERCENT] [SEED]    every family that is linked, PERCENT of its default count"
+    );
+    eprintln!(
+        "compare far [COUNT] [SEED]      the distance of 01's length from the untouched Rust"
+    );
+    eprintln!("compare record [COUNT] [SEED] [FAMILY]   COUNT lines a family, see record.rs");
+    eprintln!("compare bench [WORD]            times both; only rows with WORD");
+    let names = FAMILIES.map(|(name, stage, count)| format!("{name} (stage{stage}, {count})"));
+    eprintln!("families: {}", names.join(", "));
+    ExitCode::from(2)
+}
+
+fn main() -> ExitCode {
+    let words: Vec<String> = std::env::args().skip(1).collect();
+    let Some(name) = words.first() else {
+        return usage();
+    };
+    let number = |at: usize, default: u64| words.get(at).map_or(Ok(default), |w| w.parse());
+    let Ok(seed) = number(2, SEED) else {
+        return usage();
+    };
+    if name == "bench" {
+        bench::bench(words.get(1).map_or("", |w| w));
+        return ExitCode::SUCCESS;
+    }
+    let family = FAMILIES.iter().find(|(family, ..)| family == name);
+    let default = match (name.as_str(), family) {
+        (_, Some((_, _, count))) => *count as u64,
+        ("all", _) => 100,
+        ("far", _) => 1_000_000,
+        ("record", _) => 40,
+        _ => return usage(),
+    };
+    let Ok(count) = number(1, default) else {
+        return usage();
+    };
+    let count = count as usize;
+    match name.as_str() {
+        "far" => far::far(count, seed),
+        "record" => {
+            let only = words.get(3);
+            for (family, ..) in FAMILIES {
+                if only.is_none_or(|o| o == family) {
+                    for line in record::sample(family, count, seed).unwrap() {
+                        println!("{line}");
+                    }
+                }
+            }
+        }
+        "all" => {
+            let mut differences = 0;
+            for (family, _, default) in FAMILIES {
+                match run::family(family, default / 100 * count, seed) {
+                    Some(d) => differences += d,
+                    None => println!("{family}: not linked"),
+                }
+            }
+            return ExitCode::from((differences > 0) as u8);
+        }
+        _ => match run::family(name, count, seed) {
+            Some(0) => {}
+            Some(_) => return ExitCode::from(1),
+            None => {
+                eprintln!("{name}: not linked; build with its stage");
+                return ExitCode::from(2);
+            }
+        },
+    }
+    ExitCode::SUCCESS
+}

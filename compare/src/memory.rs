@@ -1,0 +1,287 @@
+//! All that is lent to a call, as words of 64 bits.
+use crate::call::{Answer, Call, Change, List, Outcome, Room, Store};
+
+/// Words before and after each buffer that no call may touch.
+const GUARD: usize = 3;
+
+/// One lent buffer between its guards.
+#[derive(Clone, Debug, PartialEq)]
+pub struct Lent {
+    pub name: &'static str,
+    words: Vec<u64>,
+}
+
+impl Lent {
+    /// A buffer of `len` words of the pattern, which differs from place to place.
+    fn blank(name: &'static str, len: usize) -> Self {
+        let start = name.bytes().fold(0x9E37_79B9_7F4A_7C15_u64, |h, b| {
+            (h ^ b as u64).wrapping_mul(0x0000_0100_0000_01B3)
+        });
+        let word = |i: usize| {
+            let x = (start ^ i as u64).wrapping_mul(0xBF58_476D_1CE4_E5B9);
+            x ^ (x >> 29)
+        };
+        Self {
+            name,
+            words: (0..len + 2 * GUARD).map(word).collect(),
+        }
+    }
+    fn holding(name: &'static str, numbers: &[f64]) -> Self {
+        let mut lent = Self::blank(name, numbers.len());
+        lent.put(0, numbers);
+        lent
+    }
+    fn put(&mut self, at: usize, numbers: &[f64]) {
+        assert!(
+            at + numbers.len() <= self.size(),
+            "{} is too small",
+            self.name
+        );
+        for (word, x) in self.words[GUARD + at..].iter_mut().zip(numbers) {
+            *word = x.to_bits();
+        }
+    }
+    fn put_word(&mut self, at: usize, word: u64) {
+        self.words[GUARD + at] = word;
+    }
+    /// The low half of a word, as a store of 32 bits leaves it.
+    fn put_half(&mut self, at: usize, half: u32) {
+        let word = &mut self.words[GUARD + at];
+        *word = *word >> 32 << 32 | half as u64;
+    }
+    /// How many words are lent.
+    pub fn size(&self) -> usize {
+        self.words.len() - 2 * GUARD
+    }
+    pub fn start<T>(&mut self) -> *mut T {
+        self.words[GUARD..].as_mut_ptr().cast()
+    }
+    /// Takes over the words of a buffer of the same size.
+    pub fn copy(&mut self, from: &Lent) {
+        self.words.copy_from_slice(&from.words);
+    }
+    /// The places where two buffers differ, counted from the first word lent.
+    pub fn differences(&self, other: &Lent) -> Vec<(isize, u64, u64)> {
+        let pairs = self.words.iter().zip(&other.words).enumerate();
+        pairs
+            .filter(|(_, (a, b))| a != b)
+            .map(|(i, (a, b))| (i as isize - GUARD as isize, *a, *b))
+            .collect()
+    }
+}
+
+/// The buffers of a call, in the order of its arguments.
+#[derive(Clone, Debug, PartialEq)]
+pub struct Memory {
+    pub lent: Vec<Lent>,
+}
+
+fn indices(list: &List) -> Lent {
+    let mut lent = Lent::blank("indices", list.indices.len());
+    for (k, i) in list.indices.iter().enumerate() {
+        lent.put_word(k, *i as u64);
+    }
+    lent
+}
+
+fn word(name: &'static str, value: u64) -> Lent {
+    let mut lent = Lent::blank(name, 1);
+    lent.put_word(0, value);
+    lent
+}
+
+fn room(lent: &mut Vec<Lent>, room: &Room) {
+    lent.push(Lent::blank("indices", room.indices));
+    lent.push(Lent::blank("records", room.records));
+    lent.push(Lent::blank("count", 1));
+}
+
+fn store(lent: &mut Vec<Lent>, store: &Store, generation: u64) {
+    lent.push(Lent::holding("rings", &store.rings));
+    lent.push(word("rings_count", store.count as u64));
+    lent.push(word("generation", generation));
+}
+
+impl Memory {
+    /// What is lent to the call, before it.
+    pub fn of(call: &Call) -> Self {
+        let mut m: Vec<Lent> = vec![];
+        match call {
+            Call::Root { .. } => m.push(Lent::blank("root", 1)),
+            Call::Length { .. } => m.push(Lent::blank("length", 1)),
+            Call::Validate { .. } => m.push(Lent::blank("n", 1)),
+            Call::Bin { .. } => m.extend([Lent::blank("za", 1), Lent::blank("zb", 1)]),
+            Call::New { cells_len, .. } => m.push(Lent::blank("cells", *cells_len)),
+            Call::Preview {
+                cells,
+                segments,
+                room: r,
+                ..
+            } => {
+                m.push(Lent::holding("cells", cells));
+                m.push(Lent::holding("segments", segments));
+                room(&mut m, r);
+            }
+            Call::PreviewPolygon {
+                cells,
+                points,
+                room: r,
+                ..
+            } => {
+                m.push(Lent::holding("cells", cells));
+                m.push(Lent::holding("points", points));
+                room(&mut m, r);
+            }
+            Call::Cut { cells, room: r, .. } => {
+                m.push(Lent::holding("cells", cells));
+                room(&mut m, r);
+            }
+            Call::Apply {
+                cells,
+                generation,
+                list,
+                ..
+            } => {
+                m.push(Lent::holding("cells", cells));
+                m.push(word("generation", *generation));
+                m.push(indices(list));
+                m.push(Lent::holding("records", &list.records));
+            }
+            Call::ChangesTo {
+                cells,
+                after,
+                room: r,
+                ..
+            } => {
+                m.push(Lent::holding("cells", cells));
+                m.push(Lent::holding("after", after));
+                room(&mut m, r);
+            }
+            Call::RemoveRing {
+                store: s,
+                generation,
+                ..
+            } => store(&mut m, s, *generation),
+            Call::ApplyMove {
+                cells,
+                store: s,
+                generation,
+                list,
+                removed,
+                ..
+            } => {
+                m.push(Lent::holding("cells", cells));
+                store(&mut m, s, *generation);
+                m.push(indices(list));
+                m.push(Lent::holding("records", &list.records));
+                m.push(Lent::holding("removed", removed));
+            }
+            Call::FromParts {
+                cells,
+                given,
+                rings_len,
+                ..
+            } => {
+                m.push(Lent::holding("cells", cells));
+                m.push(Lent::holding("given", given));
+                m.push(Lent::blank("rings", *rings_len));
+                m.push(Lent::blank("rings_count", 1));
+            }
+            Call::Volume { cells, store, .. } => {
+                m.push(Lent::holding("cells", cells));
+                m.push(Lent::holding("rings", &store.rings));
+                m.extend([Lent::blank("least", 1), Lent::blank("greatest", 1)]);
+            }
+            Call::EnvelopeAt { cells, .. } => {
+                m.push(Lent::holding("cells", cells));
+                m.push(Lent::blank("found", 1));
+                m.push(Lent::blank("bore_lower", 1));
+                m.push(Lent::blank("outer_upper", 1));
+            }
+            Call::EnvelopeOrder { points } => {
+                m.push(Lent::holding("points", points));
+                m.push(Lent::blank("order", 1));
+            }
+            Call::Within { points, .. } => {
+                m.push(Lent::holding("points", points));
+                m.extend([Lent::blank("first", 1), Lent::blank("count", 1)]);
+            }
+            Call::RadiusAt { points, .. } => {
+                m.push(Lent::holding("points", points));
+                m.extend([Lent::blank("found", 1), Lent::blank("radius", 1)]);
+            }
+            Call::RadiusRange { points, .. } => {
+                m.push(Lent::holding("points", points));
+                m.push(Lent::blank("found", 1));
+                m.extend([Lent::blank("lowest", 1), Lent::blank("highest", 1)]);
+            }
+        }
+        Self { lent: m }
+    }
+
+    fn named(&mut self, name: &str) -> Option<&mut Lent> {
+        self.lent.iter_mut().find(|l| l.name == name)
+    }
+
+    fn put(&mut self, name: &str, numbers: &[f64]) {
+        self.named(name).unwrap().put(0, numbers);
+    }
+
+    fn put_word(&mut self, name: &str, value: u64) {
+        self.named(name).unwrap().put_word(0, value);
+    }
+
+    fn put_changes(&mut self, changes: &[Change]) {
+        for (k, c) in changes.iter().enumerate() {
+            let indices = self.named("indices").unwrap();
+            indices.put_word(k, c.index as u64);
+            let records = self.named("records").unwrap();
+            records.put(8 * k, &c.before);
+            records.put(8 * k + 4, &c.after);
+        }
+        self.put_word("count", changes.len() as u64);
+    }
+
+    /// Writes what the outcome writes: a refusal nothing, an answer its values.
+    pub fn write(&mut self, outcome: &Outcome) {
+        let Ok(answer) = outcome else { return };
+        match answer {
+            Answer::Number(x) => self.lent[0].put(0, &[*x]),
+            Answer::Bins(n) => self.put_word("n", *n as u64),
+            Answer::Range(za, zb) => {
+                self.put("za", &[*za]);
+                self.put("zb", &[*zb]);
+            }
+            Answer::Cells(cells) => self.put("cells", cells.as_flattened()),
+            Answer::Changes(changes) => self.put_changes(changes),
+            Answer::Stock(cells, rings, generation) => {
+                if self.named("cells").is_some() {
+                    self.put("cells", cells.as_flattened());
+                }
+                if self.named("rings").is_some() {
+                    self.put("rings", rings.as_flattened());
+                    self.put_word("rings_count", rings.len() as u64);
+                }
+                if self.named("generation").is_some() {
+                    self.put_word("generation", *generation);
+                }
+            }
+            Answer::Volume(least, greatest) => {
+                self.put("least", &[*least]);
+                self.put("greatest", &[*greatest]);
+            }
+            Answer::Found(values) => {
+                let at = self.lent.iter().position(|l| l.name == "found").unwrap();
+                self.lent[at].put_half(0, values.is_some() as u32);
+                for (k, x) in values.iter().flatten().enumerate() {
+                    self.lent[at + 1 + k].put(0, &[*x]);
+                }
+            }
+            Answer::Order(order) => self.named("order").unwrap().put_half(0, *order as u32),
+            Answer::Part(first, count) => {
+                self.put_word("first", *first as u64);
+                self.put_word("count", *count as u64);
+            }
+        }
+    }
+}

@@ -1,0 +1,72 @@
+//! Commit and difference.
+use super::stock::{
+    Bar, bar, camlib_stock, cells, change_from_camlib, change_to_camlib, fits, from_camlib,
+};
+use super::{AFTER, BEFORE, GENERATION, RISING, ROOM, demand};
+use crate::call::{Answer, Change, List, Outcome, Room, Spec};
+
+/// 6: no more changes than are lent.
+pub fn lent_changes(list: &List) -> Result<Vec<Change>, u32> {
+    let lent = list.indices.len().min(list.records.len() / 8);
+    demand(list.changes <= lent, ROOM)?;
+    let (records, _) = list.records.as_chunks::<8>();
+    let pairs = list.indices.iter().zip(records).take(list.changes);
+    let change = |(index, record): (&usize, &[f64; 8])| Change {
+        index: *index,
+        before: record[..4].try_into().unwrap(),
+        after: record[4..].try_into().unwrap(),
+    };
+    Ok(pairs.map(change).collect())
+}
+
+/// 7 over the whole list, then change by change 8 before 9.
+pub fn acceptable(bar: &Bar, cells: &[[f64; 4]], changes: &[Change]) -> Result<(), u32> {
+    let rising = changes.windows(2).all(|w| w[0].index < w[1].index);
+    demand(rising, RISING)?;
+    for c in changes {
+        demand(fits(bar, &c.after), AFTER)?;
+        demand(c.index < bar.n, BEFORE)?;
+        // As numbers: -0.0 is 0.0, and nothing is equal to what is no number.
+        demand(cells[c.index] == c.before, BEFORE)?;
+        let removes = c.after[0] <= c.before[0]
+            && c.after[1] <= c.before[1]
+            && c.after[2] >= c.before[2]
+            && c.after[3] >= c.before[3];
+        demand(removes, BEFORE)?;
+    }
+    Ok(())
+}
+
+/// 1, 2, 3, 6, 7, 8/9, 12.
+pub fn apply(spec: &Spec, lent: &[f64], generation: u64, list: &List) -> Outcome {
+    let bar = bar(spec)?;
+    let cells = cells(&bar, lent)?;
+    let changes = lent_changes(list)?;
+    acceptable(&bar, &cells, &changes)?;
+    demand(generation < u64::MAX, GENERATION)?;
+    let mut stock = camlib_stock(&bar, &cells, &[]);
+    let changes: Vec<_> = changes.iter().map(change_to_camlib).collect();
+    stock.apply(&changes).unwrap();
+    let cells = stock.cells().iter().map(from_camlib).collect();
+    Ok(Answer::Stock(
+        cells,
+        vec![],
+        generation + stock.generation(),
+    ))
+}
+
+/// 1, 2, 3 for both stocks, 6.
+pub fn changes_to(
+    spec: &Spec,
+    lent: &[f64],
+    after: &[f64],
+    room: Room,
+) -> Result<Vec<Change>, u32> {
+    let bar = bar(spec)?;
+    let before = cells(&bar, lent)?;
+    let after = cells(&bar, after)?;
+    let stock = camlib_stock(&bar, &before, &[]);
+    let changes = stock.changes_to(&camlib_stock(&bar, &after, &[]));
+    demand(changes.len() <= room.changes(), ROOM)?;
+    Ok(changes.iter().map(change_from_camlib).collect())
+}

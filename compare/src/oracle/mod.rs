@@ -1,0 +1,136 @@
+//! Document 01 a second time: its refusals here, its answers by camlib's own code.
+//!
+//! The answers come from camlib unchanged, but for nose cuts, which come from camlib with 01's length,
+//! and for `within` and the order, which unchanged camlib keeps to itself. What 01 says and camlib
+//! does not, stands here: the limits, the domain, the order of refusals, and that -0.0 is read as
+//! +0.0 and never stored.
+mod changes;
+pub mod cuts;
+mod envelope;
+mod numbers;
+mod queries;
+mod rings;
+pub mod stock;
+
+use crate::call::{Answer, Call, Outcome};
+
+/// Document 01's refusal numbers.
+pub const SPEC: u32 = 1;
+pub const COUNT: u32 = 2;
+pub const CELLS: u32 = 3;
+pub const STORED: u32 = 4;
+pub const ARGUMENT: u32 = 5;
+pub const ROOM: u32 = 6;
+pub const RISING: u32 = 7;
+pub const AFTER: u32 = 8;
+pub const BEFORE: u32 = 9;
+pub const RING: u32 = 10;
+pub const PIECES: u32 = 11;
+pub const GENERATION: u32 = 12;
+pub const ENVELOPE: u32 = 14;
+
+/// Document 01's limits.
+pub const MILLION: f64 = 1e6;
+pub const MOST_CELLS: usize = 4096;
+pub const MOST_SEGMENTS: usize = 64;
+pub const MOST_POINTS: usize = 64;
+pub const MOST_ENVELOPE_POINTS: usize = 1024;
+pub const MOST_RINGS: usize = 256;
+pub const MOST_PIECES: usize = 256;
+
+/// Refuses with the number unless the test holds.
+fn demand(test: bool, number: u32) -> Result<(), u32> {
+    if test { Ok(()) } else { Err(number) }
+}
+
+/// An argument as it is read: -0.0 as +0.0.
+pub fn clean(x: f64) -> f64 {
+    x + 0.
+}
+
+/// Within the domain of arguments.
+fn usable(x: f64) -> bool {
+    x.is_finite() && x.abs() <= MILLION
+}
+
+/// Finite, and not -0.0: what cells and stored rings may hold.
+fn storable(x: f64) -> bool {
+    x.is_finite() && x.to_bits() != (-0_f64).to_bits()
+}
+
+/// What document 01 answers.
+pub fn answer(call: &Call) -> Outcome {
+    match call {
+        Call::Root { x } => numbers::root(*x).map(Answer::Number),
+        Call::Length { x, y } => numbers::length(*x, *y).map(Answer::Number),
+        Call::Validate { spec } => stock::bar(spec).map(|bar| Answer::Bins(bar.n)),
+        Call::Bin { spec, i } => stock::bin(spec, *i).map(|[za, zb]| Answer::Range(za, zb)),
+        Call::New { spec, cells_len } => stock::new(spec, *cells_len).map(Answer::Cells),
+        Call::Preview {
+            spec,
+            cells,
+            side,
+            rn,
+            segments,
+            room,
+        } => cuts::nose(spec, cells, *side, *rn, segments, *room).map(Answer::Changes),
+        Call::PreviewPolygon {
+            spec,
+            cells,
+            side,
+            excess,
+            points,
+            room,
+        } => cuts::polygon(spec, cells, *side, *excess, points, *room).map(Answer::Changes),
+        Call::Cut {
+            spec,
+            cells,
+            cut,
+            room,
+        } => cuts::simple(spec, cells, *cut, *room).map(Answer::Changes),
+        Call::Apply {
+            spec,
+            cells,
+            generation,
+            list,
+        } => changes::apply(spec, cells, *generation, list),
+        Call::ChangesTo {
+            spec,
+            cells,
+            after,
+            room,
+        } => changes::changes_to(spec, cells, after, *room).map(Answer::Changes),
+        Call::RemoveRing {
+            spec,
+            store,
+            generation,
+            ring,
+        } => rings::remove_ring(spec, store, *generation, *ring),
+        Call::ApplyMove {
+            spec,
+            cells,
+            store,
+            generation,
+            list,
+            removed,
+        } => rings::apply_move(spec, cells, store, *generation, list, removed),
+        Call::FromParts {
+            spec,
+            cells,
+            given,
+            rings_len,
+        } => rings::from_parts(spec, cells, given, *rings_len),
+        Call::Volume { spec, cells, store } => {
+            queries::volume(spec, cells, store).map(|[least, most]| Answer::Volume(least, most))
+        }
+        Call::EnvelopeAt { spec, cells, z } => {
+            queries::envelope_at(spec, cells, *z).map(Answer::Found)
+        }
+        Call::EnvelopeOrder { points } => envelope::order(points).map(Answer::Order),
+        Call::Within { points, lo, hi } => envelope::within(points, *lo, *hi),
+        Call::RadiusAt { points, u } => envelope::radius_at(points, *u).map(Answer::Found),
+        Call::RadiusRange { points, lo, hi } => {
+            envelope::radius_range(points, *lo, *hi).map(Answer::Found)
+        }
+    }
+}

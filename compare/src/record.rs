@@ -1,0 +1,265 @@
+//! Calls and answers as lines of text, for a replay that needs no Rust.
+//!
+//! A line is a call: its name, its inputs, `=`, and the number it answers, followed where that is 0
+//! by what it wrote. Fields are parted by single spaces. Every f64 is 16 hex digits in capitals,
+//! everything else is decimal.
+//!
+//! ```text
+//! SPEC     z_min z_max outer bore cell max_cells
+//! NUMBERS  how many, then each
+//! ROOM     indices_len records_len
+//! LIST     indices_len records_len changes, then for each change its index and 8 numbers
+//! STORE    rings_len rings_count, then 4 numbers for each ring stored
+//! CHANGES  how many, then for each its index and 8 numbers
+//! RINGS    how many, then 4 numbers for each
+//!
+//! root x = 0 root                              length x y = 0 length
+//! validate SPEC = 0 n                          bin SPEC i = 0 za zb
+//! new SPEC cells_len = 0 NUMBERS
+//! preview SPEC NUMBERS side rn NUMBERS ROOM = 0 CHANGES
+//! preview_polygon SPEC NUMBERS side excess NUMBERS ROOM = 0 CHANGES
+//! thread_cut SPEC NUMBERS z0 z1 radius ROOM = 0 CHANGES       (thread_cut_inner too)
+//! drill SPEC NUMBERS tip_z radius cone ROOM = 0 CHANGES
+//! apply SPEC NUMBERS generation LIST = 0 generation NUMBERS
+//! changes_to SPEC NUMBERS NUMBERS ROOM = 0 CHANGES
+//! remove_ring SPEC STORE generation z0 z1 r0 r1 = 0 generation RINGS
+//! apply_move SPEC NUMBERS STORE generation LIST NUMBERS = 0 generation NUMBERS RINGS
+//! from_parts SPEC NUMBERS NUMBERS rings_len = 0 RINGS
+//! volume SPEC NUMBERS STORE = 0 least greatest
+//! envelope_at SPEC NUMBERS z = 0 found [bore_lower outer_upper]
+//! envelope_order NUMBERS = 0 order
+//! within NUMBERS lo hi = 0 first count
+//! radius_at NUMBERS u = 0 found [radius]
+//! radius_range NUMBERS lo hi = 0 found [lowest highest]
+//! ```
+//!
+//! Of a list or store whose count is beyond what is lent, no change and no ring is given. What is
+//! lent beyond the count is the reader's to fill.
+use crate::call::{Answer, Call, Change, List, Outcome, Room, Simple, Spec, Store};
+use crate::generate::{self, Rng};
+use crate::oracle;
+use std::collections::BTreeMap;
+
+/// Longer lines are left out of a recording, bytes with the newline.
+pub const LONGEST: usize = 8192;
+
+#[derive(Default)]
+struct Line(String);
+
+impl Line {
+    fn field(&mut self, text: &str) -> &mut Self {
+        if !self.0.is_empty() {
+            self.0.push(' ');
+        }
+        self.0.push_str(text);
+        self
+    }
+    fn size(&mut self, size: impl std::fmt::Display) -> &mut Self {
+        self.field(&size.to_string())
+    }
+    fn number(&mut self, x: f64) -> &mut Self {
+        self.field(&format!("{:016X}", x.to_bits()))
+    }
+    fn each(&mut self, numbers: &[f64]) -> &mut Self {
+        for x in numbers {
+            self.number(*x);
+        }
+        self
+    }
+    fn numbers(&mut self, numbers: &[f64]) -> &mut Self {
+        self.size(numbers.len()).each(numbers)
+    }
+    fn spec(&mut self, s: &Spec) -> &mut Self {
+        self.each(&[s.z_min, s.z_max, s.outer, s.bore, s.cell])
+            .size(s.max_cells)
+    }
+    fn room(&mut self, room: &Room) -> &mut Self {
+        self.size(room.indices).size(room.records)
+    }
+    fn list(&mut self, list: &List) -> &mut Self {
+        self.size(list.indices.len())
+            .size(list.records.len())
+            .size(list.changes);
+        let (records, _) = list.records.as_chunks::<8>();
+        if list.changes <= list.indices.len().min(records.len()) {
+            for (index, record) in list.indices.iter().zip(records).take(list.changes) {
+                self.size(index).each(record);
+            }
+        }
+        self
+    }
+    fn store(&mut self, store: &Store) -> &mut Self {
+        self.size(store.rings.len()).size(store.count);
+        if store.count <= store.rings.len() / 4 {
+            self.each(&store.rings[..4 * store.count]);
+        }
+        self
+    }
+    fn changes(&mut self, changes: &[Change]) -> &mut Self {
+        self.size(changes.len());
+        for c in changes {
+            self.size(c.index).each(&c.before).each(&c.after);
+        }
+        self
+    }
+    fn rings(&mut self, rings: &[[f64; 4]]) -> &mut Self {
+        self.size(rings.len()).each(rings.as_flattened())
+    }
+}
+
+fn inputs(line: &mut Line, call: &Call) {
+    match call {
+        Call::Root { x } => line.number(*x),
+        Call::Length { x, y } => line.number(*x).number(*y),
+        Call::Validate { spec } => line.spec(spec),
+        Call::Bin { spec, i } => line.spec(spec).size(i),
+        Call::New { spec, cells_len } => line.spec(spec).size(cells_len),
+        Call::Preview {
+            spec,
+            cells,
+            side,
+            rn,
+            segments,
+            room,
+        } => (line.spec(spec).numbers(cells).size(side))
+            .number(*rn)
+            .numbers(segments)
+            .room(room),
+        Call::PreviewPolygon {
+            spec,
+            cells,
+            side,
+            excess,
+            points,
+            room,
+        } => (line.spec(spec).numbers(cells).size(side))
+            .number(*excess)
+            .numbers(points)
+            .room(room),
+        Call::Cut {
+            spec,
+            cells,
+            cut,
+            room,
+        } => {
+            let numbers = match *cut {
+                Simple::ThreadCut { z0, z1, radius } => [z0, z1, radius],
+                Simple::ThreadCutInner { z0, z1, radius } => [z0, z1, radius],
+                Simple::Drill {
+                    tip_z,
+                    radius,
+                    cone,
+                } => [tip_z, radius, cone],
+            };
+            line.spec(spec).numbers(cells).each(&numbers).room(room)
+        }
+        Call::Apply {
+            spec,
+            cells,
+            generation,
+            list,
+        } => line.spec(spec).numbers(cells).size(generation).list(list),
+        Call::ChangesTo {
+            spec,
+            cells,
+            after,
+            room,
+        } => line.spec(spec).numbers(cells).numbers(after).room(room),
+        Call::RemoveRing {
+            spec,
+            store,
+            generation,
+            ring,
+        } => line.spec(spec).store(store).size(generation).each(ring),
+        Call::ApplyMove {
+            spec,
+            cells,
+            store,
+            generation,
+            list,
+            removed,
+        } => (line.spec(spec).numbers(cells).store(store))
+            .size(generation)
+            .list(list)
+            .numbers(removed),
+        Call::FromParts {
+            spec,
+            cells,
+            given,
+            rings_len,
+        } => (line.spec(spec).numbers(cells).numbers(given)).size(rings_len),
+        Call::Volume { spec, cells, store } => line.spec(spec).numbers(cells).store(store),
+        Call::EnvelopeAt { spec, cells, z } => line.spec(spec).numbers(cells).number(*z),
+        Call::EnvelopeOrder { points } => line.numbers(points),
+        Call::Within { points, lo, hi } => line.numbers(points).number(*lo).number(*hi),
+        Call::RadiusAt { points, u } => line.numbers(points).number(*u),
+        Call::RadiusRange { points, lo, hi } => line.numbers(points).number(*lo).number(*hi),
+    };
+}
+
+fn written(line: &mut Line, call: &Call, answer: &Answer) {
+    match answer {
+        Answer::Number(x) => line.number(*x),
+        Answer::Bins(n) => line.size(n),
+        Answer::Range(za, zb) => line.number(*za).number(*zb),
+        Answer::Cells(cells) => line.numbers(cells.as_flattened()),
+        Answer::Changes(changes) => line.changes(changes),
+        Answer::Stock(cells, rings, generation) => match call {
+            Call::Apply { .. } => line.size(generation).numbers(cells.as_flattened()),
+            Call::RemoveRing { .. } => line.size(generation).rings(rings),
+            Call::ApplyMove { .. } => (line.size(generation))
+                .numbers(cells.as_flattened())
+                .rings(rings),
+            _ => line.rings(rings),
+        },
+        Answer::Volume(least, greatest) => line.number(*least).number(*greatest),
+        Answer::Found(None) => line.size(0),
+        Answer::Found(Some(values)) => line.size(1).each(values),
+        Answer::Order(order) => line.size(order),
+        Answer::Part(first, count) => line.size(first).size(count),
+    };
+}
+
+/// The call and its outcome as a line.
+pub fn line(call: &Call, outcome: &Outcome) -> String {
+    let mut line = Line::default();
+    line.field(call.name());
+    inputs(&mut line, call);
+    line.field("=");
+    match outcome {
+        Ok(answer) => written(line.size(0), call, answer),
+        Err(number) => drop(line.size(number)),
+    }
+    line.0
+}
+
+/// So many lines of a family. Of each name and number no more are taken than its share, three in
+/// five for the accepted and one in five for a refusal, as long as others turn up.
+pub fn sample(name: &str, count: usize, seed: u64) -> Option<Vec<String>> {
+    let make = generate::family(name)?;
+    let mut rng = Rng::new(seed);
+    let mut taken: BTreeMap<(&str, u32), usize> = BTreeMap::new();
+    let mut lines: Vec<String> = vec![];
+    let mut tries = 0;
+    while lines.len() < count {
+        tries += 1;
+        let call = make(&mut rng);
+        let outcome = oracle::answer(&call);
+        let number = outcome.as_ref().err().copied().unwrap_or(0);
+        let share = if number == 0 {
+            count * 3 / 5
+        } else {
+            count / 5
+        };
+        let times = taken.entry((call.name(), number)).or_default();
+        if *times > share && tries < 100 * count {
+            continue;
+        }
+        let text = line(&call, &outcome);
+        if text.len() < LONGEST {
+            *times += 1;
+            lines.push(text);
+        }
+    }
+    Some(lines)
+}

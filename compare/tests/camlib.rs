@@ -1,0 +1,218 @@
+//! The oracle's refusals held against camlib's own, and what the generators reach.
+use compare::call::{Call, Spec};
+use compare::generate::{FAMILIES, Rng, family};
+use compare::memory::Memory;
+use compare::oracle::stock::{Bar, camlib_spec, camlib_stock, cells, change_to_camlib, to_camlib};
+use compare::oracle::{answer, stock};
+use plain::turning::stock::{TurnCell, TurnStock};
+use std::collections::BTreeSet;
+
+const CALLS: usize = 20_000;
+
+fn calls(name: &str) -> impl Iterator<Item = Call> {
+    let (make, mut rng) = (family(name).unwrap(), Rng::new(7));
+    (0..CALLS).map(move |_| make(&mut rng))
+}
+
+fn minus_zero(x: &f64) -> bool {
+    x.to_bits() == (-0_f64).to_bits()
+}
+
+#[test]
+fn every_refusal_is_reached() {
+    let reached = |name: &str| -> Vec<u32> {
+        let numbers = calls(name).map(|call| answer(&call).err().unwrap_or(0));
+        numbers.collect::<BTreeSet<u32>>().into_iter().collect()
+    };
+    for (name, ..) in FAMILIES {
+        let wanted: &[u32] = match name {
+            "root" | "length" => &[0, 5],
+            "stock" => &[0, 1, 2, 3, 9],
+            "thread" | "thread_inner" | "drill" | "nose" | "polygon" => &[0, 1, 2, 3, 5, 6],
+            "apply" => &[0, 1, 2, 3, 6, 7, 8, 9, 12],
+            "changes_to" => &[0, 1, 2, 3, 6],
+            "rings" => &[0, 1, 2, 4, 10, 11, 12],
+            "moves" => &[0, 1, 2, 3, 4, 6, 7, 8, 9, 10, 11, 12],
+            "parts" => &[0, 1, 2, 3, 10, 11],
+            "volume" => &[0, 1, 2, 3, 4],
+            "envelope_at" => &[0, 1, 2, 3],
+            _ => &[0, 14],
+        };
+        assert_eq!(reached(name), wanted, "{name}");
+    }
+}
+
+#[test]
+fn a_refusal_writes_nothing() {
+    for (name, ..) in FAMILIES {
+        for call in calls(name).take(1000) {
+            let mut memory = Memory::of(&call);
+            memory.write(&Err(1));
+            assert_eq!(memory, Memory::of(&call));
+        }
+    }
+}
+
+/// 1 and 2 are camlib's, but for the limit of 4,096 cells and a count that camlib's cast brings down.
+#[test]
+fn camlib_refuses_the_spec_too() {
+    for call in calls("stock") {
+        let Call::Validate { spec } = call else {
+            continue;
+        };
+        let ours = stock::bar(&spec).map(|bar| bar.n).ok();
+        let theirs = camlib_spec(&spec).validate().ok();
+        let theirs = theirs.filter(|n| *n <= 4096);
+        assert_eq!(ours, theirs, "{spec:?}");
+    }
+}
+
+/// 3 is camlib's, but for -0.0.
+#[test]
+fn camlib_refuses_the_cells_too() {
+    for call in calls("volume") {
+        let Call::Volume {
+            spec, cells: lent, ..
+        } = call
+        else {
+            panic!()
+        };
+        let Ok(bar) = stock::bar(&spec) else { continue };
+        if !lent.len().is_multiple_of(4) {
+            assert_eq!(cells(&bar, &lent), Err(3));
+            continue;
+        }
+        let (parts, _) = lent.as_chunks::<4>();
+        let parts: Vec<TurnCell> = parts.iter().map(to_camlib).collect();
+        let theirs = TurnStock::from_parts(camlib_spec(&bar.spec), parts, vec![]).is_ok();
+        let theirs = theirs && !lent.iter().any(minus_zero);
+        assert_eq!(cells(&bar, &lent).is_ok(), theirs, "{spec:?}");
+    }
+}
+
+/// 7, 8 and 9 are camlib's, but for -0.0 in an after-cell.
+#[test]
+fn camlib_refuses_the_changes_too() {
+    for call in calls("apply") {
+        let outcome = answer(&call);
+        if matches!(outcome, Err(1 | 2 | 3 | 6 | 12)) {
+            continue;
+        }
+        let Call::Apply {
+            spec,
+            cells: lent,
+            list,
+            ..
+        } = call
+        else {
+            panic!()
+        };
+        let bar = stock::bar(&spec).unwrap();
+        let mut stock = camlib_stock(&bar, &cells(&bar, &lent).unwrap(), &[]);
+        let (records, _) = list.records.as_chunks::<8>();
+        let pairs = list.indices.iter().zip(records).take(list.changes);
+        let changes: Vec<_> = pairs
+            .map(|(index, record)| compare::call::Change {
+                index: *index,
+                before: record[..4].try_into().unwrap(),
+                after: record[4..].try_into().unwrap(),
+            })
+            .collect();
+        let stored = changes.iter().any(|c| c.after.iter().any(minus_zero));
+        let theirs: Vec<_> = changes.iter().map(change_to_camlib).collect();
+        assert_eq!(outcome.is_ok(), stock.apply(&theirs).is_ok() && !stored);
+    }
+}
+
+/// 10 is camlib's.
+#[test]
+fn camlib_refuses_the_rings_too() {
+    for call in calls("parts") {
+        let outcome = answer(&call);
+        if matches!(outcome, Err(1..=3)) {
+            continue;
+        }
+        let Call::FromParts {
+            spec,
+            cells: lent,
+            given,
+            ..
+        } = call
+        else {
+            panic!()
+        };
+        let Bar { spec, .. } = stock::bar(&spec).unwrap();
+        let (rings, rest) = given.as_chunks::<4>();
+        let cells: Vec<TurnCell> = lent.as_chunks::<4>().0.iter().map(to_camlib).collect();
+        let theirs = TurnStock::from_parts(camlib_spec(&spec), cells, rings.to_vec());
+        let refused = theirs.is_err() || !rest.is_empty();
+        assert_eq!(outcome == Err(10), refused);
+    }
+}
+
+/// A count past what camlib's own cast holds is 2 here.
+#[test]
+fn an_infinite_count_is_refused() {
+    let spec = Spec {
+        z_min: 0.,
+        z_max: 1.,
+        outer: 1.,
+        bore: 0.,
+        cell: f64::from_bits(1),
+        max_cells: usize::MAX,
+    };
+    assert_eq!(camlib_spec(&spec).validate(), Ok(usize::MAX));
+    assert_eq!(answer(&Call::Validate { spec }), Err(2));
+}
+
+/// The most pieces in hand, each step made by camlib on a stock with one ring; up to the first over 256.
+fn most_in_hand(bar: &Bar, rings: &[[f64; 4]], ring: [f64; 4]) -> usize {
+    let cells = stock::fresh(bar);
+    let remove = |stored: &[[f64; 4]], r: &[f64; 4]| {
+        let mut stock = camlib_stock(bar, &cells, stored);
+        stock.remove_ring([r[0], r[1]], [r[2], r[3]]);
+        stock.rings()[stored.len()..].to_vec()
+    };
+    let mut pieces = remove(&[], &ring);
+    let mut most = pieces.len();
+    for stored in rings {
+        pieces = pieces.iter().flat_map(|p| remove(&[*stored], p)).collect();
+        most = most.max(pieces.len());
+        if most > 256 {
+            break;
+        }
+    }
+    most
+}
+
+/// 256 pieces in hand are accepted and 257 are not, and both are reached.
+#[test]
+fn the_limit_of_pieces_is_reached() {
+    let mut accepted = BTreeSet::new();
+    let mut refused = BTreeSet::new();
+    for call in calls("rings") {
+        let outcome = answer(&call);
+        let Call::RemoveRing {
+            spec, store, ring, ..
+        } = call
+        else {
+            panic!()
+        };
+        if store.count < 70 || store.rings.len() < 1024 || !matches!(outcome, Ok(_) | Err(11)) {
+            continue;
+        }
+        let bar = stock::bar(&spec).unwrap();
+        let (rings, _) = store.rings.as_chunks::<4>();
+        let most = most_in_hand(&bar, &rings[..store.count], ring);
+        match outcome {
+            Ok(_) => accepted.insert(most),
+            Err(_) => refused.insert(most),
+        };
+    }
+    assert!(
+        accepted.contains(&255) && accepted.contains(&256),
+        "{accepted:?}"
+    );
+    assert!(accepted.iter().all(|most| *most <= 256));
+    assert!(refused.contains(&257), "{refused:?}");
+}
