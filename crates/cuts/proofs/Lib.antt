@@ -1,1 +1,7 @@
 pub mod Previews
+pub mod Places
+pub mod Grades
+pub mod Sweeps
+pub mod Crossings
+pub mod EachBin
+pub mod Singles

@@ -1,30 +1,105 @@
--- The rule of a preview, by what its questions find. Assumes nothing.
-use mathlib.Core.Path.{_≡_}
-use mathlib.Core.Bool.{Bool, true, false, not}
-use mathlib.Core.List.{List}
-use Prim.Native.Nat.{ℕ}
+-- The rules of the previews, by what their questions find. Assumes nothing.
+use mathlib.Core.Path.{_≡_, refl, sym, ap, _∙_, subst}
+use mathlib.Core.Bool.{Bool, true, false, not, false≢true}
+use mathlib.Core.List.{List, []}
+use Prim.Native.Nat.{ℕ, _<_}
 use lib.Ieee.{Float}
-use Rattle.refusals.specs.Paper.{answers, refuses, papers}
+use Rattle.refusals.specs.Paper.{answers, refuses, demand, papers}
 use Rattle.stock.specs.declared.TurnStockSpec.{TurnStockSpec}
+use Rattle.stock.specs.declared.TurnSide.{TurnSide}
+use Rattle.stock.specs.declared.TurnSide.the-variants.{Outer, Inner}
 use Rattle.stock.specs.Spec.{cleanSpec}
-use Rattle.stock.specs.Cell.{stockOf}
+use Rattle.stock.specs.Cell.{cellAt, stockOf}
+use Rattle.stock.proofs.Count.{stocked, checked}
+use Rattle.stock.proofs.Bins.{HeldSpec}
+use Rattle.stock.proofs.EachFits.{stock-fits}
+use Rattle.stock.proofs.SameCells.{fits-same}
+use Rattle.reach.specs.Reach.{Act}
+use Rattle.nose.specs.Nose.{noseAct}
 use Rattle.cuts.specs.declared.Cut.{Cut}
-use Rattle.cuts.specs.Cut.{cleanCut, cutGood, isArc, cutAct}
-use Rattle.cuts.specs.Preview.{proposed, previewCut}
+use Rattle.cuts.specs.declared.Cut.the-variants.{Line, Thread, ThreadInner, Drill, Arc}
+use Rattle.cuts.specs.declared.list.Source.the-variants as source
+use Rattle.cuts.specs.Cut.{lineOf, cleanCut, cutReach, cutGood, isArc, cutAct}
+use Rattle.cuts.specs.Rows.{rowAt, Graded, Says}
+use Rattle.cuts.specs.Source.{sourceSide, sourceReach, sourceAct, SameTo}
+use Rattle.cuts.specs.Preview.{proposed, previewOf, previewCut}
+use Rattle.cuts.proofs.Grades.{graded}
+use Rattle.cuts.proofs.EachBin.{proposed-same}
 
-pub cut-refused : (spec : TurnStockSpec) (cs : List Float) (cut : Cut) (room r : ℕ) → stockOf spec cs ≡ refuses r → previewCut spec cs cut room ≡ refuses r
-unfolding previewCut
-cut-refused spec cs cut room r e = simp (papers, e)
+-- ---- what the lists are taken from
+module _ (s : TurnStockSpec) (cs : List Float) (room n : ℕ) where
+  -- rows that say what the cut reaches
+  pub rows-propose : (a : Act) (side : TurnSide) (values : List Float) (there : List Bool) → a .side ≡ side → Says a n (rowAt values there) → proposed a cs room n ≡ proposed (sourceAct s (source.Rows side) values there) cs room n
+  unfolding sourceSide sourceReach
+  rows-propose a side values there e w = proposed-same a (sourceAct s (source.Rows side) values there) cs room n e (λ j l. subst (λ (σ : TurnSide). a .at j ≡ sourceReach s (source.Rows σ) values there j) e (sym (w j l)))
 
-module _ (spec : TurnStockSpec) (cs : List Float) (cut u : Cut) (room n : ℕ) (eu : u ≡ cleanCut cut) (e : stockOf spec cs ≡ answers n) where
-  pub cut-arc : isArc u ≡ true → previewCut spec cs cut room ≡ refuses 13
+  module _ (cut : Cut) where
+    pub line-proposed : {side : TurnSide} {rn sag ar az br bz : Float} → cut ≡ Line side rn sag ar az br bz → demand (not (isArc cut)) 13 (proposed (cutAct s cut) cs room n) ≡ proposed (noseAct s side rn (lineOf ar az br bz sag)) cs room n
+    unfolding demand cutReach noseAct
+    line-proposed e = rw e refl
+
+    pub thread-proposed : {z0 z1 r : Float} → cut ≡ Thread z0 z1 r → demand (not (isArc cut)) 13 (proposed (cutAct s cut) cs room n) ≡ proposed (sourceAct s (source.Thread Outer z0 z1 r) [] []) cs room n
+    unfolding demand cutReach sourceSide sourceReach
+    thread-proposed e = rw e refl
+
+    pub inner-proposed : {z0 z1 r : Float} → cut ≡ ThreadInner z0 z1 r → demand (not (isArc cut)) 13 (proposed (cutAct s cut) cs room n) ≡ proposed (sourceAct s (source.Thread Inner z0 z1 r) [] []) cs room n
+    unfolding demand cutReach sourceSide sourceReach
+    inner-proposed e = rw e refl
+
+    pub drill-proposed : {tip r cone : Float} → cut ≡ Drill tip r cone → demand (not (isArc cut)) 13 (proposed (cutAct s cut) cs room n) ≡ proposed (sourceAct s (source.Drill tip r cone) [] []) cs room n
+    unfolding demand cutReach sourceSide sourceReach
+    drill-proposed e = rw e refl
+
+    pub arc-proposed : cut ≡ Arc → demand (not (isArc cut)) 13 (proposed (cutAct s cut) cs room n) ≡ refuses 13
+    unfolding demand
+    arc-proposed e = rw e refl
+
+-- ---- a stock that is not refused is ready for the loops
+pub ready : (spec s : TurnStockSpec) (cs : List Float) (n : ℕ) → HeldSpec spec → s ≡ cleanSpec spec → stockOf spec cs ≡ answers n → Graded s n × ((i : ℕ) → i < n → SameTo cs i)
+ready spec s cs n held es e = (
+  subst (λ (t : TurnStockSpec). Graded t n) (sym es) (graded held (checked spec n (stocked spec cs n e .count))),
+  λ i l. fits-same (cleanSpec spec) (cellAt cs i) (stock-fits spec cs n e i l),
+)
+
+-- ---- a cut that is in its domain or not
+module _ (spec : TurnStockSpec) (cs : List Float) (good : Bool) (a : Act) (room : ℕ) where
+  pub of-refused : (r : ℕ) → stockOf spec cs ≡ refuses r → previewOf spec cs good a room ≡ refuses r
+  unfolding previewOf
+  of-refused r e = simp (papers, e)
+
+  module _ (n : ℕ) (e : stockOf spec cs ≡ answers n) where
+    pub of-outside : good ≡ false → previewOf spec cs good a room ≡ refuses 5
+    unfolding previewOf
+    of-outside g = simp (papers, e, g)
+
+    pub of-is : good ≡ true → previewOf spec cs good a room ≡ proposed a cs room n
+    unfolding previewOf
+    of-is g = simp (papers, e, g)
+
+-- the same of a cut that reads the spec
+pub act-is : (act : TurnStockSpec → Act) (spec : TurnStockSpec) (cs : List Float) (good : Bool) (room n : ℕ) → stockOf spec cs ≡ answers n → (s : TurnStockSpec) → s ≡ cleanSpec spec → good ≡ true → previewOf spec cs good (act (cleanSpec spec)) room ≡ proposed (act s) cs room n
+act-is act spec cs good room n e s es g = of-is spec cs good (act (cleanSpec spec)) room n e g ∙ ap (λ (t : TurnStockSpec). proposed (act t) cs room n) (sym es)
+
+-- ---- a single cut
+-- one outside its domain is no arc
+no-arc : (u : Cut) → cutGood u ≡ false → isArc u ≡ false
+unfolding cutGood
+no-arc (Line side rn sag ar az br bz) g = refl
+no-arc (Thread z0 z1 r) g = refl
+no-arc (ThreadInner z0 z1 r) g = refl
+no-arc (Drill tip r cone) g = refl
+no-arc Arc g = absurd (false≢true (sym g))
+
+module _ (spec : TurnStockSpec) (cs : List Float) (cut : Cut) (room : ℕ) where
+  pub cut-refused : (r : ℕ) → stockOf spec cs ≡ refuses r → previewCut spec cs cut room ≡ refuses r
   unfolding previewCut
-  cut-arc a = simp (papers, e, ← eu, a)
+  cut-refused r e = simp (papers, e)
 
-  pub cut-outside : isArc u ≡ false → cutGood u ≡ false → previewCut spec cs cut room ≡ refuses 5
-  unfolding previewCut
-  cut-outside a g = simp (papers, e, ← eu, a, g)
+  module _ (u : Cut) (eu : u ≡ cleanCut cut) (n : ℕ) (e : stockOf spec cs ≡ answers n) where
+    pub cut-outside : cutGood u ≡ false → previewCut spec cs cut room ≡ refuses 5
+    unfolding previewCut
+    cut-outside g = simp (papers, e, ← eu, no-arc u g, g)
 
-  pub cut-is : (s : TurnStockSpec) → s ≡ cleanSpec spec → isArc u ≡ false → cutGood u ≡ true → previewCut spec cs cut room ≡ proposed (cutAct s u) cs room n
-  unfolding previewCut
-  cut-is s es a g = simp (papers, e, ← eu, ← es, a, g)
+    pub cut-is : (s : TurnStockSpec) → s ≡ cleanSpec spec → cutGood u ≡ true → previewCut spec cs cut room ≡ demand (not (isArc u)) 13 (proposed (cutAct s u) cs room n)
+    unfolding previewCut
+    cut-is s es g = simp (papers, e, ← eu, ← es, g)

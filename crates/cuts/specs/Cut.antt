@@ -1,7 +1,7 @@
--- The single cuts: threads and drills, what each reaches in a bin. Assumes nothing.
+-- The single cuts: a nose line, threads and drills, what each reaches in a bin. Assumes nothing.
 use Prim.Native.Nat.{ℕ}
 use mathlib.Core.Bool.{Bool, true, false, not, _&&_, _||_}
-use mathlib.Core.List.{List}
+use mathlib.Core.List.{List, [], _∷_}
 use lib.Ieee.{Float, le, lt}
 use Rattle.floats.specs.Pick.{pick}
 use Rattle.floats.specs.Numbers.{_-₆₄_, _*₆₄_, _/₆₄_, zero64, leastOf, greatestOf, cleanOf, usable}
@@ -11,8 +11,9 @@ use Rattle.stock.specs.declared.TurnSide.the-variants.{Outer, Inner}
 use Rattle.stock.specs.declared.ZRange.{ZRange}
 use Rattle.stock.specs.Bin.{binOf}
 use Rattle.reach.specs.Reach.{Reached, passed, low, both, Act}
+use Rattle.nose.specs.Nose.{segmentsGood, noseReach}
 use Rattle.cuts.specs.declared.Cut.{Cut}
-use Rattle.cuts.specs.declared.Cut.the-variants.{Thread, ThreadInner, Drill, Arc}
+use Rattle.cuts.specs.declared.Cut.the-variants.{Line, Thread, ThreadInner, Drill, Arc}
 
 -- the bin does not reach between z0 and z1
 unfoldable pub misses : ZRange → Float → Float → Bool
@@ -25,7 +26,12 @@ drillAt z tip r cone =
     (pick (le cone zero64) r
     (leastOf (greatestOf ((z -₆₄ tip) /₆₄ cone *₆₄ r) zero64) r))
 
+-- the one segment of a nose line, as five numbers
+abbrev pub lineOf : Float → Float → Float → Float → Float → List Float
+lineOf ar az br bz sag = ar ∷ az ∷ br ∷ bz ∷ sag ∷ []
+
 abbrev pub sideOf : Cut → TurnSide
+sideOf (Line side rn sag ar az br bz) = side
 sideOf (Thread z0 z1 r) = Outer
 sideOf (ThreadInner z0 z1 r) = Inner
 sideOf (Drill tip r cone) = Inner
@@ -41,12 +47,13 @@ drillReach b tip r cone = pick (le (b .zb) tip) passed (both (drillAt (b .zb) ti
 
 -- what a cut reaches in a bin
 unfoldable pub cutReach : ZRange → Cut → Reached
+cutReach b (Line side rn sag ar az br bz) = noseReach side (cleanOf rn) (lineOf ar az br bz sag) b
 cutReach b (Thread z0 z1 r) = threadReach b z0 z1 r
 cutReach b (ThreadInner z0 z1 r) = threadReach b z0 z1 r
 cutReach b (Drill tip r cone) = drillReach b tip r cone
 cutReach b Arc = passed
 
--- the domain: every number usable, a thread's radius not negative, a drill's above 0
+-- the domain: that of a nose; every number usable, a thread's radius not negative, a drill's above 0
 abbrev pub threadGood : Float → Float → Float → Bool
 threadGood z0 z1 r = usable z0 && usable z1 && usable r && le zero64 r
 
@@ -54,13 +61,15 @@ abbrev pub drillGood : Float → Float → Float → Bool
 drillGood tip r cone = usable tip && usable r && usable cone && lt zero64 r
 
 unfoldable pub cutGood : Cut → Bool
+cutGood (Line side rn sag ar az br bz) = segmentsGood rn (lineOf ar az br bz sag)
 cutGood (Thread z0 z1 r) = threadGood z0 z1 r
 cutGood (ThreadInner z0 z1 r) = threadGood z0 z1 r
 cutGood (Drill tip r cone) = drillGood tip r cone
 cutGood Arc = true
 
--- -0.0 is read as +0.0
+-- -0.0 is read as +0.0; of a line's numbers, where the segment is read
 unfoldable pub cleanCut : Cut → Cut
+cleanCut (Line side rn sag ar az br bz) = Line side rn sag ar az br bz
 cleanCut (Thread z0 z1 r) = Thread (cleanOf z0) (cleanOf z1) (cleanOf r)
 cleanCut (ThreadInner z0 z1 r) = ThreadInner (cleanOf z0) (cleanOf z1) (cleanOf r)
 cleanCut (Drill tip r cone) = Drill (cleanOf tip) (cleanOf r) (cleanOf cone)
@@ -68,6 +77,7 @@ cleanCut Arc = Arc
 
 -- an arc is refused with 13
 abbrev pub isArc : Cut → Bool
+isArc (Line side rn sag ar az br bz) = false
 isArc (Thread z0 z1 r) = false
 isArc (ThreadInner z0 z1 r) = false
 isArc (Drill tip r cone) = false

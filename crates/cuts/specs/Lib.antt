@@ -1,2 +1,4 @@
 pub mod Cut
 pub mod Preview
+pub mod Rows
+pub mod Source

@@ -1,67 +1,188 @@
-// The changes of a cut over the bins: counted, and written out.
+// The changes of a cut over the bins: counted, and written out. One loop of each serves every kind.
 ghost use mathlib.Core.Path.{_≡_};
-ghost use Prim.Native.Nat.{_≤_};
+ghost use Prim.Native.Nat.{ℕ, _+_, _≤_, _<_};
 ghost use lib.ListN.{length};
-ghost use Rattle.reach.specs.Reach.{actCell};
-ghost use Rattle.records.specs.Change.{changesTo, roomOf, Listing, Proposed};
-ghost use Rattle.cuts.specs.Cut.{cutAct};
+ghost use Rattle.refusals.specs.Limits.{cellLimit};
+ghost use Rattle.reach.specs.Reach.{reachPaper, reachFrom, actCell};
+ghost use Rattle.records.specs.Change.{changeAt, changeOf, changesTo, roomOf, Listed, Listing, Proposed};
+ghost use Rattle.cuts.specs.Source.{sourceSide, sourceReach, sourceAct, SameTo};
+ghost use Rattle.cuts.specs.Rows.{rowAt};
 ghost use Rattle.cuts.specs.Preview.{proposed};
-use crate::Cut;
+use crate::rows;
 use crate::single;
+use reach::Low;
+use reach::Reach;
 use records::Previewed;
 use refusals::Refusal;
-use stock::TurnCell;
 use stock::TurnChange;
+use stock::TurnSide;
 use stock::TurnStockSpec;
 
-// The cell of bin i after the cut.
-fn cell_after(s: TurnStockSpec, cut: Cut, i: usize, before: TurnCell) -> TurnCell
-    ensures { λ r. ⌜ r ≡ actCell (cutAct s cut) i before ⌝ }
+// Where what a cut reaches is taken from.
+pub enum Source {
+    Thread {
+        side: TurnSide,
+        z0: f64,
+        z1: f64,
+        radius: f64,
+    },
+    Drill {
+        tip_z: f64,
+        radius: f64,
+        cone: f64,
+    },
+    // rows that were filled before
+    Rows(TurnSide),
+}
+
+// Which surface it cuts.
+fn side_of(source: Source) -> TurnSide
+    ensures { λ r. ⌜ r ≡ sourceSide source ⌝ }
 {
-    let reached = single::reach_of(stock::bin_of(s, i), cut);
-    reach::cut_cell(single::side_of(cut), before, reached)
+    match source {
+        Source::Thread {
+            side,
+            z0: _,
+            z1: _,
+            radius: _,
+        } => side,
+        Source::Drill {
+            tip_z: _,
+            radius: _,
+            cone: _,
+        } => TurnSide::Inner,
+        Source::Rows(side) => side,
+    }
+}
+
+// The reach that the row of bin i says.
+fn row_reach(side: TurnSide, values: &[f64], there: &[bool], i: usize) -> Reach
+    requires { ⌜ i ≤ cellLimit ⌝ }
+    ensures { λ r. ⌜ reachPaper r ≡ reachFrom side (rowAt (now (values .entry)) (now (there .entry)) i .low) (rowAt (now (values .entry)) (now (there .entry)) i .high) ⌝ }
+{
+    let swept = rows::row_at(values, there, i);
+    let low = swept.low;
+    let high = swept.high;
+    reach::reach_from(side, low, high)
+}
+
+// What the cut reaches in bin i.
+fn reach_at(s: TurnStockSpec, source: Source, values: &[f64], there: &[bool], i: usize) -> Reach
+    requires { ⌜ i ≤ cellLimit ⌝ }
+    ensures { λ r. ⌜ reachPaper r ≡ sourceReach s source (now (values .entry)) (now (there .entry)) i ⌝ }
+{
+    match source {
+        Source::Thread {
+            side: _,
+            z0,
+            z1,
+            radius,
+        } => single::thread_reach(stock::bin_of(s, i), z0, z1, radius),
+        Source::Drill {
+            tip_z,
+            radius,
+            cone,
+        } => single::drill_reach(stock::bin_of(s, i), tip_z, radius, cone),
+        Source::Rows(side) => row_reach(side, values, there, i),
+    }
+}
+
+// The change of bin i, counted behind k others where the cut makes one.
+fn count_bin(
+    s: TurnStockSpec,
+    source: Source,
+    values: &[f64],
+    there: &[bool],
+    cells: &[f64],
+    i: usize,
+    k: usize,
+) -> usize
+    requires { ⌜ (i ≤ cellLimit) × (k ≤ cellLimit) × SameTo (now cells) i ⌝ }
+    ensures { λ r. ⌜ r ≡ k + length (changeAt (actCell (sourceAct s source (now (values .entry)) (now (there .entry)))) (now (cells .entry)) i) ⌝ }
+{
+    let reached = reach_at(s, source, values, there, i);
+    let low = reach::low_of(reached);
+    let Low::At(_) = low else {
+        return k;
+    };
+    let before = stock::cell_at(cells, i);
+    let after = reach::cut_cell(side_of(source), before, reached);
+    if stock::same_cell(before, after) {
+        return k;
+    }
+    k + 1
 }
 
 // How many of the first n cells the cut changes.
-fn count(s: TurnStockSpec, cut: Cut, cells: &[f64], n: usize) -> usize
-    ensures { λ r. ⌜ r ≡ length (changesTo (actCell (cutAct s cut)) (now (cells .entry)) n) ⌝ }
+fn count(
+    s: TurnStockSpec,
+    source: Source,
+    values: &[f64],
+    there: &[bool],
+    cells: &[f64],
+    n: usize,
+) -> usize
+    requires { ⌜ (n ≤ cellLimit) × ((i : ℕ) → i < n → SameTo (now cells) i) ⌝ }
+    ensures { λ r. ⌜ r ≡ length (changesTo (actCell (sourceAct s source (now (values .entry)) (now (there .entry)))) (now (cells .entry)) n) ⌝ }
 {
     let mut k: usize = 0;
     let mut i: usize = 0;
     while i < n {
-        let before = stock::cell_at(cells, i);
-        let after = cell_after(s, cut, i, before);
-        if !stock::same_cell(before, after) {
-            k += 1;
-        }
+        k = count_bin(s, source, values, there, cells, i, k);
         i += 1;
     }
     k
 }
 
+// The change of bin i, written behind k others where the cut makes one; how many there are then. A
+// bin that the cut passes over is left at once.
+fn write_bin(
+    s: TurnStockSpec,
+    source: Source,
+    values: &[f64],
+    there: &[bool],
+    cells: &[f64],
+    i: usize,
+    indices: &mut [usize],
+    numbers: &mut [f64],
+    k: usize,
+) -> usize
+    requires { ⌜ (i ≤ cellLimit) × SameTo (now cells) i ⌝ }
+    ensures { λ r. ⌜ Listed k r (changeOf (actCell (sourceAct s source (now (values .entry)) (now (there .entry)))) (now (cells .entry)) i) (now (indices .entry)) (now (indices .exit)) (now (numbers .entry)) (now (numbers .exit)) ⌝ }
+{
+    let reached = reach_at(s, source, values, there, i);
+    let low = reach::low_of(reached);
+    let Low::At(_) = low else {
+        return k;
+    };
+    let before = stock::cell_at(cells, i);
+    let after = reach::cut_cell(side_of(source), before, reached);
+    let change = TurnChange {
+        index: i,
+        before,
+        after,
+    };
+    records::list_change(indices, numbers, k, change)
+}
+
 // The changes of the first n cells, written out; how many they are.
 fn write(
     s: TurnStockSpec,
-    cut: Cut,
+    source: Source,
+    values: &[f64],
+    there: &[bool],
     cells: &[f64],
     n: usize,
     indices: &mut [usize],
     numbers: &mut [f64],
 ) -> usize
-    requires { ⌜ length (changesTo (actCell (cutAct s cut)) (now cells) n) ≤ roomOf (length (now indices)) (length (now numbers)) ⌝ }
-    ensures { λ r. ⌜ Listing (actCell (cutAct s cut)) (now (cells .entry)) n r (now (indices .entry)) (now (indices .exit)) (now (numbers .entry)) (now (numbers .exit)) ⌝ }
+    requires { ⌜ (n ≤ cellLimit) × ((i : ℕ) → i < n → SameTo (now cells) i) × (length (changesTo (actCell (sourceAct s source (now values) (now there))) (now cells) n) ≤ roomOf (length (now indices)) (length (now numbers))) ⌝ }
+    ensures { λ r. ⌜ Listing (actCell (sourceAct s source (now (values .entry)) (now (there .entry)))) (now (cells .entry)) n r (now (indices .entry)) (now (indices .exit)) (now (numbers .entry)) (now (numbers .exit)) ⌝ }
 {
     let mut k: usize = 0;
     let mut i: usize = 0;
     while i < n {
-        let before = stock::cell_at(cells, i);
-        let after = cell_after(s, cut, i, before);
-        let change = TurnChange {
-            index: i,
-            before,
-            after,
-        };
-        k = records::list_change(indices, numbers, k, change);
+        k = write_bin(s, source, values, there, cells, i, indices, numbers, k);
         i += 1;
     }
     k
@@ -71,20 +192,23 @@ fn write(
 // for every bin.
 pub fn list(
     s: TurnStockSpec,
-    cut: Cut,
+    source: Source,
+    values: &[f64],
+    there: &[bool],
     cells: &[f64],
     n: usize,
     indices: &mut [usize],
     numbers: &mut [f64],
 ) -> Previewed
-    ensures { λ r. ⌜ Proposed (proposed (cutAct s cut) (now (cells .entry)) (roomOf (length (now (indices .entry))) (length (now (numbers .entry)))) n) r (now (indices .entry)) (now (indices .exit)) (now (numbers .entry)) (now (numbers .exit)) ⌝ }
+    requires { ⌜ (n ≤ cellLimit) × ((i : ℕ) → i < n → SameTo (now cells) i) ⌝ }
+    ensures { λ r. ⌜ Proposed (proposed (sourceAct s source (now (values .entry)) (now (there .entry))) (now (cells .entry)) (roomOf (length (now (indices .entry))) (length (now (numbers .entry)))) n) r (now (indices .entry)) (now (indices .exit)) (now (numbers .entry)) (now (numbers .exit)) ⌝ }
 {
     let room = records::room(indices.len(), numbers.len());
     if n <= room {
-        return Previewed::Changes(write(s, cut, cells, n, indices, numbers));
+        return Previewed::Changes(write(s, source, values, there, cells, n, indices, numbers));
     }
-    if count(s, cut, cells, n) <= room {
-        return Previewed::Changes(write(s, cut, cells, n, indices, numbers));
+    if count(s, source, values, there, cells, n) <= room {
+        return Previewed::Changes(write(s, source, values, there, cells, n, indices, numbers));
     }
     Previewed::Refused(Refusal::ChangesOverRoom)
 }

@@ -1,10 +1,9 @@
-// Threads and drills: what they reach in a bin, and their domain.
+// The single cuts: what a thread and a drill reach in a bin, and the domain of each cut.
 ghost use mathlib.Core.Path.{_≡_};
 ghost use Rattle.reach.specs.Reach.{reachPaper};
-ghost use Rattle.cuts.specs.Cut.{misses, drillAt, sideOf, threadReach, drillReach, cutReach, threadGood, drillGood, cutGood, cleanCut, isArc};
+ghost use Rattle.cuts.specs.Cut.{misses, drillAt, threadReach, drillReach, threadGood, drillGood, cutGood, cleanCut};
 use crate::Cut;
 use reach::Reach;
-use stock::TurnSide;
 use stock::ZRange;
 
 // The bin does not reach between z0 and z1.
@@ -27,7 +26,8 @@ fn drill_at(z: f64, tip: f64, radius: f64, cone: f64) -> f64
     floats::least(floats::greatest((z - tip) / cone * radius, 0.0), radius)
 }
 
-fn thread_reach(b: ZRange, z0: f64, z1: f64, radius: f64) -> Reach
+// What a thread reaches.
+pub fn thread_reach(b: ZRange, z0: f64, z1: f64, radius: f64) -> Reach
     ensures { λ r. ⌜ reachPaper r ≡ threadReach b z0 z1 radius ⌝ }
 {
     if misses(b, z0, z1) {
@@ -36,7 +36,8 @@ fn thread_reach(b: ZRange, z0: f64, z1: f64, radius: f64) -> Reach
     Reach::Low(radius)
 }
 
-fn drill_reach(b: ZRange, tip: f64, radius: f64, cone: f64) -> Reach
+// What a drill reaches.
+pub fn drill_reach(b: ZRange, tip: f64, radius: f64, cone: f64) -> Reach
     ensures { λ r. ⌜ reachPaper r ≡ drillReach b tip radius cone ⌝ }
 {
     if b.zb <= tip {
@@ -45,44 +46,6 @@ fn drill_reach(b: ZRange, tip: f64, radius: f64, cone: f64) -> Reach
     let low = drill_at(b.zb, tip, radius, cone);
     let high = drill_at(b.za, tip, radius, cone);
     Reach::Both(low, high)
-}
-
-pub fn reach_of(b: ZRange, cut: Cut) -> Reach
-    ensures { λ r. ⌜ reachPaper r ≡ cutReach b cut ⌝ }
-{
-    match cut {
-        Cut::Thread { z0, z1, radius } => thread_reach(b, z0, z1, radius),
-        Cut::ThreadInner { z0, z1, radius } => thread_reach(b, z0, z1, radius),
-        Cut::Drill {
-            tip_z,
-            radius,
-            cone,
-        } => drill_reach(b, tip_z, radius, cone),
-        Cut::Arc => Reach::Passed,
-    }
-}
-
-pub fn side_of(cut: Cut) -> TurnSide
-    ensures { λ r. ⌜ r ≡ sideOf cut ⌝ }
-{
-    match cut {
-        Cut::Thread {
-            z0: _,
-            z1: _,
-            radius: _,
-        } => TurnSide::Outer,
-        Cut::ThreadInner {
-            z0: _,
-            z1: _,
-            radius: _,
-        } => TurnSide::Inner,
-        Cut::Drill {
-            tip_z: _,
-            radius: _,
-            cone: _,
-        } => TurnSide::Inner,
-        Cut::Arc => TurnSide::Outer,
-    }
 }
 
 fn thread_good(z0: f64, z1: f64, radius: f64) -> bool
@@ -102,6 +65,15 @@ pub fn cut_good(cut: Cut) -> bool
     ensures { λ r. ⌜ r ≡ cutGood cut ⌝ }
 {
     match cut {
+        Cut::Line {
+            side: _,
+            rn,
+            sag,
+            a_r,
+            a_z,
+            b_r,
+            b_z,
+        } => nose::segments_good(rn, &[a_r, a_z, b_r, b_z, sag]),
         Cut::Thread { z0, z1, radius } => thread_good(z0, z1, radius),
         Cut::ThreadInner { z0, z1, radius } => thread_good(z0, z1, radius),
         Cut::Drill {
@@ -118,6 +90,23 @@ pub fn clean_cut(cut: Cut) -> Cut
     ensures { λ r. ⌜ r ≡ cleanCut cut ⌝ }
 {
     match cut {
+        Cut::Line {
+            side,
+            rn,
+            sag,
+            a_r,
+            a_z,
+            b_r,
+            b_z,
+        } => Cut::Line {
+            side,
+            rn,
+            sag,
+            a_r,
+            a_z,
+            b_r,
+            b_z,
+        },
         Cut::Thread { z0, z1, radius } => Cut::Thread {
             z0: floats::clean(z0),
             z1: floats::clean(z1),
@@ -138,28 +127,5 @@ pub fn clean_cut(cut: Cut) -> Cut
             cone: floats::clean(cone),
         },
         Cut::Arc => Cut::Arc,
-    }
-}
-
-pub fn is_arc(cut: Cut) -> bool
-    ensures { λ r. ⌜ r ≡ isArc cut ⌝ }
-{
-    match cut {
-        Cut::Thread {
-            z0: _,
-            z1: _,
-            radius: _,
-        } => false,
-        Cut::ThreadInner {
-            z0: _,
-            z1: _,
-            radius: _,
-        } => false,
-        Cut::Drill {
-            tip_z: _,
-            radius: _,
-            cone: _,
-        } => false,
-        Cut::Arc => true,
     }
 }

@@ -5,3 +5,5 @@ pub mod Shift
 pub mod Answer
 pub mod Nearest
 pub mod Wholes
+pub mod Sizes
+pub mod Lengths

@@ -11,14 +11,15 @@ use Rattle.stock.specs.declared.TurnStockSpec.{TurnStockSpec}
 use Rattle.stock.specs.declared.TurnSide.{TurnSide}
 use Rattle.stock.specs.Spec.{cleanSpec}
 use Rattle.stock.proofs.Count.{Checked}
+use Rattle.stock.proofs.Bins.{Sized, HeldSpec, HeldList, bin-within}
+use Rattle.reach.specs.Kinds.{ReachOf}
+use Rattle.reach.proofs.Reaches.{reach-map}
 use Rattle.polygon.specs.Polygon.{polygonGood, polygonAct}
-use Rattle.polygon.proofs.Sizes.{HeldList}
-use Rattle.polygon.proofs.Ends.{HeldAlong, start-finite, stop-finite}
-use Rattle.polygon.proofs.Plain.{ReachOf, Stored, reach-map, polygon-stored}
+use Rattle.polygon.proofs.Plain.{polygon-sized}
 
-module _ {spec : TurnStockSpec} {n : ℕ} (held : HeldAlong spec) (ok : Checked spec n) (ps : List Float) (excess : Float) (held-points : HeldList ps) (held-excess : T (fits binary64 excess)) (good : polygonGood ps excess ≡ true) (side : TurnSide) (i : ℕ) (below : i < n) where
-  reached : ReachOf Stored (polygonAct (cleanSpec spec) side excess ps .at i)
-  reached = polygon-stored ps excess held-points held-excess good side (cleanSpec spec) i (start-finite held ok i below) (stop-finite held ok i below)
+module _ {spec : TurnStockSpec} {n : ℕ} (held : HeldSpec spec) (ok : Checked spec n) (ps : List Float) (excess : Float) (held-points : HeldList ps) (held-excess : T (fits binary64 excess)) (good : polygonGood ps excess ≡ true) (side : TurnSide) (i : ℕ) (below : i < n) where
+  reached : ReachOf (Sized 23) (polygonAct (cleanSpec spec) side excess ps .at i)
+  reached = polygon-sized ps excess held-points held-excess good side (cleanSpec spec) i (finite-within (bin-within held ok i below .za .within)) (finite-within (bin-within held ok i below .zb .within))
 
   -- no NaN and no -0.0
   pub polygon-plain : ReachOf (Plain binary64) (polygonAct (cleanSpec spec) side excess ps .at i)

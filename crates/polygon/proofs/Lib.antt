@@ -4,5 +4,4 @@ pub mod Visits
 pub mod Reaches
 pub mod Sizes
 pub mod Plain
-pub mod Ends
 pub mod Domain

@@ -10,56 +10,21 @@ use lib.Ieee.{Float, binary64, fits, le}
 use Rattle.refusals.specs.Limits.{pointLimit}
 use Rattle.floats.specs.Pick.{pick}
 use Rattle.floats.specs.Numbers.{zero64, leastOf, greatestOf, cleanOf, usable}
-use Rattle.floats.specs.Kinds.{Plain, Finite, Within}
+use Rattle.floats.specs.Kinds.{Finite, Within}
 use Rattle.floats.proofs.Lattice.{least-keeps, greatest-keeps}
-use Rattle.floats.proofs.Cleared.{clean-plain}
-use Rattle.floats.proofs.Within.{finite-within, number-within, within-weaken, within-neg, within-add}
+use Rattle.floats.proofs.Within.{finite-within, within-weaken, within-add}
 use Rattle.stock.specs.declared.TurnStockSpec.{TurnStockSpec}
 use Rattle.stock.specs.declared.TurnSide.{TurnSide}
-use Rattle.stock.specs.declared.TurnSide.the-variants.{Outer, Inner}
 use Rattle.stock.specs.declared.ZRange.{ZRange}
 use Rattle.stock.specs.Bin.{binOf}
 use Rattle.reach.specs.Low.{lowerOf, upperOf}
-use Rattle.reach.specs.Reach.{Reached, passed, low, both, storedOf, reachFrom}
+use Rattle.reach.specs.Reach.{Reached, passed, reachFrom}
+use Rattle.reach.specs.Kinds.{SomeOf, ReachOf}
+use Rattle.reach.proofs.Reaches.{lower-keeps, upper-keeps, some-pick, some-map, reach-pick, reach-sized}
+use Rattle.stock.proofs.Bins.{Sized, HeldList}
 use Rattle.polygon.specs.Polygon.{usableTo, polygonGood, lowestOf, Span, extentOf, spans, lowsFrom, raised, highFrom, lowIn, highIn, skips, sweptReach, reachOver, polygonReach, polygonAct}
 use Rattle.polygon.proofs.First.{and-both}
-use Rattle.polygon.proofs.Sizes.{SomeOf, EndsOf, HeldList, lower-keeps, upper-keeps, some-pick, some-map, usable-within, clean-within, lowest-within, lows-within, extent-within}
-
--- ---- kinds of reaches
-
--- P holds of each number of a reach
-abbrev pub ReachOf : (Float → Type 0) → Reached → Type 0
-ReachOf P passed = Unit {0}
-ReachOf P (low x) = P x
-ReachOf P (both x y) = P x × P y
-
--- what every P is, the numbers of a reach that are P are
-pub reach-map : {P Q : Float → Type 0} → ((x : Float) → P x → Q x) → (r : Reached) → ReachOf P r → ReachOf Q r
-reach-map f passed p = tt
-reach-map f (low x) p = f x p
-reach-map f (both x y) p = (f x (p .0), f y (p .1))
-
-reach-pick : (P : Float → Type 0) (t : Bool) (a b : Reached) → ReachOf P a → ReachOf P b → ReachOf P (pick t a b)
-unfolding pick
-reach-pick P true a b p q = p
-reach-pick P false a b p q = q
-
--- at most 2 ^ 23 in size, and neither a NaN nor -0.0
-pub record Stored (x : Float) : Type 0 where
-  pub plain : Plain binary64 x
-  pub within : Within binary64 23 x
-
--- a radius of at most 2 ^ 23 in size is stored as such, and never as -0.0
-stored : (side : TurnSide) (x : Float) → Within binary64 23 x → Stored (storedOf side x)
-unfolding storedOf
-stored Outer x w = record { plain = clean-plain (number-within w); within = clean-within w }
-stored Inner x w = let v = within-neg w in record { plain = clean-plain (number-within v); within = clean-within v }
-
-reach-stored : (side : TurnSide) (a b : Option Float) → SomeOf (Within binary64 23) a → SomeOf (Within binary64 23) b → ReachOf Stored (reachFrom side a b)
-unfolding reachFrom
-reach-stored side none b p q = tt
-reach-stored side (some x) none p q = stored side x p
-reach-stored side (some x) (some y) p q = (stored side x p, stored side y q)
+use Rattle.polygon.proofs.Sizes.{EndsOf, usable-within, clean-within, lowest-within, lows-within, extent-within}
 
 -- ---- a polygon that is not refused
 
@@ -100,9 +65,9 @@ module _ (ps : List Float) (excess : Float) (held : HeldList ps) (held-excess : 
   sample : (z : Float) → Finite binary64 z → SomeOf W (lowestOf ps side z)
   sample z f = lowest-within ps held (ok .points-usable) side z f
 
-  swept-stored : (b : ZRange) (e : Span) → Finite binary64 (b .za) → Finite binary64 (b .zb) → Finite binary64 (e .lo) → Finite binary64 (e .hi) → ReachOf Stored (sweptReach side (cleanOf excess) ps b e)
+  swept-sized : (b : ZRange) (e : Span) → Finite binary64 (b .za) → Finite binary64 (b .zb) → Finite binary64 (e .lo) → Finite binary64 (e .hi) → ReachOf (Sized 23) (sweptReach side (cleanOf excess) ps b e)
   unfolding sweptReach lowIn highIn highFrom
-  swept-stored b e A B L H =
+  swept-sized b e A B L H =
       let start = lowestOf ps side (greatestOf (b .za) (e .lo)) in
       let end = lowestOf ps side (leastOf (b .zb) (e .hi)) in
       let lows = lows-within ps held (ok .points-usable) side b (lowerOf start end) (lower-keeps W start end (sample (greatestOf (b .za) (e .lo)) (greatest-keeps (Finite binary64) A L)) (sample (leastOf (b .zb) (e .hi)) (least-keeps (Finite binary64) B H))) in
@@ -110,14 +75,14 @@ module _ (ps : List Float) (excess : Float) (held : HeldList ps) (held-excess : 
       let x = clean-within (usable-within excess held-excess (ok .excess-usable)) in
       let high = raised (cleanOf excess) (upperOf (lowestOf ps side (b .za)) (lowestOf ps side (b .zb))) in
       let t = le (e .lo) (b .za) && le (b .zb) (e .hi) in
-      reach-pick Stored (skips b (e .lo) (e .hi)) passed (reachFrom side (lowIn ps side b (e .lo) (e .hi)) (highIn ps side (cleanOf excess) b (e .lo) (e .hi))) tt
-      (reach-stored side (lowsFrom ps side b (lowerOf start end)) (pick t high none) (some-map wider (lowsFrom ps side b (lowerOf start end)) lows) (some-pick (Within binary64 23) t high none (raised-within (cleanOf excess) x (upperOf (lowestOf ps side (b .za)) (lowestOf ps side (b .zb))) ends) tt))
+      reach-pick (Sized 23) (skips b (e .lo) (e .hi)) passed (reachFrom side (lowIn ps side b (e .lo) (e .hi)) (highIn ps side (cleanOf excess) b (e .lo) (e .hi))) tt
+      (reach-sized side 23 (lowsFrom ps side b (lowerOf start end)) (pick t high none) (some-map wider (lowsFrom ps side b (lowerOf start end)) lows) (some-pick (Within binary64 23) t high none (raised-within (cleanOf excess) x (upperOf (lowestOf ps side (b .za)) (lowestOf ps side (b .zb))) ends) tt))
 
   -- in a bin whose ends are finite, each number that the polygon reaches is at most 2 ^ 23 in size, and neither a NaN nor -0.0
-  pub polygon-stored : (s : TurnStockSpec) (i : ℕ) → Finite binary64 (binOf s i .za) → Finite binary64 (binOf s i .zb) → ReachOf Stored (polygonAct s side excess ps .at i)
+  pub polygon-sized : (s : TurnStockSpec) (i : ℕ) → Finite binary64 (binOf s i .za) → Finite binary64 (binOf s i .zb) → ReachOf (Sized 23) (polygonAct s side excess ps .at i)
   unfolding polygonAct polygonReach reachOver
-  polygon-stored s i A B = go (extentOf ps) (extent-within ps held (ok .points-usable))
+  polygon-sized s i A B = go (extentOf ps) (extent-within ps held (ok .points-usable))
     where
-      go : (e : Option Span) → EndsOf (Within binary64 20) e → ReachOf Stored (reachOver s side (cleanOf excess) ps i e)
+      go : (e : Option Span) → EndsOf (Within binary64 20) e → ReachOf (Sized 23) (reachOver s side (cleanOf excess) ps i e)
       go none p = tt
-      go (some e) p = reach-pick Stored (spans s (e .lo) (e .hi) i) (sweptReach side (cleanOf excess) ps (binOf s i) e) passed (swept-stored (binOf s i) e A B (finite-within (p .0)) (finite-within (p .1))) tt
+      go (some e) p = reach-pick (Sized 23) (spans s (e .lo) (e .hi) i) (sweptReach side (cleanOf excess) ps (binOf s i) e) passed (swept-sized (binOf s i) e A B (finite-within (p .0)) (finite-within (p .1))) tt

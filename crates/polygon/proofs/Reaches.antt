@@ -19,7 +19,7 @@ use Rattle.stock.specs.Bin.{binOf}
 use Rattle.reach.specs.declared.Low.{Low}
 use Rattle.reach.specs.Low.{lowPaper, lowerOf, upperOf}
 use Rattle.reach.specs.Reach.{passed, reachFrom}
-use Rattle.polygon.specs.declared.Swept.{Swept}
+use Rattle.reach.specs.declared.Swept.{Swept}
 use Rattle.polygon.specs.Polygon.{lowestTo, lowestOf, Span, extentOf, spans, lowsFrom, raised, highFrom, Sweeps, lowIn, highIn, skips, sweptReach, reachOver, polygonReach, polygonAct}
 use Rattle.polygon.proofs.First.{and-both, greatest-first, least-first}
 

@@ -25,52 +25,21 @@ use Rattle.stock.specs.declared.TurnSide.{TurnSide}
 use Rattle.stock.specs.declared.TurnSide.the-variants.{Outer, Inner}
 use Rattle.stock.specs.declared.ZRange.{ZRange}
 use Rattle.stock.specs.Cell.{numberAt}
+use Rattle.stock.proofs.Bins.{HeldList}
 use Rattle.reach.specs.Low.{lowerOf, upperOf}
+use Rattle.reach.specs.Kinds.{SomeOf}
+use Rattle.reach.proofs.Reaches.{lower-keeps, some-pick}
+use Rattle.reach.specs.Reach.{flipped}
 use Rattle.polygon.specs.declared.Point.{Point}
-use Rattle.polygon.specs.Polygon.{usableTo, facing, heightAt, pointAt, alongOf, edgeAt, lowestTo, lowestOf, Span, widened, extentTo, extentOf, inside, lowsTo, lowsFrom}
+use Rattle.polygon.specs.Polygon.{usableTo, heightAt, pointAt, alongOf, edgeAt, lowestTo, lowestOf, Span, widened, extentTo, extentOf, inside, lowsTo, lowsFrom}
 use Rattle.polygon.proofs.First.{and-both}
 
 -- ---- kinds of what may be missing
-
--- P holds of the radius, where there is one
-abbrev pub SomeOf : (Float → Type 0) → Option Float → Type 0
-SomeOf P none = Unit {0}
-SomeOf P (some x) = P x
 
 -- P holds of both ends, where there are some
 abbrev pub EndsOf : (Float → Type 0) → Option Span → Type 0
 EndsOf P none = Unit {0}
 EndsOf P (some e) = P (e .lo) × P (e .hi)
-
--- the numbers of a list are values of f64, as those of a lent one are
-abbrev pub HeldList : List Float → Type 0
-HeldList ps = (k : ℕ) → T (fits binary64 (numberAt ps k))
-
-module _ (P : Float → Type 0) where
-  -- the lower of two radii has what both have
-  pub lower-keeps : (a b : Option Float) → SomeOf P a → SomeOf P b → SomeOf P (lowerOf a b)
-  unfolding lowerOf
-  lower-keeps none b p q = q
-  lower-keeps (some x) none p q = p
-  lower-keeps (some x) (some y) p q = least-keeps P p q
-
-  -- and so has the upper
-  pub upper-keeps : (a b : Option Float) → SomeOf P a → SomeOf P b → SomeOf P (upperOf a b)
-  unfolding upperOf
-  upper-keeps none b p q = tt
-  upper-keeps (some x) none p q = tt
-  upper-keeps (some x) (some y) p q = greatest-keeps P p q
-
-  -- and one that a test picks
-  pub some-pick : (t : Bool) (a b : Option Float) → SomeOf P a → SomeOf P b → SomeOf P (pick t a b)
-  unfolding pick
-  some-pick true a b p q = p
-  some-pick false a b p q = q
-
--- what every P is, a radius that is P is
-pub some-map : {P Q : Float → Type 0} → ((x : Float) → P x → Q x) → (a : Option Float) → SomeOf P a → SomeOf Q a
-some-map f none p = tt
-some-map f (some x) p = f x p
 
 -- ---- an edge
 
@@ -134,10 +103,10 @@ usable-at ps (suc n) k h e =
     go false e f u = let s : n ≡ k = (let l = ltb-false k n e in omega arith) in subst (λ (j : ℕ). usable (numberAt ps j) ≡ true) s u
 
 -- negation makes no radius larger
-facing-within : (side : TurnSide) {k : ℕ} {r : Float} → Within binary64 k r → Within binary64 k (facing side r)
-unfolding facing
-facing-within Outer w = w
-facing-within Inner w = within-neg w
+flipped-within : (side : TurnSide) {k : ℕ} {r : Float} → Within binary64 k r → Within binary64 k (flipped side r)
+unfolding flipped
+flipped-within Outer w = w
+flipped-within Inner w = within-neg w
 
 -- one z more leaves the ends of an extent as small
 widen : (e : Option Span) (z : Float) → EndsOf (Within binary64 20) e → Within binary64 20 z → EndsOf (Within binary64 20) (some (widened e z))
@@ -157,7 +126,7 @@ module _ (ps : List Float) (held : HeldList ps) (good : usableTo ps (length ps) 
   -- and so is its radius
   pub point-within : (side : TurnSide) (i : ℕ) → i < length ps / 2 → PointWithin 20 (pointAt ps side i)
   unfolding pointAt
-  point-within side i h = record { z = height-within i h; r = facing-within side (number-at (2 * i + 1) (omega arith)) }
+  point-within side i h = record { z = height-within i h; r = flipped-within side (number-at (2 * i + 1) (omega arith)) }
 
   -- ---- the lowest at z
   lowest-to : (side : TurnSide) (z : Float) → Finite binary64 z → (k : ℕ) → k ≤ length ps / 2 → SomeOf (Within binary64 22) (lowestTo ps side (length ps / 2) z k)

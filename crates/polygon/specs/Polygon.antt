@@ -6,25 +6,24 @@ use mathlib.Core.Option.{Option, none, some}
 use Prim.Native.Nat.{ℕ, zero, suc, _+_, _*_, _/_, _%_, min}
 use lib.Dec.{leb, eqb}
 use lib.ListN.{length}
-use lib.Ieee.{Float, neg, lt, le, eq}
+use lib.Ieee.{Float, lt, le, eq}
 use Rattle.refusals.specs.Limits.{pointLimit}
 use Rattle.floats.specs.Pick.{pick}
 use Rattle.floats.specs.Numbers.{_+₆₄_, _-₆₄_, _*₆₄_, _/₆₄_, zero64, leastOf, greatestOf, cleanOf, usable}
 use Rattle.numbers.specs.Whole.{wholePart}
 use Rattle.stock.specs.declared.TurnStockSpec.{TurnStockSpec}
 use Rattle.stock.specs.declared.TurnSide.{TurnSide}
-use Rattle.stock.specs.declared.TurnSide.the-variants.{Outer, Inner}
 use Rattle.stock.specs.declared.ZRange.{ZRange}
 use Rattle.stock.specs.Bin.{binOf}
 use Rattle.stock.specs.Cell.{numberAt}
 use Rattle.reach.specs.declared.Low.{Low}
+use Rattle.reach.specs.declared.Swept.{Swept}
 use Rattle.reach.specs.Low.{lowPaper, lowerOf, upperOf}
-use Rattle.reach.specs.Reach.{Reached, passed, reachFrom, Act}
+use Rattle.reach.specs.Reach.{Reached, passed, flipped, reachFrom, Act}
 use Rattle.polygon.specs.declared.Point.{Point}
 use Rattle.polygon.specs.declared.Extent.{Extent}
 use Rattle.polygon.specs.declared.Extent.the-variants.{Over, Nothing}
 use Rattle.polygon.specs.declared.Bins.{Bins}
-use Rattle.polygon.specs.declared.Swept.{Swept}
 
 -- ---- refusal 5
 
@@ -39,18 +38,13 @@ polygonGood ps excess = eqb (length ps % 2) 0 && leb (length ps / 2) pointLimit 
 
 -- ---- points and edges
 
--- radii are negated for the inside
-unfoldable pub facing : TurnSide → Float → Float
-facing Outer r = r
-facing Inner r = neg r
-
 -- the z of point i; -0.0 is read as +0.0
 unfoldable pub heightAt : List Float → ℕ → Float
 heightAt ps i = cleanOf (numberAt ps (2 * i))
 
 -- point i
 unfoldable pub pointAt : List Float → TurnSide → ℕ → Point
-pointAt ps side i = record { z = heightAt ps i; r = facing side (cleanOf (numberAt ps (2 * i + 1))) }
+pointAt ps side i = record { z = heightAt ps i; r = flipped side (cleanOf (numberAt ps (2 * i + 1))) }
 
 -- the radius between p and q at z; of an upright edge the lesser end
 unfoldable pub alongOf : Point → Point → Float → Float

@@ -9,8 +9,9 @@ ghost use mathlib.Core.Path.{_≡_};
 ghost use Prim.Native.Nat.{_+_, _*_, _≤_};
 ghost use lib.ListN.{length};
 ghost use Rattle.reach.specs.Low.{lowPaper};
-ghost use Rattle.polygon.specs.Polygon.{facing, heightAt, pointAt, edgeAt, lowestOf, extentOf, extentPaper, lowsFrom, highFrom, Sweeps, pastOf, binsOf, usableTo, polygonGood};
+ghost use Rattle.polygon.specs.Polygon.{heightAt, pointAt, edgeAt, lowestOf, extentOf, extentPaper, lowsFrom, highFrom, Sweeps, pastOf, binsOf, usableTo, polygonGood};
 use reach::Low;
+use reach::Swept;
 use refusals::POINT_LIMIT;
 use stock::TurnSide;
 use stock::TurnStockSpec;
@@ -28,26 +29,10 @@ pub struct Bins {
     pub to: usize,
 }
 
-// The lowest radius over a bin, and the highest with the excess, where there is one.
-pub struct Swept {
-    pub low: Low,
-    pub high: Low,
-}
-
 // A point, its radius negated for the inside.
 struct Point {
     z: f64,
     r: f64,
-}
-
-// A radius, negated for the inside.
-fn facing(side: TurnSide, r: f64) -> f64
-    ensures { λ x. ⌜ x ≡ facing side r ⌝ }
-{
-    match side {
-        TurnSide::Outer => r,
-        TurnSide::Inner => -r,
-    }
 }
 
 // The z of point i.
@@ -66,7 +51,7 @@ fn point_at(points: &[f64], side: TurnSide, i: usize) -> Point
 {
     let z = height_at(points, i);
     let at = 2 * i + 1;
-    let r = facing(side, floats::clean(points[at]));
+    let r = reach::flip(side, floats::clean(points[at]));
     Point { z, r }
 }
 

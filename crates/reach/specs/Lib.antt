@@ -1,3 +1,4 @@
 pub mod Low
 pub mod Reach
 pub mod Closed
+pub mod Kinds

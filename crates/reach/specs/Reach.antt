@@ -21,6 +21,12 @@ reachPaper Passed = passed
 reachPaper (Low x) = low x
 reachPaper (Both x y) = both x y
 
+-- the low of a reach, if the bin is not passed over
+unfoldable pub lowOf : Reached → Option Float
+lowOf passed = none
+lowOf (low x) = some x
+lowOf (both x y) = some x
+
 -- ---- the two sides as one
 -- A cut takes the surface deeper: outside towards the axis, inside away from it. Of the bounds of a surface the deep one is how deep it may lie
 -- (outer.lower, inner.upper), and the sure one how deep it lies at least (outer.upper, inner.lower).
@@ -82,6 +88,11 @@ abbrev pub actCell : Act → ℕ → TurnCell → TurnCell
 actCell a i c = cutCell (a .side) c (a .at i)
 
 -- ---- what a nose or a polygon reaches is worked out for the outside, with radii negated for the inside
+
+-- radii are negated for the inside
+unfoldable pub flipped : TurnSide → Float → Float
+flipped Outer r = r
+flipped Inner r = neg r
 
 -- negated back, with +0.0 for -0.0
 unfoldable pub storedOf : TurnSide → Float → Float

@@ -7,7 +7,7 @@
 // of cut and for both sides.
 ghost use mathlib.Core.Path.{_≡_};
 ghost use Rattle.reach.specs.Low.{lowerOf, upperOf, lowPaper};
-ghost use Rattle.reach.specs.Reach.{deeper, shallower, deepOf, sureOf, limitOf, withPair, cutCell, storedOf, reachFrom, reachPaper};
+ghost use Rattle.reach.specs.Reach.{deeper, shallower, deepOf, sureOf, limitOf, withPair, cutCell, flipped, storedOf, reachFrom, reachPaper, lowOf};
 use stock::RadiusBounds;
 use stock::TurnCell;
 use stock::TurnSide;
@@ -16,6 +16,12 @@ use stock::TurnSide;
 pub enum Low {
     At(f64),
     Nowhere,
+}
+
+// The lowest radius over a bin and the highest, where there is one.
+pub struct Swept {
+    pub low: Low,
+    pub high: Low,
 }
 
 // What a cut reaches in a bin, before floor or ceiling: nothing, a low, or a low and a high.
@@ -51,6 +57,16 @@ pub fn upper(a: Low, b: Low) -> Low
     Low::At(floats::greatest(x, y))
 }
 
+// Radii are negated for the inside, so that one rule serves both sides.
+pub fn flip(side: TurnSide, r: f64) -> f64
+    ensures { λ x. ⌜ x ≡ flipped side r ⌝ }
+{
+    match side {
+        TurnSide::Outer => r,
+        TurnSide::Inner => -r,
+    }
+}
+
 // A radius that was worked out for the outside, negated back for the inside, and never -0.0.
 fn stored(side: TurnSide, x: f64) -> f64
     ensures { λ r. ⌜ r ≡ storedOf side x ⌝ }
@@ -72,6 +88,17 @@ pub fn reach_from(side: TurnSide, low: Low, high: Low) -> Reach
         return Reach::Low(stored(side, x));
     };
     Reach::Both(stored(side, x), stored(side, y))
+}
+
+// The low of a reach, if the bin is not passed over.
+pub fn low_of(reach: Reach) -> Low
+    ensures { λ r. ⌜ lowPaper r ≡ lowOf (reachPaper reach) ⌝ }
+{
+    match reach {
+        Reach::Passed => Low::Nowhere,
+        Reach::Low(x) => Low::At(x),
+        Reach::Both(x, _) => Low::At(x),
+    }
 }
 
 // Of two radii, the deeper one.

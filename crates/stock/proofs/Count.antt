@@ -31,7 +31,8 @@ unfolding demand
 demanded true n p a h = (refl, h)
 demanded false n p a h = absurd (no-answer n a h)
 
-and-both : (a b : Bool) → (a && b) ≡ true → (a ≡ true) × (b ≡ true)
+-- both of two tests that hold together
+pub and-both : (a b : Bool) → (a && b) ≡ true → (a ≡ true) × (b ≡ true)
 and-both true b e = (refl, e)
 and-both false b e = absurd (false≢true e)
 

@@ -17,4 +17,4 @@ point-at-spec =
     (λ c. search needs)
     (λ c κs. tt)
     (λ c κs. tt)
-    (λ c. search (picks, ← c .facing .ensures, ← c .before .clean .ensures, ← c .before .before .before .height-at .ensures)))
+    (λ c. search (picks, ← c .flip .ensures, ← c .before .clean .ensures, ← c .before .before .before .height-at .ensures)))

@@ -1,48 +1,51 @@
 -- `cuts::list::count` meets its contract. The loop's invariant: k of the cells passed change. Assumes nothing.
 use mathlib.Core.Path.{_≡_, refl, sym, ap, _∙_}
-use mathlib.Core.Logic.{⊎-elim}
-use mathlib.Core.List.{[], _∷_}
 use Prim.Native.Nat.{ℕ, _+_, _≤_, _-_}
 use native.Mathlib.Omega.{arith}
 use borrow.Author.Needs.{needs}
-use borrow.Author.Tests.{not-true, not-false}
 use lib.ListN.{length, length-append}
-use Rattle.stock.specs.declared.TurnCell.{TurnCell}
-use Rattle.stock.specs.Cell.{sameCell}
-use Rattle.records.specs.Change.{changeOf, changesTo}
-use Rattle.records.proofs.Rising.{kept, made}
+use Rattle.records.specs.Change.{changeAt, changesTo}
+use Rattle.records.proofs.Rising.{changes-more}
 use Rattle.reach.specs.Reach.{actCell}
-use Rattle.cuts.specs.Cut.{cutAct}
+use Rattle.cuts.specs.Source.{sourceAct}
+use Rattle.cuts.proofs.EachBin.{one-at-most}
 use Rattle.cuts.proofs.list.count.Statement.{statement}
 use Rattle.cuts.proofs.list.count.Tie as tie
 
 abbrev Inv-loop : tie.InvT-loop
-Inv-loop s cut cells n k₀ i₀ k i = (i ≤ n) × (k ≤ i) × (k ≡ length (changesTo (actCell (cutAct s cut)) cells i))
+Inv-loop s source values there cells n k₀ i₀ k i = (i ≤ n) × (k ≤ i) × (k ≡ length (changesTo (actCell (sourceAct s source values there)) cells i))
 
 abbrev μ-loop : tie.MeasureT-loop
-μ-loop s cut cells n k₀ i₀ k i = n - i
+μ-loop s source values there cells n k₀ i₀ k i = n - i
 
 loop-holds : tie.Need-loop-holds Inv-loop μ-loop
 unfolding changesTo
 loop-holds c = (search needs, search needs, refl)
 
+count-bin-requires : tie.Need-count-bin-requires Inv-loop μ-loop
+count-bin-requires c κs =
+    let l = c .before in
+    let p = l .before .before .before .before .pre in
+    (omega (arith, p .0), omega (arith, p .0), p .1 (l .loop .i) (c .loop-test .taken))
+
 loop-again : tie.Need-loop-again Inv-loop μ-loop
 loop-again c =
-    let b = c .before .before .before .before .before in
-    let s = b .before .before in
-    let f = actCell (cutAct (s .args .s) (s .args .cut)) in
-    let held = c .before .before .before .cell-at in
-    let same = ap (λ (x : TurnCell). sameCell x (f (b .loop .i) x)) (sym (held .ensures)) ∙ ap (sameCell (held .result)) (sym (c .before .before .cell-after .ensures)) ∙ sym (c .before .same-cell .ensures) in
-    ⊎-elim
-    (λ w. (omega arith, omega arith, w .1 ∙ (ap (λ (j : ℕ). j + 1) (b .loop .inv .2) ∙ sym (ap length (made f (s .args .cells .now) (b .loop .i) (same ∙ not-true _ (w .0 .taken))) ∙ length-append (changesTo f (s .args .cells .now) (b .loop .i)) (changeOf f (s .args .cells .now) (b .loop .i) ∷ [])))))
-    (λ w. (omega arith, omega arith, w .1 ∙ (b .loop .inv .2 ∙ sym (ap length (kept f (s .args .cells .now) (b .loop .i) (same ∙ not-false _ (w .0 .left)))))))
-    (c .if1 .came)
+    let l = c .before .before in
+    let a = l .before .before .before .before .args in
+    let f = actCell (sourceAct (a .s) (a .source) (a .values .now) (a .there .now)) in
+    let e : c .count-bin .result ≡ l .loop .k + length (changeAt f (a .cells .now) (l .loop .i)) = c .count-bin .ensures in
+    let o : length (changeAt f (a .cells .now) (l .loop .i)) ≤ 1 = one-at-most f (a .cells .now) (l .loop .i) (l .loop .k) in (
+      omega arith,
+      omega (arith, e, o, l .loop .inv .1),
+      e ∙ ap (λ (j : ℕ). j + length (changeAt f (a .cells .now) (l .loop .i))) (l .loop .inv .2) ∙ sym (ap length (changes-more f (a .cells .now) (l .loop .i)) ∙ length-append (changesTo f (a .cells .now) (l .loop .i)) (changeAt f (a .cells .now) (l .loop .i))),
+    )
 
 returns : tie.Need-returns Inv-loop μ-loop
 returns c =
-    let s = c .before .before .before in
-    let e : c .before .loop .i ≡ s .args .n = omega arith in
-    c .before .loop .inv .2 ∙ ap (λ (j : ℕ). length (changesTo (actCell (cutAct (s .args .s) (s .args .cut))) (s .args .cells .now) j)) e
+    let l = c .before in
+    let a = l .before .before .before .before .args in
+    let e : l .loop .i ≡ a .n = omega arith in
+    l .loop .inv .2 ∙ ap (λ (j : ℕ). length (changesTo (actCell (sourceAct (a .s) (a .source) (a .values .now) (a .there .now))) (a .cells .now) j)) e
 
 pub count-spec : {M : Type 1} → statement M
 count-spec =
@@ -51,10 +54,7 @@ count-spec =
     Inv-loop
     μ-loop
     loop-holds
-    (λ c κs. search needs)
-    (λ c κs. search needs)
-    (λ c κs. search needs)
-    (λ c. search needs)
+    count-bin-requires
     (λ c. search needs)
     (λ c. search needs)
     loop-again

@@ -1,0 +1,48 @@
+-- `cuts::list::write_bin` meets its contract. Assumes nothing.
+use mathlib.Core.Path.{_≡_, sym, ap, _∙_, subst}
+use borrow.Author.Needs.{needs}
+use Rattle.stock.specs.declared.TurnChange.{TurnChange}
+use Rattle.reach.specs.Low.{lowPaper}
+use Rattle.reach.specs.Reach.{actCell}
+use Rattle.records.specs.Change.{changeOf, Listed}
+use Rattle.records.proofs.Placed.{list-same}
+use Rattle.cuts.specs.Source.{sourceAct}
+use Rattle.cuts.proofs.EachBin.{bin-passed, bin-after, listed-as}
+use Rattle.cuts.proofs.list.write_bin.Statement.{statement}
+use Rattle.cuts.proofs.list.write_bin.Tie as tie
+
+returns : tie.Need-returns
+unfolding lowPaper
+returns c =
+    let l = c .before .before in
+    let s = l .before .before .before .before .before .before .before in
+    let a = s .args in
+    list-same _ _ _ _ (bin-passed (sourceAct (a .s) (a .source) (a .values .now) (a .there .now)) (a .cells .now) (a .i) _ (l .before .reach-at .ensures) (sym (l .low-of .ensures) ∙ ap lowPaper (c .enum-told2 .given .1)) (s .pre .1))
+
+returns-2 : tie.Need-returns-2
+returns-2 c =
+    let d = c .before .before .before .before in
+    let u = d .before .before .before in
+    let b = u .before .before in
+    let r = b .before .before .before .before in
+    let a = r .before .before .before .before .before .before .args in
+    let act = sourceAct (a .s) (a .source) (a .values .now) (a .there .now) in
+    let after = bin-after act (a .cells .now) (a .i) _ _ _ _ (u .before .side-of .ensures) (r .reach-at .ensures) (b .cell-at .ensures) (u .cut-cell .ensures) in
+    listed-as (actCell act) (a .cells .now) (a .i) _ _ _ _ (b .cell-at .ensures) after (d .list-change .ensures)
+
+pub write-bin-spec : {M : Type 1} → statement M
+write-bin-spec =
+    tie.close
+    (tie.spec
+    (λ c κs. search needs)
+    (λ c κs. search needs)
+    (λ c. search needs)
+    (λ c. search needs)
+    returns
+    (λ c κs. search needs)
+    (λ c κs. search needs)
+    (λ c κs. search needs)
+    (λ c κs. search needs)
+    (λ c. search needs)
+    (λ c. search needs)
+    returns-2)

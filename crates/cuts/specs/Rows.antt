@@ -1,0 +1,130 @@
+-- Low and high of all bins in two lent rows, two places a bin: a number, and whether it is there. A pass over the bins fills them, cut by cut, and where the bins' ends fall tells it which bins to visit. Assumes nothing.
+use mathlib.Core.Path.{_≡_}
+use mathlib.Core.Bool.{Bool, true, false, not}
+use mathlib.Core.List.{List}
+use mathlib.Core.Option.{Option, none, some}
+use Prim.Native.Nat.{ℕ, zero, suc, _+_, _*_, _≤_, _<_}
+use lib.Dec.{T, ltb}
+use lib.ListN.{length, getD}
+use lib.Ieee.{Float, binary64, nan, le, lt}
+use Rattle.refusals.specs.Limits.{cellLimit}
+use Rattle.floats.specs.Pick.{pick}
+use Rattle.floats.specs.Kinds.{Number}
+use Rattle.stock.specs.declared.TurnStockSpec.{TurnStockSpec}
+use Rattle.stock.specs.declared.TurnSide.{TurnSide}
+use Rattle.stock.specs.Bin.{binOf}
+use Rattle.reach.specs.Low.{Found, lowPaper}
+use Rattle.reach.specs.Reach.{Reached, reachFrom, Act}
+use Rattle.nose.specs.declared.Track.{Track}
+use Rattle.nose.specs.Nose.{noseTo}
+use Rattle.nose.specs.Track.{sampleAt, stepOf, withTrack}
+use Rattle.polygon.specs.Polygon.{lowestOf, extentOf}
+use Rattle.cuts.specs.declared.across.Held.{Held}
+
+-- ---- the rows
+-- the radius at place k, or none
+unfoldable pub lowAt : List Float → List Bool → ℕ → Option Float
+lowAt values there k = pick (getD there k false) (some (getD values k nan)) none
+
+-- low and high of bin i
+abbrev pub rowAt : List Float → List Bool → ℕ → Found
+rowAt values there i = record { low = lowAt values there (2 * i); high = lowAt values there (2 * i + 1) }
+
+-- the cut that they say
+abbrev pub rowsAct : TurnSide → List Float → List Bool → Act
+rowsAct side values there = record { side = side; at = λ i. reachFrom side (rowAt values there i .low) (rowAt values there i .high) }
+
+-- they have n bins at least
+pub record Room (n : ℕ) (values : List Float) (there : List Bool) : Type 0 where
+  pub numbers : 2 * n ≤ length values
+  pub flags : 2 * n ≤ length there
+
+-- place k holds l, and the others what they held
+pub record PutLow (xs : List Float) (is : List Bool) (ys : List Float) (js : List Bool) (k : ℕ) (l : Option Float) : Type 0 where
+  pub here : lowAt ys js k ≡ l
+  pub others : (m : ℕ) → (m ≡ k → ⊥) → lowAt ys js m ≡ lowAt xs is m
+
+-- bin i holds f, and the others what they held
+pub record PutRow (old new : ℕ → Found) (i : ℕ) (f : Found) : Type 0 where
+  pub here : new i ≡ f
+  pub others : (j : ℕ) → (j ≡ i → ⊥) → new j ≡ old j
+
+-- a bin without low and high
+abbrev pub noRow : Found
+noRow = record { low = none; high = none }
+
+-- the bins from i to before n are empty
+abbrev pub Empty : ℕ → ℕ → (ℕ → Found) → Type 0
+Empty i n old = (j : ℕ) → i ≤ j → j < n → old j ≡ noRow
+
+-- ---- where a line falls among the bins
+-- bin j ends before e; or it does not start after e
+unfoldable pub passedOf : TurnStockSpec → Float → Bool → ℕ → Bool
+passedOf s e ends j = pick ends (lt (binOf s j .zb) e) (not (lt e (binOf s j .za)))
+
+-- the bin before g is passed, if there is one
+unfoldable pub beforeOf : TurnStockSpec → Float → Bool → ℕ → Bool
+beforeOf s e ends zero = true
+beforeOf s e ends (suc g) = passedOf s e ends g
+
+-- bin g of n is one, and is passed
+unfoldable pub onwardOf : TurnStockSpec → Float → Bool → ℕ → ℕ → Bool
+onwardOf s e ends n g = pick (ltb g n) (passedOf s e ends g) false
+
+-- both ends of the n bins are numbers, and rise with the bins
+pub record Graded (s : TurnStockSpec) (n : ℕ) : Type 0 where
+  pub few : n ≤ cellLimit
+  pub starts : (i : ℕ) → i < n → Number binary64 (binOf s i .za)
+  pub stops : (i : ℕ) → i < n → Number binary64 (binOf s i .zb)
+  pub start-rises : (i j : ℕ) → i ≤ j → j < n → T (le (binOf s i .za) (binOf s j .za))
+  pub stop-rises : (i j : ℕ) → i ≤ j → j < n → T (le (binOf s i .zb) (binOf s j .zb))
+
+-- P holds of the first r of n numbers, and of no other
+pub record Split (P : ℕ → Bool) (n r : ℕ) : Type 0 where
+  pub within : r ≤ n
+  pub below : (j : ℕ) → j < r → P j ≡ true
+  pub above : (j : ℕ) → r ≤ j → j < n → P j ≡ false
+
+-- ---- a nose, segment by segment
+-- one segment over one bin that it reaches
+abbrev pub stepped : TurnStockSpec → Track → ℕ → Found → Found
+stepped s t j acc = stepOf acc (t .low) (t .shy) (binOf s j) (sampleAt t (binOf s j .za)) (sampleAt t (binOf s j .zb))
+
+-- one segment over the bins from first to before last
+pub record Stepped (s : TurnStockSpec) (t : Track) (first last : ℕ) (old new : ℕ → Found) : Type 0 where
+  pub inside : (j : ℕ) → first ≤ j → j < last → new j ≡ stepped s t j (old j)
+  pub under : (j : ℕ) → j < first → new j ≡ old j
+  pub over : (j : ℕ) → last ≤ j → new j ≡ old j
+
+-- one segment over all n bins
+abbrev pub Passed : TurnStockSpec → ℕ → Track → (ℕ → Found) → (ℕ → Found) → Type 0
+Passed s n t old new = (j : ℕ) → j < n → new j ≡ withTrack (old j) t (binOf s j)
+
+-- every bin holds what the rule has of it, over the first k segments
+abbrev pub Filled : TurnStockSpec → ℕ → TurnSide → Float → List Float → ℕ → (ℕ → Found) → Type 0
+Filled s n side rn xs k new = (j : ℕ) → j < n → new j ≡ noseTo side rn xs (binOf s j) k
+
+-- ---- a polygon, bin by bin
+-- its extent is from lo to hi
+abbrev pub Extends : List Float → Float → Float → Type 0
+Extends ps lo hi = extentOf ps ≡ some (record { lo = lo; hi = hi })
+
+-- the sample in hand is the lowest on its line
+abbrev pub Sampled : List Float → TurnSide → Held → Type 0
+Sampled ps side h = lowPaper (h .low) ≡ lowestOf ps side (h .at)
+
+-- the row of bin i says what is reached there, and the others what they said
+pub record Crosses (side : TurnSide) (reach : ℕ → Reached) (old new : ℕ → Found) (i : ℕ) : Type 0 where
+  pub here : reachFrom side (new i .low) (new i .high) ≡ reach i
+  pub others : (j : ℕ) → (j ≡ i → ⊥) → new j ≡ old j
+
+-- the same of the rows from first to before last
+pub record Crossed (side : TurnSide) (reach : ℕ → Reached) (first last : ℕ) (old new : ℕ → Found) : Type 0 where
+  pub inside : (j : ℕ) → first ≤ j → j < last → reachFrom side (new j .low) (new j .high) ≡ reach j
+  pub under : (j : ℕ) → j < first → new j ≡ old j
+  pub over : (j : ℕ) → last ≤ j → new j ≡ old j
+
+-- ---- any cut
+-- in each of n bins the rows say what the cut reaches there
+abbrev pub Says : Act → ℕ → (ℕ → Found) → Type 0
+Says a n new = (j : ℕ) → j < n → reachFrom (a .side) (new j .low) (new j .high) ≡ a .at j

@@ -1,0 +1,101 @@
+-- The third demand speaks of jobs that there are: two threads over a whole bar, with what they leave; and why a bin that both sides reach is left out. Assumes nothing.
+use mathlib.Core.Path.{_≡_, refl}
+use mathlib.Core.List.{List, [], _∷_, List·Permᴰ·swap}
+use Prim.Native.Nat.{zero, suc}
+use lib.Dec.{T}
+use native.Mathlib.Omega.{arith}
+use lib.Ieee
+use lib.Ieee.{Float, binary64, ofBits, fits}
+use Rattle.floats.specs.Each.{Each}
+use Rattle.stock.proofs.Bins.{HeldList}
+use Rattle.refusals.specs.Paper.{answers, demand, onward}
+use Rattle.floats.specs.Pick.{pick}
+use Rattle.floats.specs.Numbers.{zero64, leastOf, greatestOf, cleanOf, minusZero}
+use Rattle.numbers.specs.Whole.{wholeUp}
+use Rattle.stock.specs.declared.TurnStockSpec.{TurnStockSpec}
+use Rattle.stock.specs.declared.TurnSide.the-variants.{Outer}
+use Rattle.stock.specs.Spec.{cleanSpec, specGood, cellsOf}
+use Rattle.stock.specs.Bin.{binOf}
+use Rattle.stock.specs.Cell.{cellFits, fitTo, cellsFit, stockOf, putCell}
+use Rattle.reach.specs.Reach.{deeper, shallower, deepOf, sureOf, limitOf, withPair, ownOf, cutBy, cutCell}
+use Rattle.records.specs.Change.{changeAt, changesTo}
+use Rattle.cuts.specs.declared.Cut.the-variants.{Thread, Drill}
+use Rattle.cuts.specs.Cut.{misses, drillAt, threadReach, drillReach, cutReach, cutGood, cleanCut}
+use Rattle.cuts.specs.Preview.{previewCut}
+use Rattle.changes.specs.Commit.{appliesTo, passes, eachPasses, risesAfter, rises, passAll, Committed, commitIn, commitOf}
+use Rattle.demands.specs.Job.{turned, turnedAll}
+use Rattle.demands.specs.Tool.{Tool, single, toolGood, turnedTools, ToolsJob}
+use Rattle.demands.proofs.Tools.{tools-any-order}
+
+abbrev three : Float
+three = ofBits binary64 0x4008000000000000
+
+abbrev four : Float
+four = ofBits binary64 0x4010000000000000
+
+abbrev seven : Float
+seven = ofBits binary64 0x401C000000000000
+
+abbrev nine : Float
+nine = ofBits binary64 0x4022000000000000
+
+abbrev ten : Float
+ten = ofBits binary64 0x4024000000000000
+
+-- 01's bar Q: z 0..9, outer 10, no bore, cells of 3
+abbrev bar : TurnStockSpec
+bar = record { «z_min_mm» = zero64; «z_max_mm» = nine; «outer_radius_mm» = ten; «bore_radius_mm» = zero64; «cell_mm» = three; «max_cells» = 4096 }
+
+abbrev whole : Committed
+whole = record { cells = ten ∷ ten ∷ zero64 ∷ zero64 ∷ ten ∷ ten ∷ zero64 ∷ zero64 ∷ ten ∷ ten ∷ zero64 ∷ zero64 ∷ []; generation = 0 }
+
+-- a thread all along, and a deeper one from 3 on
+abbrev long : Tool
+long = single (Thread zero64 nine four)
+
+abbrev short : Tool
+short = single (Thread three nine three)
+
+held : (xs : List Float) → Each (λ (x : Float). T (fits binary64 x)) xs → HeldList xs
+unfolding fits
+held [] ps k = tt
+held (x ∷ l) ps zero = ps .0
+held (x ∷ l) ps (suc k) = held l (ps .1) k
+
+-- the demand applies to them
+pub job : ToolsJob bar 3 3 whole (long ∷ short ∷ [])
+unfolding stockOf onward demand cellsOf cleanSpec specGood cleanOf minusZero pick wholeUp cellsFit fitTo cellFits toolGood cutGood cleanCut Ieee.ofBits Ieee.ofFields Ieee.odd Ieee.eq Ieee.lt Ieee.le Ieee.div Ieee.sub Ieee.add Ieee.neg Ieee.sum Ieee.round Ieee.units Ieee.size Ieee.span Ieee.climb Ieee.fits
+job =
+    record {
+      spec-held = record { z-min = tt; z-max = tt; outer = tt; bore = tt; cell = tt };
+      cells-held = held (whole .cells) (tt, (tt, (tt, (tt, (tt, (tt, (tt, (tt, (tt, (tt, (tt, (tt, tt))))))))))));
+      tools-held = ((tt, tt, tt), ((tt, tt, tt), tt));
+      stock = refl;
+      good = (refl, (refl, tt));
+      space = omega arith;
+      spare = omega arith;
+    }
+
+-- so either order gives the same
+pub same : turnedTools bar 3 whole (long ∷ short ∷ []) ≡ turnedTools bar 3 whole (short ∷ long ∷ [])
+unfolding cleanCut
+same = tools-any-order (List·Permᴰ·swap refl refl) job Outer (refl, (refl, tt))
+
+-- and this is what they leave, worked out by the rules: lower is 4 in the first bin and 3 in the two others
+pub left : turnedTools bar 3 whole (long ∷ short ∷ []) ≡ answers (record { cells = four ∷ ten ∷ zero64 ∷ zero64 ∷ three ∷ ten ∷ zero64 ∷ zero64 ∷ three ∷ ten ∷ zero64 ∷ zero64 ∷ []; generation = 2 })
+unfolding turnedAll turned previewCut commitOf commitIn passAll rises risesAfter eachPasses passes appliesTo putCell changesTo changeAt cutCell cutBy ownOf withPair deeper shallower deepOf sureOf limitOf cutReach threadReach misses binOf stockOf onward demand cellsOf cleanSpec specGood cleanOf minusZero pick wholeUp cellsFit fitTo cellFits cutGood cleanCut leastOf greatestOf Ieee.ofBits Ieee.ofFields Ieee.odd Ieee.eq Ieee.lt Ieee.le Ieee.div Ieee.sub Ieee.add Ieee.mul Ieee.neg Ieee.sum Ieee.round Ieee.units Ieee.ofInt Ieee.size Ieee.span Ieee.climb
+left = refl
+
+-- ---- a bin that both sides reach: the first to reach it is floor or ceiling of the second
+abbrev bored : Tool
+bored = single (Drill (ofBits binary64 0xBFF0000000000000) seven zero64)
+
+-- threaded first, the thread goes to 4
+pub threaded-first : turnedTools bar 3 whole (long ∷ bored ∷ []) ≡ answers (record { cells = four ∷ ten ∷ seven ∷ seven ∷ four ∷ ten ∷ seven ∷ seven ∷ four ∷ ten ∷ seven ∷ seven ∷ []; generation = 2 })
+unfolding turnedAll turned previewCut commitOf commitIn passAll rises risesAfter eachPasses passes appliesTo putCell changesTo changeAt cutCell cutBy ownOf withPair deeper shallower deepOf sureOf limitOf cutReach threadReach drillReach drillAt misses binOf stockOf onward demand cellsOf cleanSpec specGood cleanOf minusZero pick wholeUp cellsFit fitTo cellFits cutGood cleanCut leastOf greatestOf Ieee.ofBits Ieee.ofFields Ieee.odd Ieee.eq Ieee.lt Ieee.le Ieee.div Ieee.sub Ieee.add Ieee.mul Ieee.neg Ieee.sum Ieee.round Ieee.units Ieee.ofInt Ieee.size Ieee.span Ieee.climb
+threaded-first = refl
+
+-- bored first, it stops at 7
+pub bored-first : turnedTools bar 3 whole (bored ∷ long ∷ []) ≡ answers (record { cells = seven ∷ ten ∷ seven ∷ seven ∷ seven ∷ ten ∷ seven ∷ seven ∷ seven ∷ ten ∷ seven ∷ seven ∷ []; generation = 2 })
+unfolding turnedAll turned previewCut commitOf commitIn passAll rises risesAfter eachPasses passes appliesTo putCell changesTo changeAt cutCell cutBy ownOf withPair deeper shallower deepOf sureOf limitOf cutReach threadReach drillReach drillAt misses binOf stockOf onward demand cellsOf cleanSpec specGood cleanOf minusZero pick wholeUp cellsFit fitTo cellFits cutGood cleanCut leastOf greatestOf Ieee.ofBits Ieee.ofFields Ieee.odd Ieee.eq Ieee.lt Ieee.le Ieee.div Ieee.sub Ieee.add Ieee.mul Ieee.neg Ieee.sum Ieee.round Ieee.units Ieee.ofInt Ieee.size Ieee.span Ieee.climb
+bored-first = refl

@@ -1,0 +1,5 @@
+pub mod InTurn
+pub mod Third
+pub mod Tools
+pub mod Calls
+pub mod Example

@@ -1,0 +1,31 @@
+// What a job of cuts leaves, as theorems about the rules that the calls are proved to follow.
+//
+// There is no code here. A job is a list of cuts over one stock, each previewed and then committed.
+// The rules of a preview and of a commit are definitions of the crates below (`previewCut`,
+// `previewOf`, `commitOf`, `applyOf`), and each call's promise says that it answers by its rule.
+// `specs/Tool` names the cuts. `specs/Run` is a run of the calls, by their promises. `specs/Job` puts
+// the rules one after the other, refusals included.
+//
+// Demand 3 of a run of calls (`proofs/Calls`), over a stock that is not refused:
+// - `run-leaves`: each bin that one side only reaches is left with the closed form: each bound the
+//   deepest of its start and the cuts' own bounds, those after floor or ceiling, then the pair
+//   ordered.
+// - `run-any-order`: cuts of one side leave the same cells and generation in every order.
+// - `run-any-order-bin`: with both sides in the list, each bin that one side only reaches is left
+//   with the same cell.
+// - `run-however-often`: the same cuts, each made as often as one likes, leave the same cells.
+//
+// By the rules alone (`proofs/Tools`: `tools-leave`, `tools-any-order`, `tools-any-order-bin`,
+// `tools-however-often`) the same holds, and no cut is refused: where every cut is in its domain,
+// there is room for a change in every cell and there are generations to spare. `proofs/InTurn` and
+// `proofs/Third` have it for any preview whose cut reaches plain numbers, so that a new kind of cut
+// is one case more in `Tool`.
+//
+// What a preview proposes, a commit on the same stock accepts while generations last:
+// `preview-commits`, and through the lent lists `lent-turned` and `lent-commits` (`proofs/InTurn`).
+// A difference, committed, gives the second stock's cells where that only removes:
+// `difference-committed` (crate `changes`, `proofs/Becomes`).
+//
+// `proofs/Example` has a job to which this applies, with what it leaves, and a bin that both sides
+// reach, where the order does show. Crate `reach` says in `proofs/Forms` what a cut and the closed
+// form are for each side in least and greatest, and in `proofs/Deepest` what a deepest bound is.

@@ -1,0 +1,3 @@
+pub mod Segments
+pub mod Tracks
+pub mod Noses

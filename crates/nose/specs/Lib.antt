@@ -1,0 +1,3 @@
+pub mod Capsule
+pub mod Nose
+pub mod Track

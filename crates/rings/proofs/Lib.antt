@@ -1,0 +1,13 @@
+pub mod Anywhere
+pub mod Edges
+pub mod FiniteTest
+pub mod Flat
+pub mod Prefix
+pub mod InHand
+pub mod Adding
+pub mod Removing
+pub mod Cover
+pub mod Fitting
+pub mod Boxes
+pub mod Covering
+pub mod Taken

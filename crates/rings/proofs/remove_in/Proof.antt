@@ -1,0 +1,79 @@
+-- `rings::remove_in` meets its contract. Assumes nothing.
+use native.Mathlib.Omega.{arith}
+use mathlib.Core.Path.{_∙_, sym, ap}
+use borrow.Author.Tests.{not-true, not-false}
+use Rattle.rings.specs.Ring.{filled}
+use Rattle.rings.proofs.Removing.{fits-within, refuses-4, refuses-10, keeps-all, refuses-12, refuses-11, stores-ring}
+use borrow.Author.Needs.{needs}
+use Rattle.rings.proofs.remove_in.Statement.{statement}
+use Rattle.rings.proofs.remove_in.Tie as tie
+
+returns : tie.Need-returns
+returns c =
+    let start = c .before .before .before .before in
+    refuses-4 (start .args .e) (start .args .rings .now) (start .args .count) (start .args .generation) (start .args .ring) (sym (c .before .count-fits .ensures) ∙ not-true _ (c .if1 .taken))
+
+returns-2 : tie.Need-returns-2
+returns-2 c =
+    let start = c .before .before .before .before .before .before in
+    refuses-10 (start .args .e) (start .args .rings .now) (start .args .count) (start .args .generation) (start .args .ring) (sym (c .before .before .before .count-fits .ensures) ∙ not-false _ (c .before .before .if1 .left)) (sym (c .before .is-finite-ring .ensures) ∙ not-true _ (c .if2 .taken))
+
+returns-3 : tie.Need-returns-3
+returns-3 c =
+    let start = c .before .before .before .before .before .before .before .before .before in
+    keeps-all (start .args .e) (start .args .rings .now) (start .args .count) (start .args .generation) (start .args .ring) (sym (c .before .before .before .before .before .before .count-fits .ensures) ∙ not-false _ (c .before .before .before .before .before .if1 .left)) (sym (c .before .before .before .before .is-finite-ring .ensures) ∙ not-false _ (c .before .before .before .if2 .left)) (ap filled (sym (c .before .before .clipped .ensures)) ∙ sym (c .before .is-filled .ensures) ∙ not-true _ (c .if3 .taken))
+
+returns-4 : tie.Need-returns-4
+returns-4 c =
+    let start = c .before .before .before .before .before .before .before .before .before .before in
+    refuses-12 (start .args .e) (start .args .rings .now) (start .args .count) (start .args .generation) (start .args .ring) (sym (c .before .before .before .before .before .before .before .count-fits .ensures) ∙ not-false _ (c .before .before .before .before .before .before .if1 .left)) (sym (c .before .before .before .before .before .is-finite-ring .ensures) ∙ not-false _ (c .before .before .before .before .if2 .left)) (ap filled (sym (c .before .before .before .clipped .ensures)) ∙ sym (c .before .before .is-filled .ensures) ∙ not-false _ (c .before .if3 .left)) (c .if4 .taken)
+
+add-ring-requires : tie.Need-add-ring-requires
+add-ring-requires c κs =
+    let start = c .before .before .before .before .before .before .before .before .before .before .before .before in
+    let h = fits-within (start .args .e) (start .args .rings .now) (start .args .count) (sym (c .before .before .before .before .before .before .before .before .before .count-fits .ensures) ∙ not-false _ (c .before .before .before .before .before .before .before .before .if1 .left)) in
+    let r = c .room-of .ensures in
+    (omega arith, omega arith, omega arith)
+
+returns-5 : tie.Need-returns-5
+returns-5 c =
+    let start = c .before .before .before .before .before .before .before .before .before .before .before .before .before .before .before .before .before .before in
+    let clipped = c .before .before .before .before .before .before .before .before .before .before .before .clipped in
+    let room-of = c .before .before .before .before .before .before .room-of in
+    let add-ring = c .before .before .before .before .before .add-ring in
+    refuses-11 (start .args .e) (start .args .rings .now) (start .args .count) (start .args .generation) (start .args .ring) (sym (c .before .before .before .before .before .before .before .before .before .before .before .before .before .before .before .count-fits .ensures) ∙ not-false _ (c .before .before .before .before .before .before .before .before .before .before .before .before .before .before .if1 .left)) (sym (c .before .before .before .before .before .before .before .before .before .before .before .before .before .is-finite-ring .ensures) ∙ not-false _ (c .before .before .before .before .before .before .before .before .before .before .before .before .if2 .left)) (ap filled (sym (clipped .ensures)) ∙ sym (c .before .before .before .before .before .before .before .before .before .before .is-filled .ensures) ∙ not-false _ (c .before .before .before .before .before .before .before .before .before .if3 .left)) (c .before .before .before .before .before .before .before .before .if4 .left) (clipped .result) (clipped .ensures) (room-of .result) (room-of .ensures) (add-ring .result) _ (add-ring .ensures) (c .before .added .given .0 .0) (c .before .added .given .1)
+
+returns-6 : tie.Need-returns-6
+returns-6 c =
+    let start = c .before .before .before .before .before .before .before .before .before .before .before .before .before .before .before .before .before .before in
+    let clipped = c .before .before .before .before .before .before .before .before .before .before .before .clipped in
+    let room-of = c .before .before .before .before .before .before .room-of in
+    let add-ring = c .before .before .before .before .before .add-ring in
+    let added2 = c .before .added2 in
+    stores-ring (start .args .e) (start .args .rings .now) (start .args .count) (start .args .generation) (start .args .ring) (sym (c .before .before .before .before .before .before .before .before .before .before .before .before .before .before .before .count-fits .ensures) ∙ not-false _ (c .before .before .before .before .before .before .before .before .before .before .before .before .before .before .if1 .left)) (sym (c .before .before .before .before .before .before .before .before .before .before .before .before .before .is-finite-ring .ensures) ∙ not-false _ (c .before .before .before .before .before .before .before .before .before .before .before .before .if2 .left)) (ap filled (sym (clipped .ensures)) ∙ sym (c .before .before .before .before .before .before .before .before .before .before .is-filled .ensures) ∙ not-false _ (c .before .before .before .before .before .before .before .before .before .if3 .left)) (c .before .before .before .before .before .before .before .before .if4 .left) (clipped .result) (clipped .ensures) (room-of .result) (room-of .ensures) (add-ring .result) _ (add-ring .ensures) (added2 .given .0 .0) (added2 .given .1)
+
+pub remove-in-spec : {M : Type 1} → statement M
+remove-in-spec =
+    tie.close
+    (tie.spec
+    (λ c κs. search needs)
+    (λ c. search needs)
+    returns
+    (λ c κs. search needs)
+    (λ c. search needs)
+    returns-2
+    (λ c κs. search needs)
+    (λ c κs. search needs)
+    (λ c. search needs)
+    returns-3
+    (λ c. search needs)
+    returns-4
+    (λ c κs. search needs)
+    add-ring-requires
+    (λ c. search needs)
+    (λ c. search needs)
+    (λ c. search needs)
+    (λ c. search needs)
+    returns-5
+    (λ c. search needs)
+    returns-6)

@@ -1,0 +1,41 @@
+-- `rings::store::add_ring` meets its contract. Assumes nothing.
+use native.Mathlib.Omega.{arith}
+use mathlib.Core.Path.{_∙_, sym}
+use borrow.Author.Tests.{not-true, not-false}
+use Rattle.rings.proofs.Adding.{adds-none, adds-full, adds-whole}
+use borrow.Author.Needs.{needs}
+use Rattle.rings.proofs.store.add_ring.Statement.{statement}
+use Rattle.rings.proofs.store.add_ring.Tie as tie
+
+returns : tie.Need-returns
+returns c =
+    let start = c .before .before .before in
+    adds-none (start .args .rings .now) (start .args .room) (start .args .count) (start .args .c) (start .pre .0) (start .pre .1) (sym (c .before .is-filled .ensures) ∙ not-true _ (c .if1 .taken))
+
+returns-3 : tie.Need-returns-3
+returns-3 c =
+    let start = c .before .before .before .before .before .before .before in
+    adds-full (start .args .rings .now) (start .args .room) (start .args .count) (start .args .c) (start .pre .0) (start .pre .1) (sym (c .before .before .before .before .before .is-filled .ensures) ∙ not-false _ (c .before .before .before .before .if1 .left)) (sym (c .before .before .apart-from .ensures) ∙ not-false _ (c .before .if2 .left)) (c .if3 .taken)
+
+returns-4 : tie.Need-returns-4
+returns-4 c =
+    let start = c .before .before .before .before .before .before .before .before .before .before .before in
+    let k = adds-whole (start .args .rings .now) (start .args .room) (start .args .count) (start .args .c) (start .pre .0) (start .pre .1) (sym (c .before .before .before .before .before .before .before .before .before .is-filled .ensures) ∙ not-false _ (c .before .before .before .before .before .before .before .before .if1 .left)) (sym (c .before .before .before .before .before .before .apart-from .ensures) ∙ not-false _ (c .before .before .before .before .before .if2 .left)) (c .before .before .before .before .if3 .left) in
+    record { answer = k .answer; store = c .before .before .write-ring .ensures ∙ k .store }
+
+pub add-ring-spec : {M : Type 1} → statement M
+add-ring-spec =
+    tie.close
+    (tie.spec
+    (λ c κs. search needs)
+    returns
+    (λ c κs. omega arith)
+    (λ c κs. search needs)
+    (λ c. search needs)
+    (λ c. c .before .before .add-few-pieces .ensures)
+    (λ c. search needs)
+    returns-3
+    (λ c κs. omega arith)
+    (λ c. search needs)
+    (λ c. search needs)
+    returns-4)

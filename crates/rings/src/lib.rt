@@ -1,0 +1,203 @@
+// Rings taken from the inside of a stock, as a face groove takes them: a store of which no two share a
+// point.
+//
+// A ring is what a half-open rectangle sweeps about the axis: z0 <= z < z1, r0 <= r < r1. A new ring is
+// clipped to the stock's extent, z_min..z_max and 0..outer. Each stored ring then leaves of every piece
+// in hand the parts about it: before it and behind it in z, inside it and outside it in r. What all of
+// them leave is stored behind them, and nothing else. Rings are lent flat, four numbers each.
+ghost use mathlib.Core.Path.{_≡_};
+ghost use Prim.Native.Nat.{_*_, _/_, _≤_};
+ghost use lib.ListN.{length};
+ghost use Rattle.floats.specs.Pick.{pick};
+ghost use Rattle.stock.specs.Spec.{cleanSpec};
+ghost use Rattle.rings.specs.Store.{extentOf, ringsOf, countFits, ringsGood, allGood, raisedBy};
+ghost use Rattle.rings.specs.Remove.{StoresAs, removeAllIn, removeRings, removeIn, removeRing, Removes};
+use refusals::LAST_GENERATION;
+use refusals::Refusal;
+use stock::Counted;
+use stock::TurnStockSpec;
+
+mod fit;
+mod hand;
+mod lent;
+mod shape;
+mod store;
+
+// z0 <= z < z1, r0 <= r < r1.
+pub struct Ring {
+    pub z0: f64,
+    pub z1: f64,
+    pub r0: f64,
+    pub r1: f64,
+}
+
+// One ring taken: the count of rings and the generation afterwards.
+pub enum Removed {
+    Stored(usize, u64),
+    Refused(Refusal),
+}
+
+// Rings stored: how many there are then.
+pub enum StoredAs {
+    Rings(usize),
+    Refused(Refusal),
+}
+
+// z_min..z_max and 0..outer, -0.0 read as +0.0.
+fn extent(spec: TurnStockSpec) -> Ring
+    ensures { λ r. ⌜ r ≡ extentOf (cleanSpec spec) ⌝ }
+{
+    let s = stock::clean_spec(spec);
+    Ring {
+        z0: s.z_min_mm,
+        z1: s.z_max_mm,
+        r0: 0.0,
+        r1: s.outer_radius_mm,
+    }
+}
+
+// What refusal 4 asks of the stored rings, in a stock whose spec is checked already.
+pub fn rings_fit(spec: TurnStockSpec, rings: &[f64], count: usize) -> bool
+    ensures { λ r. ⌜ r ≡ countFits (extentOf (cleanSpec spec)) (now (rings .entry)) count ⌝ }
+{
+    fit::count_fits(extent(spec), rings, count)
+}
+
+// A ring within the extent e; 4, 10, 12, 11.
+fn remove_in(e: Ring, rings: &mut [f64], count: usize, generation: u64, ring: Ring) -> Removed
+    ensures { λ r. ⌜ Removes (now (rings .entry)) (removeIn e (now (rings .entry)) count generation ring) r (now (rings .exit)) ⌝ }
+{
+    if !fit::count_fits(e, rings, count) {
+        return Removed::Refused(Refusal::StoredRings);
+    }
+    if !shape::is_finite_ring(ring) {
+        return Removed::Refused(Refusal::RingOutside);
+    }
+    let c = shape::clipped(e, ring);
+    if !shape::is_filled(c) {
+        return Removed::Stored(count, generation);
+    }
+    if LAST_GENERATION <= generation {
+        return Removed::Refused(Refusal::GenerationsSpent);
+    }
+    let added = store::add_ring(rings, lent::room_of(rings.len()), count, c);
+    match added {
+        StoredAs::Refused(r) => Removed::Refused(r),
+        StoredAs::Rings(n) => Removed::Stored(n, generation + 1),
+    }
+}
+
+// A ring certainly removed inside the material: the count of rings and the generation afterwards;
+// 1, 2, 4, 10, 12, 11.
+pub fn remove_ring(
+    spec: TurnStockSpec,
+    rings: &mut [f64],
+    count: usize,
+    generation: u64,
+    ring: Ring,
+) -> Removed
+    ensures { λ r. ⌜ Removes (now (rings .entry)) (removeRing spec (now (rings .entry)) count generation ring) r (now (rings .exit)) ⌝ }
+{
+    let counted = stock::validate(spec);
+    match counted {
+        Counted::Refused(r) => Removed::Refused(r),
+        Counted::Cells(_) => remove_in(extent(spec), rings, count, generation, ring),
+    }
+}
+
+// All within the extent e, one after the other, decided before anything is written; 4, 11.
+fn remove_all_in(e: Ring, rings: &mut [f64], count: usize, removed: &[f64]) -> StoredAs
+    ensures { λ r. ⌜ StoresAs (now (rings .entry)) (removeAllIn e (now (rings .entry)) count (now (removed .entry))) r (now (rings .exit)) ⌝ }
+{
+    let room = lent::room_of(rings.len());
+    if room < count {
+        return StoredAs::Refused(Refusal::StoredRings);
+    }
+    let k = removed.len() / 4;
+    if k == 0 {
+        return StoredAs::Rings(count);
+    }
+    if k == 1 {
+        return store::add_ring(
+            rings,
+            room,
+            count,
+            shape::clipped(e, lent::ring_at(removed, 0)),
+        );
+    }
+    let mut work = [0.0f64; 1024];
+    lent::copy_rings(rings, count, &mut work, 0);
+    let mut n = count;
+    let mut i: usize = 0;
+    while i < k {
+        let c = shape::clipped(e, lent::ring_at(removed, i));
+        let one = store::add_ring(&mut work, room, n, c);
+        match one {
+            StoredAs::Rings(m) => n = m,
+            StoredAs::Refused(x) => return StoredAs::Refused(x),
+        }
+        i += 1;
+    }
+    lent::copy_rings(&work, n, rings, 0);
+    StoredAs::Rings(n)
+}
+
+// All of the list `removed`, in a stock whose spec is checked already; 4 where the count is over the
+// room, 11.
+pub fn remove_rings(
+    spec: TurnStockSpec,
+    rings: &mut [f64],
+    count: usize,
+    removed: &[f64],
+) -> StoredAs
+    ensures { λ r. ⌜ StoresAs (now (rings .entry)) (removeRings spec (now (rings .entry)) count (now (removed .entry))) r (now (rings .exit)) ⌝ }
+{
+    remove_all_in(extent(spec), rings, count, removed)
+}
+
+// The first n rings are finite and not empty.
+fn all_good(rings: &[f64], n: usize) -> bool
+    requires { ⌜ 4 * n ≤ length (now rings) ⌝ }
+    ensures { λ r. ⌜ r ≡ allGood (ringsOf n (now (rings .entry))) ⌝ }
+{
+    let mut ok = true;
+    let mut i: usize = 0;
+    while i < n {
+        let q = lent::ring_at(rings, i);
+        ok = ok & shape::is_finite_ring(q) & shape::is_filled(q);
+        i += 1;
+    }
+    ok
+}
+
+// Whole rings, each finite and not empty: what refusal 10 asks of a move and of parts.
+pub fn rings_good(removed: &[f64]) -> bool
+    ensures { λ r. ⌜ r ≡ ringsGood (now (removed .entry)) ⌝ }
+{
+    let n = removed.len();
+    (n % 4 == 0) & all_good(removed, n / 4)
+}
+
+fn one_if(t: bool) -> usize
+    ensures { λ r. ⌜ r ≡ pick t 1 0 ⌝ }
+{
+    if t {
+        return 1;
+    }
+    0
+}
+
+// How many of the rings are not empty after clipping, in a stock whose spec is checked already.
+pub fn raised_by(spec: TurnStockSpec, removed: &[f64]) -> usize
+    ensures { λ r. ⌜ r ≡ raisedBy (extentOf (cleanSpec spec)) (ringsOf (length (now (removed .entry)) / 4) (now (removed .entry))) ⌝ }
+{
+    let e = extent(spec);
+    let k = removed.len() / 4;
+    let mut n: usize = 0;
+    let mut i: usize = 0;
+    while i < k {
+        n += one_if(shape::is_filled(shape::clipped(e, lent::ring_at(removed, i))));
+        i += 1;
+    }
+    n
+}
