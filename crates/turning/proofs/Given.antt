@@ -1,16 +1,21 @@
 -- From a library's answer to a call's number and out-parameters. Assumes nothing.
 use mathlib.Core.Path.{_≡_, refl, sym, ap, _∙_, subst}
+use mathlib.Core.Option.{Option}
 use mathlib.Core.List.{List}
 use Prim.Native.Nat.{ℕ}
 use lib.ListN.{length}
 use lib.Ieee.{Float}
-use Rattle.refusals.specs.Paper.{Paper, answers, refuses}
+use borrow.Author.Tests.{eq-eqb, ne-eqb}
+use Rattle.floats.specs.Pick.{picks}
+use Rattle.refusals.specs.Paper.{Paper, answers, refuses, onward}
 use Rattle.stock.specs.declared.TurnStockSpec.{TurnStockSpec}
 use Rattle.stock.specs.declared.TurnChange.{TurnChange}
 use Rattle.stock.specs.declared.Counted.{Counted}
 use Rattle.stock.specs.declared.ZRange.{ZRange}
 use Rattle.stock.specs.Spec.{countedPaper}
-use Rattle.stock.specs.Cell.{newOf, Filled}
+use Rattle.stock.specs.declared.TurnSide.{TurnSide}
+use Rattle.stock.specs.declared.TurnSide.the-variants.{Outer, Inner}
+use Rattle.stock.specs.Cell.{newOf, Filled, stockOf}
 use Rattle.records.specs.declared.Previewed.{Previewed}
 use Rattle.records.specs.Change.{countOf, previewedPaper, Proposed}
 use Rattle.changes.specs.declared.Applied.{Applied}
@@ -18,7 +23,9 @@ use Rattle.changes.specs.Commit.{Committed, appliedPaper, generationOf, applyOf
 use Rattle.changes.specs.Difference.{differenceOf}
 use Rattle.cuts.specs.declared.Cut.{Cut}
 use Rattle.cuts.specs.Preview.{previewCut}
-use Rattle.turning.specs.Boundary.{codeOf, outOf, Gives, GivesBin, GivesCells, GivesChanges, GivesStock}
+use Rattle.rings.specs.declared.Removed.{Removed}
+use Rattle.rings.specs.Remove.{RingStore, RingCount, removedPaper, countsOf, Removes}
+use Rattle.turning.specs.Boundary.{codeOf, outOf, Gives, GivesBin, GivesCells, GivesChanges, GivesStock, bySide, GivesTwo, GivesRings, GivesFound, GivesFoundTwo}
 
 -- an answer that says what the rule says
 pub gives : {A : Type 0} (p q : Paper A) (r : ℕ) (x x' : A) → p ≡ q → Gives p r x x' → Gives q r x x'
@@ -61,6 +68,50 @@ gives-stock p a r cs cs' g g' h q = record {
     same-generation (answers k) = refl
     same-generation (refuses n) = refl
 
+pub gives-two : {A B C : Type 0} (f : A → B) (h : A → C) (p q : Paper A) (r : ℕ) (x x' : B) (y y' : C) → p ≡ q → GivesTwo f h p r x x' y y' → GivesTwo f h q r x x' y y'
+gives-two f h p q r x x' y y' e g = subst (λ z. GivesTwo f h z r x x' y y') e g
+
+pub gives-found : {A : Type 0} (p q : Paper (Option A)) (r f f' : ℕ) (x x' : A) → p ≡ q → GivesFound p r f f' x x' → GivesFound q r f f' x x'
+gives-found p q r f f' x x' e g = subst (λ z. GivesFound z r f f' x x') e g
+
+pub gives-found-two : {A : Type 0} (first second : A → Float) (p q : Paper (Option A)) (r f f' : ℕ) (x x' y y' : Float) → p ≡ q → GivesFoundTwo first second p r f f' x x' y y' → GivesFoundTwo first second q r f f' x x' y y'
+gives-found-two first second p q r f f' x x' y y' e g = subst (λ z. GivesFoundTwo first second z r f f' x x' y y') e g
+
+pub gives-rings : (p : Paper RingStore) (a : Removed) (r : ℕ) (xs xs' : List Float) (k k' g g' : ℕ) → GivesTwo (λ (c : RingCount). c .rings) (λ (c : RingCount). c .generation) (removedPaper a) r k k' g g' → Removes xs p a xs' → GivesRings p r xs xs' k k' g g'
+unfolding countsOf onward
+gives-rings p a r xs xs' k k' g g' h q = record {
+  code = h .code ∙ ap codeOf (q .answer) ∙ same-code p;
+  rings = q .store;
+  count = h .one ∙ ap (λ (z : Paper RingCount). outOf (λ (c : RingCount). c .rings) z k) (q .answer) ∙ same-count p;
+  generation = h .other ∙ ap (λ (z : Paper RingCount). outOf (λ (c : RingCount). c .generation) z g) (q .answer) ∙ same-generation p;
+}
+  where
+    same-code : (p : Paper RingStore) → codeOf (countsOf p) ≡ codeOf p
+    same-code (answers s) = refl
+    same-code (refuses n) = refl
+
+    same-count : (p : Paper RingStore) → outOf (λ (c : RingCount). c .rings) (countsOf p) k ≡ outOf (λ (s : RingStore). length (s .rings)) p k
+    same-count (answers s) = refl
+    same-count (refuses n) = refl
+
+    same-generation : (p : Paper RingStore) → outOf (λ (c : RingCount). c .generation) (countsOf p) g ≡ outOf (λ (s : RingStore). s .generation) p g
+    same-generation (answers s) = refl
+    same-generation (refuses n) = refl
+
+-- ---- a side's number
+module _ (spec : TurnStockSpec) (cs : List Float) (side : ℕ) (p : TurnSide → Paper (List TurnChange)) where
+  pub by-outer : side ≡ 0 → bySide spec cs side p ≡ p Outer
+  unfolding bySide
+  by-outer e = simp (picks, eq-eqb side 0 e)
+
+  pub by-inner : (side ≡ 0 → ⊥) → side ≡ 1 → bySide spec cs side p ≡ p Inner
+  unfolding bySide
+  by-inner e f = simp (picks, ne-eqb side 0 e, eq-eqb side 1 f)
+
+  pub by-none : (side ≡ 0 → ⊥) → (side ≡ 1 → ⊥) → bySide spec cs side p ≡ onward (stockOf spec cs) (λ n. refuses 5)
+  unfolding bySide
+  by-none e f = simp (picks, ne-eqb side 0 e, ne-eqb side 1 f)
+
 -- ---- the spec that a call makes of its six numbers
 module _ (s s' : TurnStockSpec) where
   pub same-new : (a : Counted) (cs cs' : List Float) → s ≡ s' → Filled s a cs cs' → Filled s' a cs cs'
@@ -68,6 +119,12 @@ module _ (s s' : TurnStockSpec) where
 
   pub same-preview : (cs : List Float) (u : Cut) (room : ℕ) (a : Previewed) (is is' : List ℕ) (xs xs' : List Float) → s ≡ s' → Proposed (previewCut s cs u room) a is is' xs xs' → Proposed (previewCut s' cs u room) a is is' xs xs'
   same-preview cs u room a is is' xs xs' e q = subst (λ (x : TurnStockSpec). Proposed (previewCut x cs u room) a is is' xs xs') e q
+
+  pub same-by : (f : TurnStockSpec → Paper (List TurnChange)) (a : Previewed) (is is' : List ℕ) (xs xs' : List Float) → s ≡ s' → Proposed (f s) a is is' xs xs' → Proposed (f s') a is is' xs xs'
+  same-by f a is is' xs xs' e q = subst (λ (x : TurnStockSpec). Proposed (f x) a is is' xs xs') e q
+
+  pub same-ring : (f : TurnStockSpec → Paper RingStore) (a : Removed) (xs xs' : List Float) → s ≡ s' → Removes xs (f s) a xs' → Removes xs (f s') a xs'
+  same-ring f a xs xs' e q = subst (λ (x : TurnStockSpec). Removes xs (f x) a xs') e q
 
   pub same-difference : (cs ds : List Float) (room : ℕ) (a : Previewed) (is is' : List ℕ) (xs xs' : List Float) → s ≡ s' → Proposed (differenceOf s cs ds room) a is is' xs xs' → Proposed (differenceOf s' cs ds room) a is is' xs xs'
   same-difference cs ds room a is is' xs xs' e q = subst (λ (x : TurnStockSpec). Proposed (differenceOf x cs ds room) a is is' xs xs') e q

@@ -4,14 +4,23 @@ use mathlib.Core.List.{List}
 use Prim.Native.Nat.{ℕ}
 use lib.ListN.{length}
 use lib.Ieee.{Float}
-use Rattle.refusals.specs.Paper.{Paper, answers, refuses}
+use mathlib.Core.Option.{Option, none, some}
+use lib.Dec.{eqb}
+use lib.IntN.{ℤ}
+use Rattle.floats.specs.Pick.{pick}
+use Rattle.refusals.specs.declared.Refusal.{Refusal}
+use Rattle.refusals.specs.Number.{numberOf}
+use Rattle.refusals.specs.Paper.{Paper, answers, refuses, onward}
 use Rattle.refusals.specs.Lent.{over}
 use Rattle.stock.specs.declared.TurnStockSpec.{TurnStockSpec}
 use Rattle.stock.specs.declared.TurnChange.{TurnChange}
 use Rattle.stock.specs.declared.ZRange.{ZRange}
-use Rattle.stock.specs.Cell.{newCells}
+use Rattle.stock.specs.declared.TurnSide.{TurnSide}
+use Rattle.stock.specs.declared.TurnSide.the-variants.{Outer, Inner}
+use Rattle.stock.specs.Cell.{newCells, stockOf}
 use Rattle.records.specs.Change.{indicesOf, numbersOf, writtenOf}
 use Rattle.changes.specs.Commit.{Committed, cellsAfter}
+use Rattle.rings.specs.Remove.{RingStore, ringsAfter}
 
 -- 0, or the number of the refusal
 abbrev pub codeOf : {A : Type 0} → Paper A → ℕ
@@ -63,3 +72,54 @@ pub record GivesStock (p : Paper Committed) (r : ℕ) (cs cs' : List Float) (g g
   pub code : r ≡ codeOf p
   pub cells : cs' ≡ cellsAfter p cs
   pub generation : g' ≡ outOf (λ (k : Committed). k .generation) p g
+
+-- ---- a side's number
+
+-- 0 is outside, 1 inside; any other is an argument outside its domain, asked for after 1, 2, 3
+unfoldable pub bySide : TurnStockSpec → List Float → ℕ → (TurnSide → Paper (List TurnChange)) → Paper (List TurnChange)
+bySide spec cs side p = pick (eqb side 0) (p Outer) (pick (eqb side 1) (p Inner) (onward (stockOf spec cs) (λ n. refuses 5)))
+
+-- a refusal in place of changes
+abbrev pub noChanges : Refusal → Paper (List TurnChange)
+noChanges c = refuses (numberOf c)
+
+-- ---- rings
+
+-- two numbers out
+pub record GivesTwo {A B C : Type 0} (first : A → B) (second : A → C) (p : Paper A) (r : ℕ) (x x' : B) (y y' : C) : Type 0 where
+  pub code : r ≡ codeOf p
+  pub one : x' ≡ outOf first p x
+  pub other : y' ≡ outOf second p y
+
+-- the rings, their count and the generation
+pub record GivesRings (p : Paper RingStore) (r : ℕ) (xs xs' : List Float) (k k' g g' : ℕ) : Type 0 where
+  pub code : r ≡ codeOf p
+  pub rings : xs' ≡ ringsAfter xs p
+  pub count : k' ≡ outOf (λ (s : RingStore). length (s .rings)) p k
+  pub generation : g' ≡ outOf (λ (s : RingStore). s .generation) p g
+
+-- ---- an answer that may find nothing
+
+-- 1 where something is found, else 0
+abbrev pub foundOf : {A : Type 0} → Option A → ℕ
+foundOf (some a) = 1
+foundOf none = 0
+
+-- an out-parameter: a part of what is found, or as it was
+abbrev pub outFound : {A B : Type 0} → (A → B) → Paper (Option A) → B → B
+outFound f (answers (some a)) b = f a
+outFound f (answers none) b = b
+outFound f (refuses n) b = b
+
+-- one number out, if it is found
+pub record GivesFound {A : Type 0} (p : Paper (Option A)) (r f f' : ℕ) (x x' : A) : Type 0 where
+  pub code : r ≡ codeOf p
+  pub found : f' ≡ outOf (λ (a : Option A). foundOf a) p f
+  pub out : x' ≡ outFound (λ (a : A). a) p x
+
+-- two numbers out, if they are found
+pub record GivesFoundTwo {A : Type 0} (first second : A → Float) (p : Paper (Option A)) (r f f' : ℕ) (x x' y y' : Float) : Type 0 where
+  pub code : r ≡ codeOf p
+  pub found : f' ≡ outOf (λ (a : Option A). foundOf a) p f
+  pub one : x' ≡ outFound first p x
+  pub other : y' ≡ outFound second p y

@@ -12,7 +12,7 @@ use changes::Applied;
 use records::Previewed;
 
 // How many changes were written, or the number of the refusal.
-fn give_changes(answer: Previewed, count: &mut usize) -> u32
+pub fn give_changes(answer: Previewed, count: &mut usize) -> u32
     ensures { λ r. ⌜ Gives (previewedPaper answer) r (now (count .entry)) (now (count .exit)) ⌝ }
 {
     match answer {

@@ -4,5 +4,8 @@
 // writes nothing. The calls are thin: each makes the spec, calls the library, and turns its answer
 // into a number and out-parameters. Their promises cite the library's own rules.
 mod cuts_c;
+mod envelope_c;
 mod numbers_c;
+mod rings_c;
 mod stock_c;
+mod sweeps_c;

@@ -1,0 +1,49 @@
+// Rings.
+ghost use mathlib.Core.Path.{_≡_};
+ghost use lib.ListN.{length};
+ghost use Prim.Native.Nat.{ℕ};
+ghost use Rattle.rings.specs.Ring.{ring};
+ghost use Rattle.rings.specs.Remove.{RingCount, removedPaper, removeRing};
+ghost use Rattle.turning.specs.Boundary.{specFrom, GivesTwo, GivesRings};
+use crate::stock_c;
+use rings::Removed;
+use rings::Ring;
+
+// The count of rings and the generation afterwards, or the number of the refusal.
+fn give_removed(answer: Removed, count: &mut usize, generation: &mut u64) -> u32
+    ensures { λ r. ⌜ GivesTwo (λ (c : RingCount). c .rings) (λ (c : RingCount). c .generation) (removedPaper answer) r (now (count .entry)) (now (count .exit)) (now (generation .entry)) (now (generation .exit)) ⌝ }
+{
+    match answer {
+        Removed::Refused(r) => refusals::number(r),
+        Removed::Stored(n, g) => {
+            *count = n;
+            *generation = g;
+            0
+        }
+    }
+}
+
+#[no_mangle]
+pub extern "C" fn turning_remove_ring(
+    z_min: f64,
+    z_max: f64,
+    outer: f64,
+    bore: f64,
+    cell: f64,
+    max_cells: usize,
+    rings: &mut [f64],
+    rings_count: &mut usize,
+    generation: &mut u64,
+    z0: f64,
+    z1: f64,
+    r0: f64,
+    r1: f64,
+) -> u32
+    ensures { λ r. ⌜ GivesRings (removeRing (specFrom «z_min» «z_max» outer bore cell «max_cells») (now (rings .entry)) (now («rings_count» .entry)) (now (generation .entry)) (ring z0 z1 r0 r1)) r (now (rings .entry)) (now (rings .exit)) (now («rings_count» .entry)) (now («rings_count» .exit)) (now (generation .entry)) (now (generation .exit)) ⌝ }
+{
+    let spec = stock_c::spec_of(z_min, z_max, outer, bore, cell, max_cells);
+    let count = *rings_count;
+    let before = *generation;
+    let answer = rings::remove_ring(spec, rings, count, before, Ring { z0, z1, r0, r1 });
+    give_removed(answer, rings_count, generation)
+}
