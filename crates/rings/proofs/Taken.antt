@@ -152,7 +152,8 @@ stored-passes e xs l h f =
     let m : length (storeAs xs l) ≡ length xs = length-stored xs l (omega arith) in
     ap₂ (λ (s t : Bool). s && t) (ap (λ (k : ℕ). leb (length l) (roomOf k)) m ∙ le-leb (length l) (roomOf (length xs)) h) (ap (storeFits e) (rings-stored xs l) ∙ f)
 
-rings-pass : (e : Ring) (xs : List Float) (n : ℕ) → countFits e xs n ≡ true → storeFits e (ringsOf n xs) ≡ true
+-- the rings of lent numbers that pass refusal 4's test
+pub rings-pass : (e : Ring) (xs : List Float) (n : ℕ) → countFits e xs n ≡ true → storeFits e (ringsOf n xs) ≡ true
 unfolding countFits
 rings-pass e xs n f = is-true (storeFits e (ringsOf n xs)) (and-r (leb n (roomOf (length xs))) (storeFits e (ringsOf n xs)) (of-true (countFits e xs n) f))
 

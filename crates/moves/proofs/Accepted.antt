@@ -1,0 +1,119 @@
+-- What an accepted move says of its rule, and what it leaves. Assumes nothing.
+use mathlib.Core.Path.{_≡_, refl, sym, ap, _∙_}
+use mathlib.Core.Bool.{true, _||_}
+use mathlib.Core.List.{List, map, List·Permᴰ, List·Permᴰ·nil, List·Permᴰ·cons, List·Permᴰ·swap, List·Permᴰ·trans}
+use Prim.Native.Nat.{ℕ, _+_, _/_, _≤_}
+use native.Mathlib.Omega.{arith}
+use borrow.Author.Tests.{leb-true}
+use lib.ListN.{length}
+use lib.Ieee.{Float}
+use Rattle.refusals.specs.Paper.{answers}
+use Rattle.refusals.specs.Limits.{lastGeneration}
+use Rattle.floats.specs.Pick.{pick}
+use Rattle.stock.specs.declared.TurnStockSpec.{TurnStockSpec}
+use Rattle.stock.specs.Spec.{cleanSpec}
+use Rattle.stock.specs.Cell.{stockOf}
+use Rattle.stock.proofs.Count.{same-answer, demanded, checked, stocked}
+use Rattle.records.specs.Change.{roomOf, changesFrom}
+use Rattle.rings.specs.declared.Ring.{Ring}
+use Rattle.rings.specs.Ring.{covered, filled, clip}
+use Rattle.rings.specs.Points.{Disjoint}
+use Rattle.rings.specs.Store.{extentOf, ringsOf, storeAs, storeFits, countFits, ringsGood, raisedBy}
+use Rattle.rings.specs.Remove.{removeRings}
+use Rattle.rings.proofs.Flat.{rings-stored}
+use Rattle.rings.proofs.Fitting.{store-disjoint}
+use Rattle.rings.proofs.Taken.{rings-pass, rings-pass-again, rings-cover, rings-either-order}
+use Rattle.changes.specs.Commit.{passAll, putAll}
+use Rattle.moves.specs.Move.{Left, generationAfter, moveIn, moveOf}
+use Rattle.moves.proofs.Answered.{answered}
+use Rattle.moves.proofs.Cells.{passed-stock}
+
+-- ---- lent rings that pass refusal 4's test at the front of a list
+-- no two of them share a point
+pub passed-disjoint : (e : Ring) (xs : List Float) (l : List Ring) → countFits e (storeAs xs l) (length l) ≡ true → Disjoint l
+passed-disjoint e xs l f = store-disjoint e l (sym (ap (storeFits e) (rings-stored xs l)) ∙ rings-pass e (storeAs xs l) (length l) f)
+
+-- ---- a move
+-- what an accepted move says of the rule
+pub record Taken (spec : TurnStockSpec) (cs xs : List Float) (count g : ℕ) (is : List ℕ) (ys : List Float) (k : ℕ) (removed : List Float) (a : Left) : Type 0 where
+  pub bins : ℕ
+  pub stock : stockOf spec cs ≡ answers bins
+  pub room : k ≤ roomOf (length is) (length ys)
+  pub fits : countFits (extentOf (cleanSpec spec)) xs count ≡ true
+  pub good : ringsGood removed ≡ true
+  pub pass : passAll (cleanSpec spec) bins cs (changesFrom is ys k) ≡ answers tt
+  pub last : generationAfter spec g removed ≤ lastGeneration
+  pub rule : removeRings spec xs count removed ≡ answers (a .rings)
+  pub cells : a .cells ≡ putAll cs (changesFrom is ys k)
+  pub rises : a .generation ≡ generationAfter spec g removed
+
+-- a turn of the rings keeps how many are not empty after clipping
+raised-turns : (e : Ring) {l m : List Ring} → List·Permᴰ l m → raisedBy e l ≡ raisedBy e m
+unfolding raisedBy
+raised-turns e List·Permᴰ·nil = refl
+raised-turns e (List·Permᴰ·cons {b = b} {l₁ = l} q d) = ap (λ (p : Ring). pick (filled (clip e p)) 1 0 + raisedBy e l) q ∙ ap (λ (n : ℕ). pick (filled (clip e b)) 1 0 + n) (raised-turns e d)
+raised-turns e (List·Permᴰ·swap {a = a} {b = b} {a′ = a′} {l = l} p q) =
+    swap (pick (filled (clip e a)) 1 0) (pick (filled (clip e b)) 1 0) (raisedBy e l) ∙ ap (λ (x : Ring). pick (filled (clip e x)) 1 0 + (pick (filled (clip e a)) 1 0 + raisedBy e l)) q
+    ∙ ap (λ (x : Ring). pick (filled (clip e a′)) 1 0 + (pick (filled (clip e x)) 1 0 + raisedBy e l)) p
+  where
+    swap : (x y w : ℕ) → x + (y + w) ≡ y + (x + w)
+    swap x y w = omega arith
+raised-turns e (List·Permᴰ·trans d d′) = raised-turns e d ∙ raised-turns e d′
+
+module _ (spec : TurnStockSpec) (cs xs : List Float) (count g : ℕ) (is : List ℕ) (ys : List Float) (k : ℕ) where
+  pub taken : (removed : List Float) (a : Left) → moveOf spec cs xs count g is ys k removed ≡ answers a → Taken spec cs xs count g is ys k removed a
+  unfolding moveOf moveIn
+  taken removed a h =
+      let s = answered _ _ _ h in
+      let d6 = demanded _ _ _ _ (s .then) in
+      let d4 = demanded _ _ _ _ (d6 .1) in
+      let d10 = demanded _ _ _ _ (d4 .1) in
+      let p = answered _ _ _ (d10 .1) in
+      let d12 = demanded _ _ _ _ (p .then) in
+      let r = answered _ _ _ (d12 .1) in
+      let v : _≡_ {A = Left} (record { cells = putAll cs (changesFrom is ys k); rings = r .value; generation = generationAfter spec g removed }) a = same-answer (r .then) in
+      record {
+        bins = s .value;
+        stock = s .first;
+        room = leb-true k (roomOf (length is) (length ys)) (d6 .0);
+        fits = d4 .0;
+        good = d10 .0;
+        pass = p .first;
+        last = leb-true (generationAfter spec g removed) lastGeneration (d12 .0);
+        rule = r .first ∙ ap (λ (x : Left). answers (x .rings)) v;
+        cells = sym (ap (λ (x : Left). x .cells) v);
+        rises = sym (ap (λ (x : Left). x .generation) v);
+      }
+
+  module _ (removed : List Float) (a : Left) (h : moveOf spec cs xs count g is ys k removed ≡ answers a) where
+    -- the stock afterwards has as many cells, and they fit
+    pub move-stock : stockOf spec (a .cells) ≡ stockOf spec cs
+    move-stock =
+        let t = taken removed a h in
+        ap (stockOf spec) (t .cells) ∙ passed-stock spec cs (t .bins) (changesFrom is ys k) (t .stock) (t .pass) ∙ sym (t .stock)
+
+    -- its rings pass refusal 4's test again
+    pub move-passes : countFits (extentOf (cleanSpec spec)) (storeAs xs (a .rings)) (length (a .rings)) ≡ true
+    move-passes =
+        let t = taken removed a h in
+        rings-pass-again spec xs count (t .fits) removed (a .rings) (checked spec (t .bins) (stocked spec cs (t .bins) (t .stock) .count) .good) (t .good) (t .rule)
+
+    -- no two of them share a point
+    pub move-disjoint : Disjoint (a .rings)
+    move-disjoint = passed-disjoint (extentOf (cleanSpec spec)) xs (a .rings) move-passes
+
+    -- they cover what was covered and what the clipped rings of the move cover, and nothing else
+    pub move-covers : (z r : Float) → covered (a .rings) z r ≡ (covered (ringsOf count xs) z r || covered (map (clip (extentOf (cleanSpec spec))) (ringsOf (length removed / 4) removed)) z r)
+    move-covers = let t = taken removed a h in rings-cover spec xs count (t .fits) removed (a .rings) (t .rule)
+
+  -- two orders of the rings of a move, both accepted: the same cells, the same generation, and the same points covered
+  module _ (removed removed' : List Float) (a a' : Left) (turn : List·Permᴰ (ringsOf (length removed / 4) removed) (ringsOf (length removed' / 4) removed')) (h : moveOf spec cs xs count g is ys k removed ≡ answers a) (h' : moveOf spec cs xs count g is ys k removed' ≡ answers a') where
+    pub either-cells : a .cells ≡ a' .cells
+    either-cells = taken removed a h .cells ∙ sym (taken removed' a' h' .cells)
+
+    pub either-generation : a .generation ≡ a' .generation
+    unfolding generationAfter
+    either-generation = taken removed a h .rises ∙ ap (λ (n : ℕ). g + 1 + n) (raised-turns (extentOf (cleanSpec spec)) turn) ∙ sym (taken removed' a' h' .rises)
+
+    pub either-covers : (z r : Float) → covered (a .rings) z r ≡ covered (a' .rings) z r
+    either-covers = rings-either-order spec xs count (taken removed a h .fits) removed removed' (a .rings) (a' .rings) turn (taken removed a h .rule) (taken removed' a' h' .rule)

@@ -1,0 +1,7 @@
+pub mod Answered
+pub mod Moving
+pub mod Parting
+pub mod Once
+pub mod Cells
+pub mod Accepted
+pub mod Rebuilt

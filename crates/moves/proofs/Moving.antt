@@ -1,0 +1,136 @@
+-- What a move answers and leaves, by what its rule says. Assumes nothing.
+use mathlib.Core.Path.{_≡_, sym, ap, _∙_, subst}
+use mathlib.Core.Bool.{true, false}
+use mathlib.Core.List.{List}
+use Prim.Native.Nat.{ℕ, _+_, _-_, _/_, _≤_, _<_}
+use native.Mathlib.Omega.{arith}
+use borrow.Author.Tests.{le-leb, lt-leb}
+use lib.ListN.{length}
+use lib.Ieee.{Float}
+use Rattle.refusals.specs.declared.Refusal.{Refusal}
+use Rattle.refusals.specs.Number.{numberOf}
+use Rattle.refusals.specs.Paper.{Paper, answers, refuses, onward, papers}
+use Rattle.refusals.specs.Limits.{lastGeneration}
+use Rattle.stock.specs.declared.TurnStockSpec.{TurnStockSpec}
+use Rattle.stock.specs.declared.TurnChange.{TurnChange}
+use Rattle.stock.specs.Spec.{cleanSpec}
+use Rattle.stock.specs.Cell.{stockOf}
+use Rattle.records.specs.Change.{roomOf, changesFrom}
+use Rattle.rings.specs.declared.Ring.{Ring}
+use Rattle.rings.specs.declared.StoredAs.{StoredAs}
+use Rattle.rings.specs.declared.StoredAs.the-variants as stored
+use Rattle.rings.specs.Store.{extentOf, ringsOf, storeAs, countFits, ringsGood, raisedBy}
+use Rattle.rings.specs.Remove.{removeRings, StoresAs}
+use Rattle.rings.proofs.Adding.{accepted, refused}
+use Rattle.changes.specs.declared.Passing.{Passing}
+use Rattle.changes.specs.declared.Passing.the-variants as passing
+use Rattle.changes.specs.Commit.{passAll, passingPaper, firstRefusal, putAll, putHeld}
+use Rattle.changes.proofs.Written.{refusal-held, put-held}
+use Rattle.moves.specs.declared.Moved.{Moved}
+use Rattle.moves.specs.declared.Moved.the-variants as moved
+use Rattle.moves.specs.Move.{Left, generationAfter, moveIn, moveOf, countsOf, cellsAfter, ringsAfter, Moves}
+
+-- ---- what is answered and left
+
+-- refused: cells and rings stay
+pub left : (p : Paper Left) (x : Refusal) (cs xs xs' : List Float) → p ≡ refuses (numberOf x) → xs' ≡ xs → Moves p (moved.Refused x) cs cs xs xs'
+left p x cs xs xs' e f = record { answer = sym (ap countsOf e); cells = sym (ap (λ (q : Paper Left). cellsAfter q cs) e); rings = f ∙ sym (ap (λ (q : Paper Left). ringsAfter q xs) e) }
+
+-- accepted
+pub done : (p : Paper Left) (a : Left) (m g : ℕ) (cs cs' xs xs' : List Float) → p ≡ answers a → m ≡ length (a .rings) → g ≡ a .generation → cs' ≡ a .cells → xs' ≡ storeAs xs (a .rings) → Moves p (moved.Stored m g) cs cs' xs xs'
+done p a m g cs cs' xs xs' e em eg ec ex =
+    record {
+      answer = ap (λ (k : ℕ). answers (record { rings = k; generation = g })) em ∙ ap (λ (k : ℕ). answers (record { rings = length (a .rings); generation = k })) eg ∙ sym (ap countsOf e);
+      cells = ec ∙ sym (ap (λ (q : Paper Left). cellsAfter q cs) e);
+      rings = ex ∙ sym (ap (λ (q : Paper Left). ringsAfter q xs) e);
+    }
+
+-- a rule that comes to another has its outcome
+pub same-outcome : (p q : Paper Left) (r : Moved) (cs cs' xs xs' : List Float) → p ≡ q → Moves q r cs cs' xs xs' → Moves p r cs cs' xs xs'
+same-outcome p q r cs cs' xs xs' e a = subst (λ (b : Paper Left). Moves b r cs cs' xs xs') (sym e) a
+
+-- ---- the changes of a move, in a list that holds them
+module _ (spec s : TurnStockSpec) (n : ℕ) (cs : List Float) (is : List ℕ) (ys : List Float) (k : ℕ) (found : Passing) (clean : s ≡ cleanSpec spec) (h : k ≤ roomOf (length is) (length ys)) (e : passingPaper found ≡ firstRefusal s n cs is ys k) where
+  told : passAll (cleanSpec spec) n cs (changesFrom is ys k) ≡ passingPaper found
+  told = ap (λ (x : TurnStockSpec). passAll x n cs (changesFrom is ys k)) (sym clean) ∙ refusal-held is ys k h s n cs ∙ sym e
+
+  -- they are refused
+  pub stopped : (x : Refusal) → found ≡ passing.Refused x → passAll (cleanSpec spec) n cs (changesFrom is ys k) ≡ refuses (numberOf x)
+  unfolding passingPaper
+  stopped x f = told ∙ ap passingPaper f
+
+  -- they pass
+  pub passed : found ≡ passing.Pass → passAll (cleanSpec spec) n cs (changesFrom is ys k) ≡ answers tt
+  unfolding passingPaper
+  passed f = told ∙ ap passingPaper f
+
+-- the after-cells written from such a list
+pub put-is : (is : List ℕ) (ys : List Float) (k : ℕ) (cs cs' : List Float) → k ≤ roomOf (length is) (length ys) → cs' ≡ putHeld cs is ys k → cs' ≡ putAll cs (changesFrom is ys k)
+put-is is ys k cs cs' h e = e ∙ put-held is ys k h cs
+
+-- ---- the rule of a move on checked cells, refusal by refusal
+module _ (spec : TurnStockSpec) (n : ℕ) (cs xs : List Float) (count g : ℕ) (l : List TurnChange) (removed : List Float) where
+  pub refuses-4 : countFits (extentOf (cleanSpec spec)) xs count ≡ false → moveIn spec n cs xs count g l removed ≡ refuses 4
+  unfolding moveIn
+  refuses-4 e = simp (papers, e)
+
+  module _ (fit : countFits (extentOf (cleanSpec spec)) xs count ≡ true) where
+    pub refuses-10 : ringsGood removed ≡ false → moveIn spec n cs xs count g l removed ≡ refuses 10
+    unfolding moveIn
+    refuses-10 e = simp (papers, fit, e)
+
+    module _ (good : ringsGood removed ≡ true) where
+      pub refuses-change : (r : ℕ) → passAll (cleanSpec spec) n cs l ≡ refuses r → moveIn spec n cs xs count g l removed ≡ refuses r
+      unfolding moveIn
+      refuses-change r e = simp (papers, fit, good, e)
+
+      module _ (pass : passAll (cleanSpec spec) n cs l ≡ answers tt) (raised : ℕ) (rise : raised ≡ raisedBy (extentOf (cleanSpec spec)) (ringsOf (length removed / 4) removed)) where
+        after : generationAfter spec g removed ≡ g + 1 + raised
+        unfolding generationAfter
+        after = ap (λ (k : ℕ). g + 1 + k) (sym rise)
+
+        pub refuses-12 : g ≤ lastGeneration → lastGeneration - g ≤ raised → moveIn spec n cs xs count g l removed ≡ refuses 12
+        unfolding moveIn
+        refuses-12 b h = simp (papers, fit, good, pass, lt-leb (generationAfter spec g removed) lastGeneration (over after))
+          where
+            over : generationAfter spec g removed ≡ g + 1 + raised → lastGeneration < generationAfter spec g removed
+            over a = omega arith
+
+        module _ (few : raised < lastGeneration - g) (st : StoredAs) (xs' : List Float) (s : StoresAs xs (removeRings spec xs count removed) st xs') where
+          -- past 12, what the rings answer is left
+          goes-on : moveIn spec n cs xs count g l removed ≡ onward (removeRings spec xs count removed) (λ rs. answers (record { cells = putAll cs l; rings = rs; generation = generationAfter spec g removed }))
+          unfolding moveIn
+          goes-on = simp (papers, fit, good, pass, le-leb (generationAfter spec g removed) lastGeneration (within after))
+            where
+              within : generationAfter spec g removed ≡ g + 1 + raised → generationAfter spec g removed ≤ lastGeneration
+              within a = omega arith
+
+          rings-say : (p : Paper (List Ring)) → removeRings spec xs count removed ≡ p → moveIn spec n cs xs count g l removed ≡ onward p (λ rs. answers (record { cells = putAll cs l; rings = rs; generation = generationAfter spec g removed }))
+          rings-say p e = goes-on ∙ ap (λ (q : Paper (List Ring)). onward q (λ rs. answers (record { cells = putAll cs l; rings = rs; generation = generationAfter spec g removed }))) e
+
+          pub refuses-11 : (x : Refusal) → st ≡ stored.Refused x → Moves (moveIn spec n cs xs count g l removed) (moved.Refused x) cs cs xs xs'
+          unfolding onward
+          refuses-11 x e =
+              let y = refused xs (removeRings spec xs count removed) st xs' x s e in
+              left (moveIn spec n cs xs count g l removed) x cs xs xs' (rings-say (refuses (numberOf x)) (y .0)) (y .1)
+
+          pub moves : (m : ℕ) (cs' : List Float) → st ≡ stored.Rings m → cs' ≡ putAll cs l → Moves (moveIn spec n cs xs count g l removed) (moved.Stored m (g + 1 + raised)) cs cs' xs xs'
+          unfolding onward
+          moves m cs' e ec =
+              let y = accepted xs (removeRings spec xs count removed) st xs' m s e in
+              done (moveIn spec n cs xs count g l removed) (record { cells = putAll cs l; rings = y .rings; generation = generationAfter spec g removed }) m (g + 1 + raised) cs cs' xs xs' (rings-say (answers (y .rings)) (y .rule)) (y .count) (sym after) ec
+              (y .store)
+
+-- ---- the rule of a move of the lent lists
+module _ (spec : TurnStockSpec) (cs xs : List Float) (count g : ℕ) (is : List ℕ) (ys : List Float) (k : ℕ) (removed : List Float) where
+  pub move-refused : (r : ℕ) → stockOf spec cs ≡ refuses r → moveOf spec cs xs count g is ys k removed ≡ refuses r
+  unfolding moveOf
+  move-refused r e = simp (papers, e)
+
+  pub move-short : (n : ℕ) → stockOf spec cs ≡ answers n → roomOf (length is) (length ys) < k → moveOf spec cs xs count g is ys k removed ≡ refuses 6
+  unfolding moveOf
+  move-short n e h = simp (papers, e, lt-leb k (roomOf (length is) (length ys)) h)
+
+  pub move-is : (n : ℕ) → stockOf spec cs ≡ answers n → k ≤ roomOf (length is) (length ys) → moveOf spec cs xs count g is ys k removed ≡ moveIn spec n cs xs count g (changesFrom is ys k) removed
+  unfolding moveOf
+  move-is n e h = simp (papers, e, le-leb k (roomOf (length is) (length ys)) h)

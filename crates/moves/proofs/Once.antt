@@ -1,0 +1,41 @@
+-- Two outcomes that meet the promise of a call, of the same inputs, are the same. Assumes nothing.
+use mathlib.Core.Path.{_≡_, sym, ap, ap₂, _∙_}
+use mathlib.Core.List.{List}
+use Prim.Native.Nat.{ℕ}
+use native.Mathlib.Omega.{arith}
+use lib.Ieee.{Float}
+use Rattle.refusals.specs.Number.{numberOf}
+use Rattle.refusals.specs.Paper.{Paper}
+use Rattle.refusals.proofs.OneToOne.{one-to-one}
+use Rattle.stock.proofs.Count.{same-answer}
+use Rattle.rings.specs.declared.Ring.{Ring}
+use Rattle.rings.specs.declared.StoredAs.{StoredAs}
+use Rattle.rings.specs.declared.StoredAs.the-variants as stored
+use Rattle.rings.specs.Remove.{RingCount, storedPaper, StoresAs}
+use Rattle.moves.specs.declared.Moved.{Moved}
+use Rattle.moves.specs.declared.Moved.the-variants as moved
+use Rattle.moves.specs.Move.{Left, movedPaper, Moves}
+
+-- ---- a move
+same-moved : (r r' : Moved) → movedPaper r ≡ movedPaper r' → r ≡ r'
+same-moved (moved.Stored n g) (moved.Stored n' g') h =
+    let e : _≡_ {A = RingCount} (record { rings = n; generation = g }) (record { rings = n'; generation = g' }) = same-answer h in
+    ap₂ (λ (i j : ℕ). moved.Stored i j) (ap (λ (c : RingCount). c .rings) e) (ap (λ (c : RingCount). c .generation) e)
+same-moved (moved.Stored n g) (moved.Refused c) h = let z : _≡_ {A = ℕ} 0 1 = cc in absurd (omega arith)
+same-moved (moved.Refused c) (moved.Stored n g) h = let z : _≡_ {A = ℕ} 0 1 = cc in absurd (omega arith)
+same-moved (moved.Refused c) (moved.Refused c') h = let e : numberOf c ≡ numberOf c' = cc in ap (λ x. moved.Refused x) (one-to-one c c' e)
+
+-- the answer, the cells and the rings
+pub moved-once : (p : Paper Left) (r r' : Moved) (cs cs₁ cs₂ xs xs₁ xs₂ : List Float) → Moves p r cs cs₁ xs xs₁ → Moves p r' cs cs₂ xs xs₂ → (r ≡ r') × (cs₁ ≡ cs₂) × (xs₁ ≡ xs₂)
+moved-once p r r' cs cs₁ cs₂ xs xs₁ xs₂ a b = (same-moved r r' (a .answer ∙ sym (b .answer)), a .cells ∙ sym (b .cells), a .rings ∙ sym (b .rings))
+
+-- ---- rings stored, as from parts
+same-stored : (r r' : StoredAs) → storedPaper r ≡ storedPaper r' → r ≡ r'
+same-stored (stored.Rings n) (stored.Rings n') h = let e : n ≡ n' = same-answer h in ap (λ x. stored.Rings x) e
+same-stored (stored.Rings n) (stored.Refused c) h = let z : _≡_ {A = ℕ} 0 1 = cc in absurd (omega arith)
+same-stored (stored.Refused c) (stored.Rings n) h = let z : _≡_ {A = ℕ} 0 1 = cc in absurd (omega arith)
+same-stored (stored.Refused c) (stored.Refused c') h = let e : numberOf c ≡ numberOf c' = cc in ap (λ x. stored.Refused x) (one-to-one c c' e)
+
+-- the answer and the rings
+pub stored-once : (p : Paper (List Ring)) (r r' : StoredAs) (xs xs₁ xs₂ : List Float) → StoresAs xs p r xs₁ → StoresAs xs p r' xs₂ → (r ≡ r') × (xs₁ ≡ xs₂)
+stored-once p r r' xs xs₁ xs₂ a b = (same-stored r r' (a .answer ∙ sym (b .answer)), a .store ∙ sym (b .store))

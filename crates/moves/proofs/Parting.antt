@@ -1,0 +1,39 @@
+-- What a stock from parts answers and stores, by what its rule says. Assumes nothing.
+use mathlib.Core.Path.{_≡_, sym, subst}
+use mathlib.Core.Bool.{true, false}
+use mathlib.Core.List.{List}
+use Prim.Native.Nat.{ℕ}
+use lib.Ieee.{Float}
+use Rattle.refusals.specs.declared.Refusal.{Refusal}
+use Rattle.refusals.specs.declared.Refusal.the-variants.{RingOutside}
+use Rattle.refusals.specs.Number.{numberOf}
+use Rattle.refusals.specs.Paper.{Paper, answers, refuses, papers}
+use Rattle.stock.specs.declared.TurnStockSpec.{TurnStockSpec}
+use Rattle.stock.specs.Cell.{stockOf}
+use Rattle.rings.specs.declared.Ring.{Ring}
+use Rattle.rings.specs.declared.StoredAs.{StoredAs}
+use Rattle.rings.specs.declared.StoredAs.the-variants as stored
+use Rattle.rings.specs.Store.{ringsGood}
+use Rattle.rings.specs.Remove.{removeRings, StoresAs}
+use Rattle.rings.proofs.Adding.{stores-refused}
+use Rattle.moves.specs.Move.{partsOf}
+
+module _ (spec : TurnStockSpec) (cs given xs : List Float) where
+  -- 1, 2, 3
+  pub parts-refused : (x : Refusal) → stockOf spec cs ≡ refuses (numberOf x) → StoresAs xs (partsOf spec cs given xs) (stored.Refused x) xs
+  unfolding partsOf
+  parts-refused x e = stores-refused xs (partsOf spec cs given xs) x (simp (papers, e))
+
+  module _ (n : ℕ) (e : stockOf spec cs ≡ answers n) where
+    -- 10
+    pub parts-outside : ringsGood given ≡ false → StoresAs xs (partsOf spec cs given xs) (stored.Refused RingOutside) xs
+    unfolding partsOf
+    parts-outside f = stores-refused xs (partsOf spec cs given xs) RingOutside (simp (papers, e, f))
+
+    -- past them, the rings into an empty store
+    pub parts-are : ringsGood given ≡ true → partsOf spec cs given xs ≡ removeRings spec xs 0 given
+    unfolding partsOf
+    parts-are f = simp (papers, e, f)
+
+    pub parts-stored : (r : StoredAs) (xs' : List Float) → ringsGood given ≡ true → StoresAs xs (removeRings spec xs 0 given) r xs' → StoresAs xs (partsOf spec cs given xs) r xs'
+    parts-stored r xs' f s = subst (λ (p : Paper (List Ring)). StoresAs xs p r xs') (sym (parts-are f)) s

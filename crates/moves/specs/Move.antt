@@ -1,0 +1,86 @@
+-- A move: a commit of changes with the rings that the move removed; and a stock rebuilt from its parts. Assumes nothing.
+use mathlib.Core.Path.{_≡_}
+use mathlib.Core.List.{List}
+use Prim.Native.Nat.{ℕ, _+_, _/_}
+use lib.Dec.{leb}
+use lib.ListN.{length}
+use lib.Ieee.{Float}
+use Rattle.refusals.specs.Number.{numberOf}
+use Rattle.refusals.specs.Paper.{Paper, answers, refuses, demand, onward}
+use Rattle.refusals.specs.Limits.{lastGeneration}
+use Rattle.stock.specs.declared.TurnStockSpec.{TurnStockSpec}
+use Rattle.stock.specs.declared.TurnChange.{TurnChange}
+use Rattle.stock.specs.Spec.{cleanSpec}
+use Rattle.stock.specs.Cell.{stockOf}
+use Rattle.records.specs.Change.{roomOf, changesFrom}
+use Rattle.rings.specs.declared.Ring.{Ring}
+use Rattle.rings.specs.Store.{extentOf, ringsOf, storeAs, countFits, ringsGood, raisedBy}
+use Rattle.rings.specs.Remove.{RingCount, removeRings}
+use Rattle.changes.specs.Commit.{passAll, putAll}
+use Rattle.moves.specs.declared.Moved.{Moved}
+use Rattle.moves.specs.declared.Moved.the-variants as moved
+
+-- ---- a move
+
+-- the stock that a move leaves
+pub record Left : Type 0 where
+  pub cells : List Float
+  pub rings : List Ring
+  pub generation : ℕ
+
+-- 1 for the commit, and 1 for each ring that is not empty after clipping
+unfoldable pub generationAfter : TurnStockSpec → ℕ → List Float → ℕ
+generationAfter spec g removed = g + 1 + raisedBy (extentOf (cleanSpec spec)) (ringsOf (length removed / 4) removed)
+
+-- a move on n checked cells: 4, 10, then 7, 8 or 9, then 12, 11
+unfoldable pub moveIn : TurnStockSpec → ℕ → List Float → List Float → ℕ → ℕ → List TurnChange → List Float → Paper Left
+moveIn spec n cs xs count g l removed =
+    demand (countFits (extentOf (cleanSpec spec)) xs count) 4
+    (demand (ringsGood removed) 10
+    (onward (passAll (cleanSpec spec) n cs l) (λ _.
+    demand (leb (generationAfter spec g removed) lastGeneration) 12
+    (onward (removeRings spec xs count removed) (λ rs.
+    answers (record { cells = putAll cs l; rings = rs; generation = generationAfter spec g removed }))))))
+
+-- a move of k changes of the lent lists: 1, 2, 3, 6 where they hold fewer, then as above
+unfoldable pub moveOf : TurnStockSpec → List Float → List Float → ℕ → ℕ → List ℕ → List Float → ℕ → List Float → Paper Left
+moveOf spec cs xs count g is ys k removed =
+    onward (stockOf spec cs) (λ n.
+    demand (leb k (roomOf (length is) (length ys))) 6
+    (moveIn spec n cs xs count g (changesFrom is ys k) removed))
+
+-- ---- what a move answers, case by case, and what the lent numbers hold afterwards
+
+abbrev pub movedPaper : Moved → Paper RingCount
+movedPaper (moved.Stored n g) = answers (record { rings = n; generation = g })
+movedPaper (moved.Refused c) = refuses (numberOf c)
+
+-- the count of rings and the generation
+abbrev pub countsOf : Paper Left → Paper RingCount
+countsOf (answers a) = answers (record { rings = length (a .rings); generation = a .generation })
+countsOf (refuses n) = refuses n
+
+-- a refusal leaves the cells
+abbrev pub cellsAfter : Paper Left → List Float → List Float
+cellsAfter (answers a) cs = a .cells
+cellsAfter (refuses n) cs = cs
+
+-- the rings at the front and the rest as it was; a refusal leaves them
+abbrev pub ringsAfter : Paper Left → List Float → List Float
+ringsAfter (answers a) xs = storeAs xs (a .rings)
+ringsAfter (refuses n) xs = xs
+
+-- the answer, the lent cells and the lent rings after a move
+pub record Moves (p : Paper Left) (r : Moved) (cs cs' xs xs' : List Float) : Type 0 where
+  pub answer : movedPaper r ≡ countsOf p
+  pub cells : cs' ≡ cellsAfter p cs
+  pub rings : xs' ≡ ringsAfter p xs
+
+-- ---- a stock from its parts
+
+-- its rings: those given, one after the other, into an empty store; 1, 2, 3, 10, 11
+unfoldable pub partsOf : TurnStockSpec → List Float → List Float → List Float → Paper (List Ring)
+partsOf spec cs given xs =
+    onward (stockOf spec cs) (λ _.
+    demand (ringsGood given) 10
+    (removeRings spec xs 0 given))

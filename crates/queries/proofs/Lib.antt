@@ -1,0 +1,4 @@
+pub mod Passes
+pub mod Envelopes
+pub mod Outcomes
+pub mod Stored

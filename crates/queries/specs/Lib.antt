@@ -1,0 +1,4 @@
+pub mod Material
+pub mod Envelope
+pub mod Volume
+pub mod Pass

@@ -1,0 +1,2 @@
+pub mod Wheel
+pub mod Table
