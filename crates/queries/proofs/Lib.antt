@@ -2,3 +2,4 @@ pub mod Passes
 pub mod Envelopes
 pub mod Outcomes
 pub mod Stored
+pub mod Signs

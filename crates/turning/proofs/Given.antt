@@ -24,8 +24,14 @@ use Rattle.changes.specs.Difference.{differenceOf}
 use Rattle.cuts.specs.declared.Cut.{Cut}
 use Rattle.cuts.specs.Preview.{previewCut}
 use Rattle.rings.specs.declared.Removed.{Removed}
-use Rattle.rings.specs.Remove.{RingStore, RingCount, removedPaper, countsOf, Removes}
-use Rattle.turning.specs.Boundary.{codeOf, outOf, Gives, GivesBin, GivesCells, GivesChanges, GivesStock, bySide, GivesTwo, GivesRings, GivesFound, GivesFoundTwo}
+use Rattle.rings.specs.declared.StoredAs.{StoredAs}
+use Rattle.rings.specs.declared.Ring.{Ring}
+use Rattle.rings.specs.Remove as Remove
+use Rattle.rings.specs.Remove.{RingStore, RingCount, removedPaper, countsOf, Removes, storedPaper, StoresAs}
+use Rattle.moves.specs.declared.Moved.{Moved}
+use Rattle.moves.specs.Move as Move
+use Rattle.moves.specs.Move.{Left, movedPaper, Moves}
+use Rattle.turning.specs.Boundary.{codeOf, outOf, Gives, GivesBin, GivesCells, GivesChanges, GivesStock, bySide, GivesTwo, GivesRings, GivesMove, GivesStore, GivesFound, GivesFoundTwo}
 
 -- an answer that says what the rule says
 pub gives : {A : Type 0} (p q : Paper A) (r : ℕ) (x x' : A) → p ≡ q → Gives p r x x' → Gives q r x x'
@@ -98,6 +104,43 @@ gives-rings p a r xs xs' k k' g g' h q = record {
     same-generation (answers s) = refl
     same-generation (refuses n) = refl
 
+pub gives-move : (p : Paper Left) (a : Moved) (r : ℕ) (cs cs' xs xs' : List Float) (k k' g g' : ℕ) → GivesTwo (λ (c : RingCount). c .rings) (λ (c : RingCount). c .generation) (movedPaper a) r k k' g g' → Moves p a cs cs' xs xs' → GivesMove p r cs cs' xs xs' k k' g g'
+gives-move p a r cs cs' xs xs' k k' g g' h q = record {
+  code = h .code ∙ ap codeOf (q .answer) ∙ same-code p;
+  cells = q .cells;
+  rings = q .rings;
+  count = h .one ∙ ap (λ (z : Paper RingCount). outOf (λ (c : RingCount). c .rings) z k) (q .answer) ∙ same-count p;
+  generation = h .other ∙ ap (λ (z : Paper RingCount). outOf (λ (c : RingCount). c .generation) z g) (q .answer) ∙ same-generation p;
+}
+  where
+    same-code : (p : Paper Left) → codeOf (Move.countsOf p) ≡ codeOf p
+    same-code (answers s) = refl
+    same-code (refuses n) = refl
+
+    same-count : (p : Paper Left) → outOf (λ (c : RingCount). c .rings) (Move.countsOf p) k ≡ outOf (λ (s : Left). length (s .rings)) p k
+    same-count (answers s) = refl
+    same-count (refuses n) = refl
+
+    same-generation : (p : Paper Left) → outOf (λ (c : RingCount). c .generation) (Move.countsOf p) g ≡ outOf (λ (s : Left). s .generation) p g
+    same-generation (answers s) = refl
+    same-generation (refuses n) = refl
+
+pub gives-store : (p : Paper (List Ring)) (a : StoredAs) (r : ℕ) (xs xs' : List Float) (k k' : ℕ) → Gives (storedPaper a) r k k' → StoresAs xs p a xs' → GivesStore p r xs xs' k k'
+unfolding Remove.countOf onward
+gives-store p a r xs xs' k k' h q = record {
+  code = h .code ∙ ap codeOf (q .answer) ∙ same-code p;
+  rings = q .store;
+  count = h .out ∙ ap (λ (z : Paper ℕ). outOf (λ (n : ℕ). n) z k) (q .answer) ∙ same-count p;
+}
+  where
+    same-code : (p : Paper (List Ring)) → codeOf (Remove.countOf p) ≡ codeOf p
+    same-code (answers l) = refl
+    same-code (refuses n) = refl
+
+    same-count : (p : Paper (List Ring)) → outOf (λ (n : ℕ). n) (Remove.countOf p) k ≡ outOf (λ (l : List Ring). length l) p k
+    same-count (answers l) = refl
+    same-count (refuses n) = refl
+
 -- ---- a side's number
 module _ (spec : TurnStockSpec) (cs : List Float) (side : ℕ) (p : TurnSide → Paper (List TurnChange)) where
   pub by-outer : side ≡ 0 → bySide spec cs side p ≡ p Outer
@@ -125,6 +168,12 @@ module _ (s s' : TurnStockSpec) where
 
   pub same-ring : (f : TurnStockSpec → Paper RingStore) (a : Removed) (xs xs' : List Float) → s ≡ s' → Removes xs (f s) a xs' → Removes xs (f s') a xs'
   same-ring f a xs xs' e q = subst (λ (x : TurnStockSpec). Removes xs (f x) a xs') e q
+
+  pub same-move : (f : TurnStockSpec → Paper Left) (a : Moved) (cs cs' xs xs' : List Float) → s ≡ s' → Moves (f s) a cs cs' xs xs' → Moves (f s') a cs cs' xs xs'
+  same-move f a cs cs' xs xs' e q = subst (λ (x : TurnStockSpec). Moves (f x) a cs cs' xs xs') e q
+
+  pub same-store : (f : TurnStockSpec → Paper (List Ring)) (a : StoredAs) (xs xs' : List Float) → s ≡ s' → StoresAs xs (f s) a xs' → StoresAs xs (f s') a xs'
+  same-store f a xs xs' e q = subst (λ (x : TurnStockSpec). StoresAs xs (f x) a xs') e q
 
   pub same-difference : (cs ds : List Float) (room : ℕ) (a : Previewed) (is is' : List ℕ) (xs xs' : List Float) → s ≡ s' → Proposed (differenceOf s cs ds room) a is is' xs xs' → Proposed (differenceOf s' cs ds room) a is is' xs xs'
   same-difference cs ds room a is is' xs xs' e q = subst (λ (x : TurnStockSpec). Proposed (differenceOf x cs ds room) a is is' xs xs') e q

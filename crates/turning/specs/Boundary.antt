@@ -20,7 +20,10 @@ use Rattle.stock.specs.declared.TurnSide.the-variants.{Outer, Inner}
 use Rattle.stock.specs.Cell.{newCells, stockOf}
 use Rattle.records.specs.Change.{indicesOf, numbersOf, writtenOf}
 use Rattle.changes.specs.Commit.{Committed, cellsAfter}
-use Rattle.rings.specs.Remove.{RingStore, ringsAfter}
+use Rattle.rings.specs.declared.Ring.{Ring}
+use Rattle.rings.specs.Remove.{RingStore, ringsAfter, storeAfter}
+use Rattle.moves.specs.Move as Move
+use Rattle.moves.specs.Move.{Left}
 
 -- 0, or the number of the refusal
 abbrev pub codeOf : {A : Type 0} → Paper A → ℕ
@@ -97,6 +100,20 @@ pub record GivesRings (p : Paper RingStore) (r : ℕ) (xs xs' : List Float) (k k
   pub rings : xs' ≡ ringsAfter xs p
   pub count : k' ≡ outOf (λ (s : RingStore). length (s .rings)) p k
   pub generation : g' ≡ outOf (λ (s : RingStore). s .generation) p g
+
+-- the cells, the rings, their count and the generation
+pub record GivesMove (p : Paper Left) (r : ℕ) (cs cs' xs xs' : List Float) (k k' g g' : ℕ) : Type 0 where
+  pub code : r ≡ codeOf p
+  pub cells : cs' ≡ Move.cellsAfter p cs
+  pub rings : xs' ≡ Move.ringsAfter p xs
+  pub count : k' ≡ outOf (λ (a : Left). length (a .rings)) p k
+  pub generation : g' ≡ outOf (λ (a : Left). a .generation) p g
+
+-- the rings and their count
+pub record GivesStore (p : Paper (List Ring)) (r : ℕ) (xs xs' : List Float) (k k' : ℕ) : Type 0 where
+  pub code : r ≡ codeOf p
+  pub rings : xs' ≡ storeAfter xs p
+  pub count : k' ≡ outOf (λ (l : List Ring). length l) p k
 
 -- ---- an answer that may find nothing
 

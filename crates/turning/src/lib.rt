@@ -6,6 +6,7 @@
 mod cuts_c;
 mod envelope_c;
 mod numbers_c;
+mod queries_c;
 mod rings_c;
 mod stock_c;
 mod sweeps_c;

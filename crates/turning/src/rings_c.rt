@@ -1,13 +1,16 @@
-// Rings.
+// Rings, moves, rebuilding.
 ghost use mathlib.Core.Path.{_≡_};
 ghost use lib.ListN.{length};
 ghost use Prim.Native.Nat.{ℕ};
 ghost use Rattle.rings.specs.Ring.{ring};
-ghost use Rattle.rings.specs.Remove.{RingCount, removedPaper, removeRing};
-ghost use Rattle.turning.specs.Boundary.{specFrom, GivesTwo, GivesRings};
+ghost use Rattle.rings.specs.Remove.{RingCount, removedPaper, removeRing, storedPaper};
+ghost use Rattle.moves.specs.Move.{movedPaper, moveOf, partsOf};
+ghost use Rattle.turning.specs.Boundary.{specFrom, Gives, GivesTwo, GivesRings, GivesMove, GivesStore};
 use crate::stock_c;
+use moves::Moved;
 use rings::Removed;
 use rings::Ring;
+use rings::StoredAs;
 
 // The count of rings and the generation afterwards, or the number of the refusal.
 fn give_removed(answer: Removed, count: &mut usize, generation: &mut u64) -> u32
@@ -46,4 +49,87 @@ pub extern "C" fn turning_remove_ring(
     let before = *generation;
     let answer = rings::remove_ring(spec, rings, count, before, Ring { z0, z1, r0, r1 });
     give_removed(answer, rings_count, generation)
+}
+
+// The count of rings and the generation after a move, or the number of the refusal.
+fn give_moved(answer: Moved, count: &mut usize, generation: &mut u64) -> u32
+    ensures { λ r. ⌜ GivesTwo (λ (c : RingCount). c .rings) (λ (c : RingCount). c .generation) (movedPaper answer) r (now (count .entry)) (now (count .exit)) (now (generation .entry)) (now (generation .exit)) ⌝ }
+{
+    match answer {
+        Moved::Refused(r) => refusals::number(r),
+        Moved::Stored(stored, after) => {
+            *count = stored;
+            *generation = after;
+            0
+        }
+    }
+}
+
+#[no_mangle]
+pub extern "C" fn turning_apply_move(
+    z_min: f64,
+    z_max: f64,
+    outer: f64,
+    bore: f64,
+    cell: f64,
+    max_cells: usize,
+    cells: &mut [f64],
+    rings: &mut [f64],
+    rings_count: &mut usize,
+    generation: &mut u64,
+    indices: &[usize],
+    records: &[f64],
+    changes: usize,
+    removed: &[f64],
+) -> u32
+    ensures { λ r. ⌜ GivesMove (moveOf (specFrom «z_min» «z_max» outer bore cell «max_cells») (now (cells .entry)) (now (rings .entry)) (now («rings_count» .entry)) (now (generation .entry)) (now (indices .entry)) (now (records .entry)) changes (now (removed .entry))) r (now (cells .entry)) (now (cells .exit)) (now (rings .entry)) (now (rings .exit)) (now («rings_count» .entry)) (now («rings_count» .exit)) (now (generation .entry)) (now (generation .exit)) ⌝ }
+{
+    let spec = stock_c::spec_of(z_min, z_max, outer, bore, cell, max_cells);
+    let count = *rings_count;
+    let before = *generation;
+    let answer = moves::apply_move(
+        spec,
+        cells,
+        rings,
+        count,
+        before,
+        indices,
+        records,
+        changes,
+        removed,
+    );
+    give_moved(answer, rings_count, generation)
+}
+
+// The count of rings of a rebuilt stock, or the number of the refusal.
+fn give_stored(answer: StoredAs, count: &mut usize) -> u32
+    ensures { λ r. ⌜ Gives (storedPaper answer) r (now (count .entry)) (now (count .exit)) ⌝ }
+{
+    match answer {
+        StoredAs::Refused(r) => refusals::number(r),
+        StoredAs::Rings(kept) => {
+            *count = kept;
+            0
+        }
+    }
+}
+
+#[no_mangle]
+pub extern "C" fn turning_from_parts(
+    z_min: f64,
+    z_max: f64,
+    outer: f64,
+    bore: f64,
+    cell: f64,
+    max_cells: usize,
+    cells: &[f64],
+    given: &[f64],
+    rings: &mut [f64],
+    rings_count: &mut usize,
+) -> u32
+    ensures { λ r. ⌜ GivesStore (partsOf (specFrom «z_min» «z_max» outer bore cell «max_cells») (now (cells .entry)) (now (given .entry)) (now (rings .entry))) r (now (rings .entry)) (now (rings .exit)) (now («rings_count» .entry)) (now («rings_count» .exit)) ⌝ }
+{
+    let spec = stock_c::spec_of(z_min, z_max, outer, bore, cell, max_cells);
+    let answer = moves::from_parts(spec, cells, given, rings);
+    give_stored(answer, rings_count)
 }
