@@ -8,6 +8,7 @@ pub mod bench;
 pub mod call;
 pub mod far;
 pub mod generate;
+pub mod jobs;
 pub mod library;
 pub mod memory;
 pub mod oracle;

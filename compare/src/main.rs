@@ -1,6 +1,8 @@
 //! compare FAMILY|all [COUNT] [SEED] | far [COUNT] [SEED] | record [COUNT] [SEED] [FAMILY] | bench [WORD]
+//! compare jobs [COUNT] [SEED] PROGRAM [WORD..] | job | job_bench PROGRAM [WORD..]
 use compare::generate::FAMILIES;
-use compare::{bench, far, record, run};
+use compare::{bench, far, jobs, record, run};
+use std::io::{Read, Write};
 use std::process::ExitCode;
 
 const SEED: u64 = 1;
@@ -15,6 +17,9 @@ fn usage() -> ExitCode {
     );
     eprintln!("compare record [COUNT] [SEED] [FAMILY]   COUNT lines a family, see record.rs");
     eprintln!("compare bench [WORD]            times both; only rows with WORD");
+    eprintln!("compare jobs COUNT SEED PROGRAM..   so many jobs through a job program");
+    eprintln!("compare job                     the job on standard input, over the Rust");
+    eprintln!("compare job_bench PROGRAM..     times a job program beside the Rust");
     let names = FAMILIES.map(|(name, stage, count)| format!("{name} (stage{stage}, {count})"));
     eprintln!("families: {}", names.join(", "));
     ExitCode::from(2)
@@ -25,6 +30,17 @@ fn main() -> ExitCode {
     let Some(name) = words.first() else {
         return usage();
     };
+    if name == "job" {
+        let mut input = vec![];
+        std::io::stdin().read_to_end(&mut input).unwrap();
+        std::io::stdout().write_all(&jobs::run(&input)).unwrap();
+        return ExitCode::SUCCESS;
+    }
+    if name == "job_bench" && words.len() > 1 {
+        println!("| job | Rust, ms | ours, ms | ours / Rust |\n|---|---|---|---|");
+        jobs::bench(&words[1..], 100_000);
+        return ExitCode::SUCCESS;
+    }
     let number = |at: usize, default: u64| words.get(at).map_or(Ok(default), |w| w.parse());
     let Ok(seed) = number(2, SEED) else {
         return usage();
@@ -32,6 +48,13 @@ fn main() -> ExitCode {
     if name == "bench" {
         bench::bench(words.get(1).map_or("", |w| w));
         return ExitCode::SUCCESS;
+    }
+    if name == "jobs" && words.len() > 3 {
+        let Ok(count) = number(1, 0) else {
+            return usage();
+        };
+        let differences = jobs::compare(&words[3..], count as usize, seed);
+        return ExitCode::from((differences > 0) as u8);
     }
     let family = FAMILIES.iter().find(|(family, ..)| family == name);
     let default = match (name.as_str(), family) {

@@ -3,3 +3,9 @@ pub mod Third
 pub mod Tools
 pub mod Calls
 pub mod Example
+pub mod Asking
+pub mod First
+pub mod LeftAlone
+pub mod Rings
+pub mod Written
+pub mod Second

@@ -41,7 +41,7 @@ use Rattle.demands.proofs.Third.{any-order, any-order-bin, however-ofte
 -- ---- a cut by name is sound, where it is no arc and in its domain
 module _ (spec : TurnStockSpec) (n : ℕ) where
   -- its preview proposes its changes
-  tool-rule : (t : Tool) → toolGood t ≡ true → (cs : List Float) (room : ℕ) → stockOf spec cs ≡ answers n → previewTool spec t cs room ≡ proposed (toolAct spec t) cs room n
+  pub tool-rule : (t : Tool) → toolGood t ≡ true → (cs : List Float) (room : ℕ) → stockOf spec cs ≡ answers n → previewTool spec t cs room ≡ proposed (toolAct spec t) cs room n
   unfolding toolGood
   tool-rule (single u) g cs room e =
       let b = and-both (not (isArc (cleanCut u))) (cutGood (cleanCut u)) g in

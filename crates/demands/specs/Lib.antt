@@ -1,3 +1,5 @@
 pub mod Job
 pub mod Tool
 pub mod Run
+pub mod Refused
+pub mod Wrote

@@ -1,10 +1,24 @@
-// What a job of cuts leaves, as theorems about the rules that the calls are proved to follow.
+// The demands on the calls, as theorems about the rules that the calls are proved to follow.
 //
-// There is no code here. A job is a list of cuts over one stock, each previewed and then committed.
-// The rules of a preview and of a commit are definitions of the crates below (`previewCut`,
-// `previewOf`, `commitOf`, `applyOf`), and each call's promise says that it answers by its rule.
-// `specs/Tool` names the cuts. `specs/Run` is a run of the calls, by their promises. `specs/Job` puts
-// the rules one after the other, refusals included.
+// There is no code here. The rules are definitions of the crates below (`previewCut`, `applyOf`,
+// `removeRing`, `moveOf`, ..), and each call's promise says that it answers by its rule.
+//
+// Demand 1, each refusal exactly when (`proofs/First`, `proofs/LeftAlone`). `specs/Refused` lists the
+// tests of each call in order, each with its number. `Exactly` says that the rule refuses with k
+// exactly when the first test that does not hold has the number k, and answers exactly when all hold.
+// One law gives it for every rule (`proofs/Asking`). A refused call leaves every lent buffer.
+//
+// Demand 2, what the answers are (`proofs/Second`, with `specs/Wrote`): the root is the nearest value;
+// a preview lists the change of each bin that the cut changes and no other, and its count is that of
+// the records written; a commit writes each change and touches no other bin; what a preview proposes
+// a commit accepts. The programs that this excludes are named there one by one.
+//
+// Demand 3, of cuts: below. Of rings (`proofs/Rings`): accepted rings cover the same points in every
+// order, and no two stored rings share one.
+//
+// A job is a list of cuts over one stock, each previewed and then committed. `specs/Tool` names the
+// cuts. `specs/Run` is a run of the calls, by their promises. `specs/Job` puts the rules one after the
+// other, refusals included.
 //
 // Demand 3 of a run of calls (`proofs/Calls`), over a stock that is not refused:
 // - `run-leaves`: each bin that one side only reaches is left with the closed form: each bound the

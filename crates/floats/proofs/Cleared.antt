@@ -3,13 +3,12 @@
 use mathlib.Core.Path.{_≡_, refl, sym, ap, _∙_, subst}
 use Prim.Native.Nat.{ℕ, zero, suc}
 use native.Mathlib.Omega.{arith}
-use mathlib.Core.Bool.{Bool, true, false, not, _&&_}
+use mathlib.Core.Bool.{Bool, true, false, not, false≢true}
 use lib.IntN.{ℤ, pos}
-use lib.Dec.{T, T-not, not-T}
-use lib.Ieee.{Float, nan, inf, fin, Format, binary64, lt, eq, div, fits, isNan, ofBits, ofFields, odd}
-use lib.Ieee.Bits.{is-false}
+use lib.Dec.{T, T-not, not-T, eqb}
+use lib.Ieee.{Float, nan, inf, fin, Format, binary64, eq, fits, isNan, toBits, size, ofBits, ofFields, odd}
 use Rattle.floats.specs.Pick.{pick, pick-true, pick-false}
-use Rattle.floats.specs.Numbers.{_/₆₄_, zero64, one64, minusZero, cleanOf}
+use Rattle.floats.specs.Numbers.{zero64, minusZero, cleanOf}
 use Rattle.floats.specs.Kinds.{Number, Plain}
 use Rattle.floats.proofs.Keys.{key}
 use Rattle.floats.proofs.Order.{number-of, of-eq, eq-unique}
@@ -75,32 +74,37 @@ clean-same {x} p = clean-is x ∙ go (eq x (fin false 0 (pos 0))) (λ h. sym (pl
     go true h = h tt
     go false h = refl
 
--- ---- the code's test
-test-of : Float → Bool
-test-of x = eq x (fin false 0 (pos 0)) && lt (div binary64 (fin false 1 (pos 0)) x) (fin false 0 (pos 0))
+-- ---- the code's test: of what equals zero, the bits
 
-test-zero : (s : Bool) → test-of (fin s 0 (pos 0)) ≡ s
-unfolding test-of eq lt div
-test-zero true = refl
-test-zero false = refl
+-- what equals zero is a number
+pub zero-number : (x : Float) → eq x zero64 ≡ true → T (not (isNan x))
+unfolding eq isNan
+zero-number nan h = absurd (false≢true h)
+zero-number (inf s) h = tt
+zero-number (fin s m e) h = tt
 
-test-other : (x : Float) → T (not (eq x (fin false 0 (pos 0)))) → test-of x ≡ false
-unfolding test-of
-test-other x h = rw (is-false (eq x (fin false 0 (pos 0))) h) refl
+zero-sign : (s : Bool) → not (eqb (toBits binary64 (fin s 0 (pos 0))) 0) ≡ s
+unfolding toBits size
+zero-sign true = refl
+zero-sign false = refl
 
-test-is : (x : Float) → T (fits binary64 x) → test-of x ≡ minusZero x
-unfolding minusZero
-test-is nan h = test-other nan (unfold eq in tt)
-test-is (inf s) h = test-other (inf s) (unfold eq in tt)
-test-is (fin s zero e) h = ap test-of (zero-is binary64 s e h) ∙ test-zero s
-test-is (fin s (suc m) e) h = test-other (fin s (suc m) e) (not-T (eq (fin s (suc m) e) (fin false 0 (pos 0))) none)
+-- its bits are not 0 exactly if it is -0.0
+pub zero-bits : (x : Float) → T (fits binary64 x) → eq x zero64 ≡ true → not (eqb (toBits binary64 x) 0) ≡ minusZero x
+unfolding minusZero ofBits ofFields odd
+zero-bits nan h t = absurd (false≢true (unfold eq in t))
+zero-bits (inf s) h t = absurd (false≢true (unfold eq in t))
+zero-bits (fin s zero e) h t = ap (λ (y : Float). not (eqb (toBits binary64 y) 0)) (zero-is binary64 s e h) ∙ zero-sign s
+zero-bits (fin s (suc m) e) h t =
+    let q = plain-eq-zero {f = binary64} (record { held = h; number = unfold isNan in tt; unsigned = tt }) (subst T (sym t) tt) in
+    let z : _≡_ {A = ℕ} (suc m) 0 = cc in
+    let no : ⊥ = omega arith in
+    absurd no
+
+-- what does not equal zero is not -0.0
+pub no-zero : (x : Float) → T (fits binary64 x) → eq x zero64 ≡ false → false ≡ minusZero x
+unfolding ofBits ofFields odd
+no-zero x h t = go (minusZero x) (λ m. minus-zero-eq binary64 x h m)
   where
-    none : T (eq (fin s (suc m) e) (fin false 0 (pos 0))) → ⊥
-    none t =
-        let q = plain-eq-zero {f = binary64} (record { held = h; number = unfold isNan in tt; unsigned = tt }) t in
-        let z : _≡_ {A = ℕ} (suc m) 0 = cc in
-        omega arith
-
-pub minus-zero-test : (x : Float) → T (fits binary64 x) → (eq x zero64 && lt (one64 /₆₄ x) zero64) ≡ minusZero x
-unfolding test-of ofBits ofFields odd
-minus-zero-test x h = test-is x h
+    go : (b : Bool) → (T b → T (eq x (fin false 0 (pos 0)))) → false ≡ b
+    go true f = absurd (subst T t (f tt))
+    go false f = refl

@@ -36,11 +36,14 @@ pub fn clean(x: f64) -> f64
     if x == 0.0 { 0.0 } else { x }
 }
 
-// x is -0.0: zero, and one over it is below zero.
+// x is -0.0: zero, and its bits are not those of +0.0. The bits of a NaN are not looked at.
 pub fn is_minus_zero(x: f64) -> bool
     ensures { λ r. ⌜ r ≡ minusZero x ⌝ }
 {
-    (x == 0.0) & (1.0 / x < 0.0)
+    if x == 0.0 {
+        return f64::to_bits(x) != 0;
+    }
+    false
 }
 
 // x is finite and at most 1e6 in size.

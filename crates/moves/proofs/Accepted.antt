@@ -48,7 +48,7 @@ pub record Taken (spec : TurnStockSpec) (cs xs : List Float) (count g : ℕ) (is
   pub rises : a .generation ≡ generationAfter spec g removed
 
 -- a turn of the rings keeps how many are not empty after clipping
-raised-turns : (e : Ring) {l m : List Ring} → List·Permᴰ l m → raisedBy e l ≡ raisedBy e m
+pub raised-turns : (e : Ring) {l m : List Ring} → List·Permᴰ l m → raisedBy e l ≡ raisedBy e m
 unfolding raisedBy
 raised-turns e List·Permᴰ·nil = refl
 raised-turns e (List·Permᴰ·cons {b = b} {l₁ = l} q d) = ap (λ (p : Ring). pick (filled (clip e p)) 1 0 + raisedBy e l) q ∙ ap (λ (n : ℕ). pick (filled (clip e b)) 1 0 + n) (raised-turns e d)

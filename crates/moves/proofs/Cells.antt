@@ -26,7 +26,7 @@ use Rattle.moves.proofs.Answered.{answered}
 -- ---- of n cells that fit
 module _ (s : TurnStockSpec) (n : ℕ) where
   -- the after-cell of a change that passes fits, and there is such a bin
-  one-fits : (cs : List Float) (c : TurnChange) → passes s n cs c ≡ answers tt → (cellFits s (c .after) ≡ true) × (c .index < n)
+  pub one-fits : (cs : List Float) (c : TurnChange) → passes s n cs c ≡ answers tt → (cellFits s (c .after) ≡ true) × (c .index < n)
   unfolding passes appliesTo
   one-fits cs c h =
       let d = demanded _ _ _ _ h in

@@ -56,7 +56,8 @@ module _ (e : Ring) (room : ℕ) (z r : Float) where
           ∙ ap (λ (s : Bool). s || covered (map (clip e) qs) z r) (ap (λ (y : List Ring). covered y z r) m-is ∙ added-covers ks (clip e q) f z r)
           ∙ or-assoc (covered ks z r) (covers (clip e q) z r) (covered (map (clip e) qs) z r)
 
-covered-turns : (f : Ring → Ring) (z r : Float) {l m : List Ring} → List·Permᴰ l m → covered (map f l) z r ≡ covered (map f m) z r
+-- a turn of the rings keeps what they cover
+pub covered-turns : (f : Ring → Ring) (z r : Float) {l m : List Ring} → List·Permᴰ l m → covered (map f l) z r ≡ covered (map f m) z r
 unfolding covered
 covered-turns f z r List·Permᴰ·nil = refl
 covered-turns f z r (List·Permᴰ·cons {b = b} {l₁ = l} e d) = ap (λ (q : Ring). covers (f q) z r || covered (map f l) z r) e ∙ ap (λ (x : Bool). covers (f b) z r || x) (covered-turns f z r d)

@@ -1,0 +1,150 @@
+-- One law for every rule: a rule that asks tests one after the other is refused exactly as the list of those tests says. Assumes nothing.
+use mathlib.Core.Path.{_≡_, refl, sym, ap, _∙_, subst}
+use mathlib.Core.Bool.{Bool, true, false}
+use mathlib.Core.List.{List, [], _∷_, _++_}
+use Prim.Native.Nat.{ℕ}
+use Rattle.refusals.specs.Paper.{Paper, answers, refuses, demand, onward, demand-true, demand-false}
+use Rattle.stock.proofs.Count.{no-answer}
+use Rattle.demands.specs.Refused.{Asked, ask, AllHold, Stops, Exactly, ofAnswer}
+
+same-refusal : {A : Type 0} {m n : ℕ} → _≡_ {A = Paper A} (refuses m) (refuses n) → m ≡ n
+same-refusal h = cc
+
+-- two refusals with one number, of whatever would be answered
+pub same-number : {A B : Type 0} {m n : ℕ} → _≡_ {A = Paper A} (refuses m) (refuses n) → _≡_ {A = Paper B} (refuses n) (refuses m)
+same-number h = ap refuses (sym (same-refusal h))
+
+-- ---- a list of tests, asked one after the other
+
+-- the number of the first that does not hold
+unfoldable pub firstFailing : List Asked → Paper (Unit {0})
+firstFailing [] = answers tt
+firstFailing (q ∷ l) = demand (q .holds) (q .number) (firstFailing l)
+
+first-stops : (l : List Asked) (k : ℕ) → firstFailing l ≡ refuses k → Stops k l
+unfolding firstFailing demand
+first-stops [] k h = absurd (no-answer k tt (sym h))
+first-stops (q ∷ l) k h = go (q .holds) (q .number) h (first-stops l k)
+  where
+    go : (t : Bool) (n : ℕ) → demand t n (firstFailing l) ≡ refuses k → (firstFailing l ≡ refuses k → Stops k l) → Stops k (ask t n ∷ l)
+    go true n e f = let s = f e in record { before = ask true n ∷ s .before; after = s .after; order = ap (λ (x : List Asked). ask true n ∷ x) (s .order); hold = (refl, s .hold) }
+    go false n e f = record { before = []; after = l; order = ap (λ (x : ℕ). ask false x ∷ l) (same-refusal e); hold = tt }
+
+stops-first : (k : ℕ) (b a : List Asked) → AllHold b → firstFailing (b ++ (ask false k ∷ a)) ≡ refuses k
+unfolding firstFailing
+stops-first k [] a h = demand-false false k (firstFailing a) refl
+stops-first k (q ∷ b) a h = demand-true (q .holds) (q .number) _ (h .0) ∙ stops-first k b a (h .1)
+
+first-holds : (l : List Asked) → firstFailing l ≡ answers tt → AllHold l
+unfolding firstFailing demand
+first-holds [] h = tt
+first-holds (q ∷ l) h = go (q .holds) (q .number) h (first-holds l)
+  where
+    go : (t : Bool) (n : ℕ) → demand t n (firstFailing l) ≡ answers tt → (firstFailing l ≡ answers tt → AllHold l) → AllHold (ask t n ∷ l)
+    go true n e f = (refl, f e)
+    go false n e f = absurd (no-answer n tt e)
+
+holds-first : (l : List Asked) → AllHold l → firstFailing l ≡ answers tt
+unfolding firstFailing
+holds-first [] h = refl
+holds-first (q ∷ l) h = demand-true (q .holds) (q .number) _ (h .0) ∙ holds-first l (h .1)
+
+-- tests behind others
+first-append : (l m : List Asked) → firstFailing (l ++ m) ≡ onward (firstFailing l) (λ _. firstFailing m)
+unfolding firstFailing demand onward
+first-append [] m = refl
+first-append (q ∷ l) m = go (q .holds) (q .number) (first-append l m)
+  where
+    go : (t : Bool) (n : ℕ) → firstFailing (l ++ m) ≡ onward (firstFailing l) (λ _. firstFailing m) → demand t n (firstFailing (l ++ m)) ≡ onward (demand t n (firstFailing l)) (λ _. firstFailing m)
+    go true n e = e
+    go false n e = refl
+
+-- ---- a rule and its tests
+
+-- the number with which a rule refuses; what it answers is left out
+unfoldable pub refusalOf : {A : Type 0} → Paper A → Paper (Unit {0})
+refusalOf (answers a) = answers tt
+refusalOf (refuses n) = refuses n
+
+-- the rule is refused as the tests are
+pub record Asks {A : Type 0} (p : Paper A) (l : List Asked) : Type 0 where
+  pub same : refusalOf p ≡ firstFailing l
+
+is-refused : {A : Type 0} (p : Paper A) (k : ℕ) → refusalOf p ≡ refuses k → p ≡ refuses k
+unfolding refusalOf
+is-refused (answers a) k h = absurd (no-answer k tt (sym h))
+is-refused (refuses n) k h = ap refuses (same-refusal h)
+
+is-answered : {A : Type 0} (p : Paper A) → refusalOf p ≡ answers tt → (a : A) × (p ≡ answers a)
+unfolding refusalOf
+is-answered (answers a) h = (a, refl)
+is-answered (refuses n) h = absurd (no-answer n tt h)
+
+-- THE LAW: it refuses with k exactly when the first test that does not hold has the number k, and answers exactly when all hold
+pub exactly : {A : Type 0} {p : Paper A} {l : List Asked} → Asks p l → Exactly p l
+unfolding refusalOf
+exactly {A} {p} {l} h = record {
+  stops = λ k e. first-stops l k (sym (h .same) ∙ ap refusalOf e);
+  refused = λ k s. is-refused p k (h .same ∙ ap firstFailing (s .order) ∙ stops-first k (s .before) (s .after) (s .hold));
+  hold = λ a e. first-holds l (sym (h .same) ∙ ap refusalOf e);
+  answered = λ s. is-answered p (h .same ∙ holds-first l s);
+}
+
+-- what is refused as a rule is has the same tests
+pub exactly-as : {A B : Type 0} {p : Paper A} (q : Paper B) {l : List Asked} → refusalOf q ≡ refusalOf p → Exactly p l → Exactly q l
+unfolding refusalOf
+exactly-as {A} {B} {p} q h x = record {
+  stops = λ k e. x .stops k (is-refused p k (sym h ∙ ap refusalOf e));
+  refused = λ k s. is-refused q k (h ∙ ap refusalOf (x .refused k s));
+  hold = λ b e. let y = is-answered p (sym h ∙ ap refusalOf e) in x .hold (y .0) (y .1);
+  answered = λ s. is-answered q (h ∙ ap refusalOf (x .answered s .1));
+}
+
+-- ---- how a rule's tests are read off it
+
+-- nothing is asked
+pub asks-none : {A : Type 0} (a : A) → Asks (answers a) []
+unfolding refusalOf firstFailing
+asks-none a = record { same = refl }
+
+-- one more test before the others, which are asked where it holds
+pub asks-more : {A : Type 0} {p : Paper A} {l : List Asked} (t : Bool) (n : ℕ) → (t ≡ true → Asks p l) → Asks (demand t n p) (ask t n ∷ l)
+unfolding refusalOf firstFailing demand
+asks-more true n h = record { same = h refl .same }
+asks-more false n h = record { same = refl }
+
+-- the same of a test of what another rule answers
+pub asks-of : {A B : Type 0} {p : Paper A} {l : List Asked} (q : Paper B) (b : B) → q ≡ answers b → (test : B → Bool) (n : ℕ) → Asks p l → Asks (demand (test b) n p) (ask (ofAnswer q test) n ∷ l)
+unfolding ofAnswer
+asks-of {p = p} {l = l} q b e test n h = subst (λ x. Asks (demand (test b) n p) (ask (ofAnswer x test) n ∷ l)) (sym e) (asks-more (test b) n (λ _. h))
+
+-- a rule that goes on with what another answers
+pub asks-on : {A B : Type 0} (p : Paper A) (f : A → Paper B) {l m : List Asked} → Asks p l → ((a : A) → p ≡ answers a → Asks (f a) m) → Asks (onward p f) (l ++ m)
+unfolding refusalOf onward
+asks-on (answers a) f {l} {m} h g = record { same = g a refl .same ∙ ap (λ (x : Paper (Unit {0})). onward x (λ _. firstFailing m)) (h .same) ∙ sym (first-append l m) }
+asks-on (refuses n) f {l} {m} h g = record { same = ap (λ (x : Paper (Unit {0})). onward x (λ _. firstFailing m)) (h .same) ∙ sym (first-append l m) }
+
+-- the same where nothing more is asked
+pub asks-then : {A B : Type 0} (p : Paper A) (f : A → Paper B) {l : List Asked} → Asks p l → ((a : A) → p ≡ answers a → Asks (f a) []) → Asks (onward p f) l
+unfolding refusalOf onward firstFailing
+asks-then (answers a) f h g = record { same = g a refl .same ∙ h .same }
+asks-then (refuses n) f h g = record { same = h .same }
+
+-- a rule that comes to another
+pub asks-as : {A : Type 0} {p q : Paper A} {l : List Asked} → p ≡ q → Asks q l → Asks p l
+asks-as {l = l} e h = subst (λ x. Asks x l) (sym e) h
+
+-- to go on with an answer behind a test
+pub onward-demand : {A B : Type 0} (t : Bool) (n : ℕ) (a : A) (f : A → Paper B) → onward (demand t n (answers a)) f ≡ demand t n (f a)
+unfolding onward demand
+onward-demand true n a f = refl
+onward-demand false n a f = refl
+
+-- an answer where a test holds, a refusal where it does not
+pub asks-holds : {A : Type 0} {t : Bool} (n : ℕ) (a : A) → t ≡ true → Asks (answers a) (ask t n ∷ [])
+unfolding refusalOf firstFailing demand
+asks-holds n a e = record { same = sym (demand-true _ n _ e) }
+
+pub asks-fails : {A : Type 0} {t : Bool} (n : ℕ) → t ≡ false → Asks {A = A} (refuses n) (ask t n ∷ [])
+unfolding refusalOf firstFailing
+asks-fails n e = record { same = sym (demand-false _ n _ e) }

@@ -1,0 +1,329 @@
+-- THE FIRST DEMAND: each refusal number exactly when 01's table says so, in 01's order; and a refusal leaves every lent buffer as it was.
+-- `Exactly rule asks` says it of a rule: `asks` is the list of its tests in 01's order, each with its number (specs/Refused). The rule refuses with k exactly when the first
+-- of them that does not hold has the number k, and answers exactly when all of them hold. Each call's promise says that it answers by its rule. Assumes nothing.
+use mathlib.Core.Path.{_≡_, refl, ap₂, _∙_}
+use mathlib.Core.Bool.{Bool, true, false, not, _&&_, _||_, false≢true}
+use mathlib.Core.List.{List, [], _∷_, _++_}
+use mathlib.Core.Option.{Option, none, some}
+use Prim.Native.Nat.{ℕ, zero, suc, _*_, _<_}
+use native.Mathlib.Nat.{mul-pos, zero-lt-suc}
+use native.Mathlib.Omega.{arith}
+use borrow.Author.Tests.{le-leb}
+use lib.Dec.{T, eqb, leb, ltb, lt→ltb, eqb→eq}
+use lib.ListN.{length}
+use lib.Ieee.{Float, nan, inf, fin, up, down, level, le, lt, eq, ofBits}
+use lib.Ieee.Bits.{is-true}
+use lib.Ieee.Fits.{up-pos}
+use Rattle.refusals.specs.Paper.{Paper, answers, demand, onward, demand-true}
+use Rattle.refusals.specs.Limits.{cellLimit, lastGeneration}
+use Rattle.floats.specs.Pick.{pick}
+use Rattle.floats.specs.Numbers.{_+₆₄_, _*₆₄_, zero64, usable}
+use Rattle.numbers.specs.Root.{rootOf}
+use Rattle.numbers.specs.Length.{lengthOf}
+use Rattle.numbers.specs.Whole.{wholeUp}
+use Rattle.stock.specs.declared.TurnStockSpec.{TurnStockSpec}
+use Rattle.stock.specs.declared.TurnCell.{TurnCell}
+use Rattle.stock.specs.declared.TurnChange.{TurnChange}
+use Rattle.stock.specs.declared.TurnSide.{TurnSide}
+use Rattle.stock.specs.Spec.{cleanSpec, specGood, quotient, counted, cellsOf}
+use Rattle.stock.specs.Bin.{binFor}
+use Rattle.stock.specs.Cell.{cellFits, cellsFit, stockOf, newOf}
+use Rattle.stock.proofs.Count.{and-both}
+use Rattle.reach.specs.Reach.{Act, actCell}
+use Rattle.nose.specs.Nose.{segmentsGood, noseAct}
+use Rattle.polygon.specs.Polygon.{polygonGood, polygonAct}
+use Rattle.records.specs.Change.{changesTo, changesFrom, settled}
+use Rattle.records.specs.Change as change
+use Rattle.cuts.specs.declared.Cut.{Cut}
+use Rattle.cuts.specs.Cut.{isArc, cleanCut, cutGood, cutAct}
+use Rattle.cuts.specs.Preview.{previewOf, previewNose, previewPolygon, previewCut}
+use Rattle.changes.specs.Commit.{appliesTo, rises, passes, eachPasses, passAll, commitIn, commitOf, applyOf}
+use Rattle.changes.specs.Difference.{otherCell, differenceOf}
+use Rattle.rings.specs.declared.Ring.{Ring}
+use Rattle.rings.specs.Ring.{filled, clip, left}
+use Rattle.rings.specs.Store.{extentOf, ringsOf, roomOf, countFits, storeFits, finiteRing, ringsGood}
+use Rattle.rings.specs.Remove.{roomFor, added, addedAll, raised, removeAllIn, removeRings, removeIn, removeRing}
+use Rattle.moves.specs.Move.{generationAfter, moveIn, moveOf, partsOf}
+use Rattle.queries.specs.Envelope.{envelopeAt}
+use Rattle.queries.specs.Volume.{volumeOf}
+use Rattle.envelope.specs.Envelope.{pointsGood, orderedOf, withinOf, withinRefusalOf, radiusAtOf, radiusRangeOf}
+use Rattle.demands.specs.Refused.{ask, Exactly, rootAsks, lengthAsks, countGood, specAsks, binAsks, newAsks, stockAsks, roomGood, previewCutAsks, previewAsks, previewNoseAsks, previewPolygonAsks, eachAsks, passAsks, commitAsks, applyAsks, differenceAsks, removeAsks, roomForAll, allStored, removeRingsAsks, partsAsks, moveAsks, volumeAsks, pointsAsks, radiusAsks, withinAsks}
+use Rattle.demands.proofs.Asking.{Asks, exactly, asks-none, asks-more, asks-of, asks-on, asks-then, asks-as, asks-holds, asks-fails, onward-demand}
+
+-- ---- the root and the length
+
+no-product : (d u m : ℕ) → 0 < suc m * u → 0 * 1 * d ≡ suc m * u * 1 → ⊥
+no-product d u m p h = omega arith
+
+more : (d u m : ℕ) → 0 < suc m * u → 0 * 1 * d < suc m * u * 1
+more d u m p = omega arith
+
+is-false : (t : Bool) → (T t → ⊥) → t ≡ false
+is-false true h = absurd (h tt)
+is-false false h = refl
+
+and-false : (s t : Bool) → s ≡ false → (s && t) ≡ false
+and-false s t e = simp e
+
+or-left : (s t : Bool) → s ≡ true → (s || t) ≡ true
+or-left s t e = simp e
+
+or-right : (s t : Bool) → t ≡ true → (s || t) ≡ true
+or-right true t e = refl
+or-right false t e = e
+
+-- both zeros
+zeros : (s : Bool) (d u : ℕ) → level false (0 * 1 * d) s (0 * u * 1) ≡ true
+zeros s d u = ap₂ (λ (a b : ℕ). level false a s b) none none′ ∙ at-zero s
+  where
+    none : 0 * 1 * d ≡ 0
+    none = omega arith
+
+    none′ : 0 * u * 1 ≡ 0
+    none′ = omega arith
+
+    at-zero : (s : Bool) → level false 0 s 0 ≡ true
+    at-zero true = refl
+    at-zero false = refl
+
+root-asks : (x : Float) → Asks (rootOf x) (rootAsks x)
+unfolding rootOf le lt eq ofBits
+root-asks nan = asks-fails 5 refl
+root-asks (inf s) = asks-fails 5 refl
+root-asks (fin s zero e) = asks-holds 5 _ (or-right (lt zero64 (fin s zero e)) _ (zeros s (down e) (up e)))
+root-asks (fin true (suc m) e) = asks-fails 5 (and-false _ _ (is-false (eqb (0 * 1 * down e) (suc m * up e * 1)) (λ h. no-product (down e) (up e) m (mul-pos (zero-lt-suc m) (up-pos e)) (eqb→eq (0 * 1 * down e) (suc m * up e * 1) h))))
+root-asks (fin false (suc m) e) = asks-holds 5 _ (or-left _ (eq zero64 (fin false (suc m) e)) (is-true (ltb (0 * 1 * down e) (suc m * up e * 1)) (lt→ltb (0 * 1 * down e) (suc m * up e * 1) (more (down e) (up e) m (mul-pos (zero-lt-suc m) (up-pos e))))))
+
+-- `root`: 5
+pub root-exactly : (x : Float) → Exactly (rootOf x) (rootAsks x)
+root-exactly x = exactly (root-asks x)
+
+-- `length`: 5
+pub length-exactly : (x y : Float) → Exactly (lengthOf x y) (lengthAsks x y)
+unfolding lengthOf
+length-exactly x y = root-exactly (x *₆₄ x +₆₄ y *₆₄ y)
+
+-- ---- a spec, its bins and its cells
+
+count-asks : (most : ℕ) (o : Option ℕ) → Asks (counted most o) (ask (countGood most o) 2 ∷ [])
+unfolding demand
+count-asks most none = asks-more {p = answers 0} false 2 (λ _. asks-none 0)
+count-asks most (some n) = asks-more (not (eqb n 0) && leb n most) 2 (λ _. asks-none n)
+
+spec-asks : (spec : TurnStockSpec) → Asks (cellsOf spec) (specAsks spec)
+unfolding cellsOf
+spec-asks spec = asks-more (specGood (cleanSpec spec)) 1 (λ _. count-asks (cleanSpec spec .«max_cells») (wholeUp (quotient (cleanSpec spec)) cellLimit))
+
+stock-asks : (spec : TurnStockSpec) (cs : List Float) → Asks (stockOf spec cs) (stockAsks spec cs)
+unfolding stockOf
+stock-asks spec cs = asks-on (cellsOf spec) _ (spec-asks spec) (λ n e. asks-of (cellsOf spec) n e (λ n. cellsFit (cleanSpec spec) cs n) 3 (asks-none n))
+
+-- `validate`: 1, 2
+pub validate-exactly : (spec : TurnStockSpec) → Exactly (cellsOf spec) (specAsks spec)
+validate-exactly spec = exactly (spec-asks spec)
+
+-- `bin`: 1, 2, 9
+pub bin-exactly : (spec : TurnStockSpec) (i : ℕ) → Exactly (binFor spec i) (binAsks spec i)
+unfolding binFor
+bin-exactly spec i = exactly (asks-on (cellsOf spec) _ (spec-asks spec) (λ n e. asks-of (cellsOf spec) n e (λ n. ltb i n) 9 (asks-none _)))
+
+-- `fill`, a new stock: 1, 2, 3
+pub fill-exactly : (spec : TurnStockSpec) (len : ℕ) → Exactly (newOf spec len) (newAsks spec len)
+unfolding newOf
+fill-exactly spec len = exactly (asks-on (cellsOf spec) _ (spec-asks spec) (λ n e. asks-of (cellsOf spec) n e (λ n. eqb len (4 * n)) 3 (asks-none n)))
+
+-- `cells_fit`: 1, 2, 3
+pub cells-exactly : (spec : TurnStockSpec) (cs : List Float) → Exactly (stockOf spec cs) (stockAsks spec cs)
+cells-exactly spec cs = exactly (stock-asks spec cs)
+
+-- ---- previews and the difference
+
+-- 6, behind the tests of a stock
+settled-asks : (spec : TurnStockSpec) (cs : List Float) (n : ℕ) → stockOf spec cs ≡ answers n → (f : ℕ → TurnCell → TurnCell) (room : ℕ) → Asks (settled room (changesTo f cs n)) (ask (roomGood spec cs f room) 6 ∷ [])
+settled-asks spec cs n e f room = asks-of (stockOf spec cs) n e (λ n. leb (length (changesTo f cs n)) room) 6 (asks-none _)
+
+-- `preview_cut`, and `thread_cut`, `thread_cut_inner`, `drill`, which are previews of one kind of cut: 1, 2, 3, 13, 5, 6
+pub preview-cut-exactly : (spec : TurnStockSpec) (cs : List Float) (cut : Cut) (room : ℕ) → Exactly (previewCut spec cs cut room) (previewCutAsks spec cs cut room)
+unfolding previewCut
+preview-cut-exactly spec cs cut room =
+    let u = cleanCut cut in
+    exactly (asks-on (stockOf spec cs) _ (stock-asks spec cs) (λ n e.
+    asks-more (not (isArc u)) 13 (λ _.
+    asks-more (cutGood u) 5 (λ _.
+    settled-asks spec cs n e (actCell (cutAct (cleanSpec spec) u)) room))))
+
+-- a cut that is in its domain or not: 1, 2, 3, 5, 6
+pub preview-exactly : (spec : TurnStockSpec) (cs : List Float) (good : Bool) (a : Act) (room : ℕ) → Exactly (previewOf spec cs good a room) (previewAsks spec cs good a room)
+unfolding previewOf
+preview-exactly spec cs good a room = exactly (asks-on (stockOf spec cs) _ (stock-asks spec cs) (λ n e. asks-more good 5 (λ _. settled-asks spec cs n e (actCell a) room)))
+
+-- `preview`, of a nose along segments
+pub preview-nose-exactly : (spec : TurnStockSpec) (cs : List Float) (side : TurnSide) (rn : Float) (xs : List Float) (room : ℕ) → Exactly (previewNose spec cs side rn xs room) (previewNoseAsks spec cs side rn xs room)
+preview-nose-exactly spec cs side rn xs room = preview-exactly spec cs (segmentsGood rn xs) (noseAct (cleanSpec spec) side rn xs) room
+
+-- `preview_polygon`
+pub preview-polygon-exactly : (spec : TurnStockSpec) (cs : List Float) (side : TurnSide) (excess : Float) (ps : List Float) (room : ℕ) → Exactly (previewPolygon spec cs side excess ps room) (previewPolygonAsks spec cs side excess ps room)
+preview-polygon-exactly spec cs side excess ps room = preview-exactly spec cs (polygonGood ps excess) (polygonAct (cleanSpec spec) side excess ps) room
+
+-- `changes_to`, the difference: 1, 2, 3 of either list, 6
+pub difference-exactly : (spec : TurnStockSpec) (cs ds : List Float) (room : ℕ) → Exactly (differenceOf spec cs ds room) (differenceAsks spec cs ds room)
+unfolding differenceOf
+difference-exactly spec cs ds room =
+    exactly (asks-on (stockOf spec cs) _ (stock-asks spec cs) (λ n e.
+    asks-of (stockOf spec cs) n e (λ n. cellsFit (cleanSpec spec) ds n) 3
+    (settled-asks spec cs n e (otherCell ds) room)))
+
+-- ---- commits
+
+-- change by change, where p answers how many cells there are
+each-asks : (s : TurnStockSpec) (p : Paper ℕ) (n : ℕ) → p ≡ answers n → (cs : List Float) (l : List TurnChange) → Asks (eachPasses s n cs l) (eachAsks s p cs l)
+unfolding eachPasses eachAsks passes
+each-asks s p n e cs [] = asks-none tt
+each-asks s p n e cs (c ∷ l) =
+    asks-on (passes s n cs c) _
+    (asks-more (cellFits s (c .after)) 8 (λ _. asks-of p n e (λ n. appliesTo n cs c) 9 (asks-none tt)))
+    (λ _ _. each-asks s p n e cs l)
+
+pass-asks : (s : TurnStockSpec) (p : Paper ℕ) (n : ℕ) → p ≡ answers n → (cs : List Float) (l : List TurnChange) → Asks (passAll s n cs l) (passAsks s p cs l)
+unfolding passAll
+pass-asks s p n e cs l = asks-more (rises l) 7 (λ _. each-asks s p n e cs l)
+
+commit-asks : (s : TurnStockSpec) (p : Paper ℕ) (n : ℕ) → p ≡ answers n → (cs : List Float) (gen : ℕ) (l : List TurnChange) → Asks (commitIn s n cs gen l) (passAsks s p cs l ++ (ask (ltb gen lastGeneration) 12 ∷ []))
+unfolding commitIn
+commit-asks s p n e cs gen l = asks-on (passAll s n cs l) _ (pass-asks s p n e cs l) (λ _ _. asks-more (ltb gen lastGeneration) 12 (λ _. asks-none _))
+
+-- `first_refusal`, of changes on n cells: 7, 8 or 9
+pub pass-exactly : (s : TurnStockSpec) (n : ℕ) (cs : List Float) (l : List TurnChange) → Exactly (passAll s n cs l) (passAsks s (answers n) cs l)
+pass-exactly s n cs l = exactly (pass-asks s (answers n) n refl cs l)
+
+-- a commit of a list of changes: 1, 2, 3, 7, 8 or 9, 12
+pub commit-exactly : (spec : TurnStockSpec) (cs : List Float) (gen : ℕ) (l : List TurnChange) → Exactly (commitOf spec cs gen l) (commitAsks spec cs gen l)
+unfolding commitOf
+commit-exactly spec cs gen l = exactly (asks-on (stockOf spec cs) _ (stock-asks spec cs) (λ n e. commit-asks (cleanSpec spec) (stockOf spec cs) n e cs gen l))
+
+-- `apply`, a commit of k changes of the lent lists: the same, with 6 directly after 3
+pub apply-exactly : (spec : TurnStockSpec) (cs : List Float) (gen : ℕ) (is : List ℕ) (xs : List Float) (k : ℕ) → Exactly (applyOf spec cs gen is xs k) (applyAsks spec cs gen is xs k)
+unfolding applyOf
+apply-exactly spec cs gen is xs k =
+    exactly (asks-on (stockOf spec cs) _ (stock-asks spec cs) (λ n e.
+    asks-more (leb k (change.roomOf (length is) (length xs))) 6 (λ _.
+    commit-asks (cleanSpec spec) (stockOf spec cs) n e cs gen (changesFrom is xs k))))
+
+-- ---- rings
+
+-- a rule that is taken where the ring is not empty after clipping: what it asks is skipped where it is
+skips : {A : Type 0} {p : Paper A} {a b : Bool} {m n : ℕ} (t : Bool) → Asks p (ask a m ∷ ask b n ∷ []) → (x : A) → Asks (pick t p (answers x)) (ask (not t || a) m ∷ ask (not t || b) n ∷ [])
+unfolding pick demand
+skips true h x = h
+skips {m = m} {n = n} false h x = asks-more {p = demand true n (answers x)} true m (λ _. asks-more true n (λ _. asks-none x))
+
+raised-asks : (room : ℕ) (ks : List Ring) (g : ℕ) (c : Ring) → Asks (raised room ks g c) (ask (ltb g lastGeneration) 12 ∷ ask (roomFor room ks c) 11 ∷ [])
+unfolding raised added
+raised-asks room ks g c = asks-more (ltb g lastGeneration) 12 (λ _. asks-then (added room ks c) _ (asks-more (roomFor room ks c) 11 (λ _. asks-none _)) (λ _ _. asks-none _))
+
+-- `remove_ring`: 1, 2, 4, 10, 12, 11; a ring that is empty after clipping skips 12 and 11
+pub remove-ring-exactly : (spec : TurnStockSpec) (xs : List Float) (n g : ℕ) (q : Ring) → Exactly (removeRing spec xs n g q) (removeAsks spec xs n g q)
+unfolding removeRing removeIn
+remove-ring-exactly spec xs n g q =
+    let e = extentOf (cleanSpec spec) in
+    exactly (asks-on (cellsOf spec) _ (spec-asks spec) (λ _ _.
+    asks-more (countFits e xs n) 4 (λ _.
+    asks-more (finiteRing q) 10 (λ _.
+    skips (filled (clip e q)) (raised-asks (roomOf (length xs)) (ringsOf n xs) g (clip e q)) _))))
+
+-- two tests of one number, one behind the other, are the test of both
+both : {A : Type 0} {p : Paper A} (s t : Bool) (n : ℕ) → Asks p (ask t n ∷ []) → Asks (demand s n p) (ask (s && t) n ∷ [])
+unfolding demand
+both true t n h = h
+both {p = p} false t n h = asks-more {p = p} false n (λ e. absurd (false≢true e))
+
+-- rings one after the other: 11
+added-asks : (e : Ring) (room : ℕ) (ks qs : List Ring) → Asks (addedAll e room ks qs) (ask (roomForAll e room ks qs) 11 ∷ [])
+unfolding addedAll roomForAll added demand
+added-asks e room ks [] = asks-more true 11 (λ _. asks-none ks)
+added-asks e room ks (q ∷ qs) = asks-as (step (roomFor room ks (clip e q))) (both (roomFor room ks (clip e q)) _ 11 (added-asks e room (ks ++ left ks (clip e q)) qs))
+  where
+    step : (t : Bool) → onward (demand t 11 (answers (ks ++ left ks (clip e q)))) (λ l. addedAll e room l qs) ≡ demand t 11 (addedAll e room (ks ++ left ks (clip e q)) qs)
+    step t = onward-demand t 11 _ _
+
+rings-asks : (spec : TurnStockSpec) (xs : List Float) (n : ℕ) (removed : List Float) → Asks (removeRings spec xs n removed) (removeRingsAsks spec xs n removed)
+unfolding removeRings removeAllIn
+rings-asks spec xs n removed = asks-more (leb n (roomOf (length xs))) 4 (λ _. added-asks _ _ _ _)
+
+-- the same where the count is known not to be over the room
+rings-room : (spec : TurnStockSpec) (xs : List Float) (n : ℕ) (removed : List Float) → leb n (roomOf (length xs)) ≡ true → Asks (removeRings spec xs n removed) (ask (allStored spec xs n removed) 11 ∷ [])
+unfolding removeRings removeAllIn
+rings-room spec xs n removed e = asks-as (demand-true _ 4 _ e) (added-asks _ _ _ _)
+
+-- `remove_rings`, of a stock that is checked already: 4 for the count, 11
+pub remove-rings-exactly : (spec : TurnStockSpec) (xs : List Float) (n : ℕ) (removed : List Float) → Exactly (removeRings spec xs n removed) (removeRingsAsks spec xs n removed)
+remove-rings-exactly spec xs n removed = exactly (rings-asks spec xs n removed)
+
+-- ---- parts and moves
+
+-- `from_parts`: 1, 2, 3, 10, 11
+pub parts-exactly : (spec : TurnStockSpec) (cs given xs : List Float) → Exactly (partsOf spec cs given xs) (partsAsks spec cs given xs)
+unfolding partsOf
+parts-exactly spec cs given xs =
+    exactly (asks-on (stockOf spec cs) _ (stock-asks spec cs) (λ _ _.
+    asks-more (ringsGood given) 10 (λ _.
+    rings-room spec xs 0 given (le-leb 0 (roomOf (length xs)) (omega arith)))))
+
+-- rings that pass refusal 4's test are no more than the room
+fits-room : (e : Ring) (xs : List Float) (n : ℕ) → countFits e xs n ≡ true → leb n (roomOf (length xs)) ≡ true
+unfolding countFits
+fits-room e xs n h = and-both (leb n (roomOf (length xs))) (storeFits e (ringsOf n xs)) h .0
+
+-- `apply_move`: 1, 2, 3, 6, 4, 10, 7, 8 or 9, 12, 11
+pub move-exactly : (spec : TurnStockSpec) (cs xs : List Float) (count g : ℕ) (is : List ℕ) (ys : List Float) (k : ℕ) (removed : List Float) → Exactly (moveOf spec cs xs count g is ys k removed) (moveAsks spec cs xs count g is ys k removed)
+unfolding moveOf moveIn
+move-exactly spec cs xs count g is ys k removed =
+    exactly (asks-on (stockOf spec cs) _ (stock-asks spec cs) (λ n e.
+    asks-more (leb k (change.roomOf (length is) (length ys))) 6 (λ _.
+    asks-more (countFits (extentOf (cleanSpec spec)) xs count) 4 (λ f.
+    asks-more (ringsGood removed) 10 (λ _.
+    asks-on (passAll (cleanSpec spec) n cs (changesFrom is ys k)) _ (pass-asks (cleanSpec spec) (stockOf spec cs) n e cs (changesFrom is ys k)) (λ _ _.
+    asks-more (leb (generationAfter spec g removed) lastGeneration) 12 (λ _.
+    asks-then (removeRings spec xs count removed) _ (rings-room spec xs count removed (fits-room (extentOf (cleanSpec spec)) xs count f)) (λ _ _. asks-none _))))))))
+
+-- ---- volume and `envelope_at`
+
+-- `volume`: 1, 2, 3, 4
+pub volume-exactly : (spec : TurnStockSpec) (cs xs : List Float) (k : ℕ) → Exactly (volumeOf spec cs xs k) (volumeAsks spec cs xs k)
+unfolding volumeOf
+volume-exactly spec cs xs k = exactly (asks-on (stockOf spec cs) _ (stock-asks spec cs) (λ _ _. asks-more (countFits (extentOf (cleanSpec spec)) xs k) 4 (λ _. asks-none _)))
+
+-- `envelope_at`: 1, 2, 3, whatever z is
+pub envelope-at-exactly : (spec : TurnStockSpec) (cs : List Float) (z : Float) → Exactly (envelopeAt spec cs z) (stockAsks spec cs)
+unfolding envelopeAt
+envelope-at-exactly spec cs z = exactly (asks-then (stockOf spec cs) _ (stock-asks spec cs) (λ _ _. asks-none _))
+
+-- ---- envelopes: 14
+
+-- `order_of`
+pub order-exactly : (ps : List Float) → Exactly (orderedOf ps) (pointsAsks ps)
+unfolding orderedOf
+order-exactly ps = exactly (asks-more (pointsGood ps) 14 (λ _. asks-none _))
+
+within-asks : (ps : List Float) (lo hi : Float) → Asks (withinOf ps lo hi) (withinAsks ps lo hi)
+unfolding withinOf
+within-asks ps lo hi = asks-more (pointsGood ps && (usable lo && usable hi)) 14 (λ _. asks-none _)
+
+-- `within_span`
+pub within-exactly : (ps : List Float) (lo hi : Float) → Exactly (withinOf ps lo hi) (withinAsks ps lo hi)
+within-exactly ps lo hi = exactly (within-asks ps lo hi)
+
+-- `within_refusal`, which says whether `within` is refused: the same
+pub within-refusal-exactly : (ps : List Float) (lo hi : Float) → Exactly (withinRefusalOf ps lo hi) (withinAsks ps lo hi)
+unfolding withinRefusalOf
+within-refusal-exactly ps lo hi = exactly (asks-then (withinOf ps lo hi) _ (within-asks ps lo hi) (λ _ _. asks-none tt))
+
+-- `radius_at`
+pub radius-at-exactly : (ps : List Float) (u : Float) → Exactly (radiusAtOf ps u) (radiusAsks ps u)
+unfolding radiusAtOf
+radius-at-exactly ps u = exactly (asks-more (pointsGood ps && usable u) 14 (λ _. asks-none _))
+
+-- `radius_range`
+pub radius-range-exactly : (ps : List Float) (lo hi : Float) → Exactly (radiusRangeOf ps lo hi) (withinAsks ps lo hi)
+unfolding radiusRangeOf
+radius-range-exactly ps lo hi = exactly (asks-more (pointsGood ps && (usable lo && usable hi)) 14 (λ _. asks-none _))

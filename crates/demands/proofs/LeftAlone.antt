@@ -1,0 +1,127 @@
+-- The first demand over the calls themselves, by their promises: a call is refused exactly as its rule is, a refusal returns its number only, and every lent buffer keeps its contents.
+-- A buffer that a call is lent to read alone it cannot write: that is its type. Here are those that it is lent to write. Assumes nothing.
+use mathlib.Core.Path.{_≡_, refl, sym, ap, _∙_, subst}
+use mathlib.Core.List.{List}
+use Prim.Native.Nat.{ℕ}
+use lib.IntN.{ℤ}
+use lib.ListN.{length}
+use lib.Ieee.{Float}
+use Rattle.refusals.specs.declared.Refusal.{Refusal}
+use Rattle.refusals.specs.Number.{numberOf}
+use Rattle.refusals.specs.Lent.{over}
+use Rattle.refusals.specs.Paper.{Paper, answers, refuses, onward}
+use Rattle.stock.specs.declared.TurnStockSpec.{TurnStockSpec}
+use Rattle.stock.specs.declared.TurnChange.{TurnChange}
+use Rattle.stock.specs.declared.Counted.the-variants as counted
+use Rattle.stock.specs.Cell.{newOf, newCells, Filled}
+use Rattle.stock.proofs.Count.{no-answer}
+use Rattle.records.specs.declared.Previewed.{Previewed}
+use Rattle.records.specs.declared.Previewed.the-variants as previewed
+use Rattle.records.specs.Change.{previewedPaper, countOf, numbersOf, Proposed}
+use Rattle.changes.specs.declared.Applied.{Applied}
+use Rattle.changes.specs.declared.Applied.the-variants as applied
+use Rattle.changes.specs.Commit.{Committed, appliedPaper, generationOf, Applies}
+use Rattle.rings.specs.declared.Ring.{Ring}
+use Rattle.rings.specs.declared.StoredAs.{StoredAs}
+use Rattle.rings.specs.declared.StoredAs.the-variants as stored
+use Rattle.rings.specs.declared.Removed.{Removed}
+use Rattle.rings.specs.declared.Removed.the-variants as removed
+use Rattle.rings.specs.Remove as rings
+use Rattle.rings.specs.Remove.{RingStore, storedPaper, StoresAs, removedPaper, countsOf, ringsAfter, Removes}
+use Rattle.moves.specs.declared.Moved.{Moved}
+use Rattle.moves.specs.declared.Moved.the-variants as moved
+use Rattle.moves.specs.Move as moves
+use Rattle.moves.specs.Move.{Left, movedPaper, Moves}
+use Rattle.envelope.specs.Halving.{keptOf, Kept}
+use Rattle.demands.specs.Refused.{Asked, Exactly}
+use Rattle.demands.proofs.Asking.{refusalOf, same-number, exactly-as}
+
+-- ---- previews and the difference: the two lists that changes are written to
+
+-- refused exactly as the rule is
+pub preview-call : {p : Paper (List TurnChange)} {r : Previewed} {is is' : List ℕ} {xs xs' : List Float} {l : List Asked} → Proposed p r is is' xs xs' → Exactly p l → Exactly (previewedPaper r) l
+unfolding refusalOf
+preview-call {p} {r} h x = exactly-as (previewedPaper r) (ap refusalOf (h .answer) ∙ same p) x
+  where
+    same : (p : Paper (List TurnChange)) → refusalOf (countOf p) ≡ refusalOf p
+    same (answers l) = refl
+    same (refuses n) = refl
+
+-- and then both lists are as they were
+pub preview-left : (p : Paper (List TurnChange)) (c : Refusal) (is is' : List ℕ) (xs xs' : List Float) → Proposed p (previewed.Refused c) is is' xs xs' → (p ≡ refuses (numberOf c)) × (is' ≡ is) × (xs' ≡ xs)
+unfolding over numbersOf
+preview-left (answers l) c is is' xs xs' h = absurd (no-answer (numberOf c) (length l) (h .answer))
+preview-left (refuses n) c is is' xs xs' h = (same-number (h .answer), h .indices, h .numbers)
+
+-- ---- a commit: the cells
+
+pub commit-call : {p : Paper Committed} {r : Applied} {cs cs' : List Float} {l : List Asked} → Applies p r cs cs' → Exactly p l → Exactly (appliedPaper r) l
+unfolding refusalOf
+commit-call {p} {r} h x = exactly-as (appliedPaper r) (ap refusalOf (h .answer) ∙ same p) x
+  where
+    same : (p : Paper Committed) → refusalOf (generationOf p) ≡ refusalOf p
+    same (answers k) = refl
+    same (refuses n) = refl
+
+pub commit-left : (p : Paper Committed) (c : Refusal) (cs cs' : List Float) → Applies p (applied.Refused c) cs cs' → (p ≡ refuses (numberOf c)) × (cs' ≡ cs)
+commit-left (answers k) c cs cs' h = absurd (no-answer (numberOf c) (k .generation) (h .answer))
+commit-left (refuses n) c cs cs' h = (same-number (h .answer), h .cells)
+
+-- ---- one ring: the rings
+
+pub ring-call : {p : Paper RingStore} {r : Removed} {xs ys : List Float} {l : List Asked} → Removes xs p r ys → Exactly p l → Exactly (removedPaper r) l
+unfolding refusalOf countsOf onward
+ring-call {p} {r} h x = exactly-as (removedPaper r) (ap refusalOf (h .answer) ∙ same p) x
+  where
+    same : (p : Paper RingStore) → refusalOf (countsOf p) ≡ refusalOf p
+    same (answers k) = refl
+    same (refuses n) = refl
+
+pub ring-left : (p : Paper RingStore) (c : Refusal) (xs ys : List Float) → Removes xs p (removed.Refused c) ys → (p ≡ refuses (numberOf c)) × (ys ≡ xs)
+unfolding countsOf ringsAfter onward
+ring-left (answers k) c xs ys h = absurd (no-answer (numberOf c) _ (h .answer))
+ring-left (refuses n) c xs ys h = (same-number (h .answer), h .store)
+
+-- ---- a list of rings, and parts: the rings
+
+pub rings-call : {p : Paper (List Ring)} {r : StoredAs} {xs ys : List Float} {l : List Asked} → StoresAs xs p r ys → Exactly p l → Exactly (storedPaper r) l
+unfolding refusalOf rings.countOf onward
+rings-call {p} {r} h x = exactly-as (storedPaper r) (ap refusalOf (h .answer) ∙ same p) x
+  where
+    same : (p : Paper (List Ring)) → refusalOf (rings.countOf p) ≡ refusalOf p
+    same (answers k) = refl
+    same (refuses n) = refl
+
+pub rings-left : (p : Paper (List Ring)) (c : Refusal) (xs ys : List Float) → StoresAs xs p (stored.Refused c) ys → (p ≡ refuses (numberOf c)) × (ys ≡ xs)
+unfolding rings.countOf onward
+rings-left (answers k) c xs ys h = absurd (no-answer (numberOf c) (length k) (h .answer))
+rings-left (refuses n) c xs ys h = (same-number (h .answer), h .store)
+
+-- ---- a move: the cells and the rings, nothing of either written before all is decided
+
+pub move-call : {p : Paper Left} {r : Moved} {cs cs' xs xs' : List Float} {l : List Asked} → Moves p r cs cs' xs xs' → Exactly p l → Exactly (movedPaper r) l
+unfolding refusalOf
+move-call {p} {r} h x = exactly-as (movedPaper r) (ap refusalOf (h .answer) ∙ same p) x
+  where
+    same : (p : Paper Left) → refusalOf (moves.countsOf p) ≡ refusalOf p
+    same (answers k) = refl
+    same (refuses n) = refl
+
+pub move-left : (p : Paper Left) (c : Refusal) (cs cs' xs xs' : List Float) → Moves p (moved.Refused c) cs cs' xs xs' → (p ≡ refuses (numberOf c)) × (cs' ≡ cs) × (xs' ≡ xs)
+move-left (answers k) c cs cs' xs xs' h = absurd (no-answer (numberOf c) _ (h .answer))
+move-left (refuses n) c cs cs' xs xs' h = (same-number (h .answer), h .cells, h .rings)
+
+-- ---- a new stock: the numbers that it is to fill
+
+pub fill-left : (spec : TurnStockSpec) (c : Refusal) (cs cs' : List Float) → Filled spec (counted.Refused c) cs cs' → (newOf spec (length cs) ≡ refuses (numberOf c)) × (cs' ≡ cs)
+fill-left spec c cs cs' h = (sym (h .answer), h .cells ∙ ap (λ (p : Paper ℕ). newCells spec p cs) (sym (h .answer)))
+
+-- ---- calls that are lent nothing to write
+
+-- `validate`, `bin`, `cells_fit`, `root`, `length`, `volume`, `envelope_at`, `order_of`, `radius_at`, ..: the promise is that the answer, case by case, is the rule's
+pub plain-call : {A : Type 0} {p q : Paper A} {l : List Asked} → q ≡ p → Exactly p l → Exactly q l
+plain-call {l = l} e x = subst (λ y. Exactly y l) (sym e) x
+
+-- an `Envelope`, which `new` makes with the order's number of its points: its methods answer by the same rules
+pub kept-call : {A : Type 0} {ps : List Float} {z : ℤ} {r way rule : Paper A} {l : List Asked} → Kept ps z r way rule → z ≡ keptOf ps → Exactly rule l → Exactly r l
+kept-call k e x = plain-call (k .ruled e) x

@@ -1,0 +1,167 @@
+-- THE SECOND DEMAND: what a call answers and leaves is what its rule says. Each call's promise is that, over the definitions of the crates below; what follows says in plain
+-- words what those definitions come to, and so which programs no promise admits. Assumes nothing.
+--
+-- The programs that 01 excludes by name, and what excludes each:
+-- - A preview that refuses always: `preview-accepts` here, and "exactly when" in `First` (`preview-cut-exactly`, `preview-nose-exactly`, `preview-polygon-exactly`).
+--   Edits of crate `cuts` that refuse every cut in its domain: `preview_refuses_always`, `nose_refuses_always`.
+-- - A preview that finds no change, or a fixed list: `preview-lists` here: the change of each bin whose cell the cut changes is listed, and no other.
+--   Edits: `changes_of_the_first_bin` (crate `cuts`); `difference_of_the_first_with_itself` (crate `changes`), which finds no change.
+-- - A commit that writes nothing, or the first change only: `commit-writes` here. Edits of crate `changes`: `commit_writes_its_first_bin_only`, and
+--   `commit_writes_the_before_cells`, which leaves the cells as they were.
+-- - A move that stores its first ring and merely raises the generation for the others: `move-writes` here, and `moved-covers` in `Rings`.
+--   Edit of crate `moves`: `first_ring_only_stored`.
+-- - A change count that does not equal the records written: `preview-writes` here. Edits: `every_bin_counted` of this crate, `equal_cells_counted` of crate `changes`.
+use mathlib.Core.Path.{_≡_, refl, sym, ap, _∙_, subst}
+use mathlib.Core.Bool.{true, false, _||_}
+use mathlib.Core.List.{List, map}
+use Prim.Native.Nat.{ℕ, suc, _+_, _/_, _≤_, _<_}
+use lib.Dec.{T, leb}
+use lib.IntN.{ℤ}
+use lib.ListN.{length}
+use lib.Ieee.{Float, binary64, fin, fits}
+use Rattle.refusals.specs.Paper.{Paper, answers, refuses}
+use Rattle.refusals.specs.Limits.{lastGeneration}
+use Rattle.refusals.specs.Lent.{over}
+use Rattle.numbers.specs.Root.{rootIn, unitsOf}
+use Rattle.numbers.proofs.Nearest.{root-of, root-fits, root-nearest}
+use Rattle.stock.specs.declared.TurnStockSpec.{TurnStockSpec}
+use Rattle.stock.specs.declared.TurnChange.{TurnChange}
+use Rattle.stock.specs.Spec.{cleanSpec}
+use Rattle.stock.specs.Cell.{cellAt, stockOf}
+use Rattle.stock.proofs.Count.{demanded, no-answer, same-answer, stocked}
+use Rattle.stock.proofs.Bins.{HeldSpec, HeldList}
+use Rattle.reach.specs.Reach.{actCell}
+use Rattle.records.specs.declared.Previewed.the-variants.{Changes}
+use Rattle.records.specs.Change.{changesTo, changesFrom, indicesOf, numbersOf, roomOf, Proposed}
+use Rattle.records.proofs.ReadBack.{read-back}
+use Rattle.cuts.specs.Preview.{previewOf, previewCut}
+use Rattle.changes.specs.declared.Applied.the-variants.{Generation}
+use Rattle.changes.specs.Commit.{Committed, putAll, commitIn, applyOf, generationOf, cellsAfter, Applies}
+use Rattle.changes.specs.Difference.{otherCell, differenceOf}
+use Rattle.changes.proofs.Stocks.{stock-good}
+use Rattle.changes.proofs.Accepted.{good-bins}
+use Rattle.changes.proofs.Proposal.{act-cuts}
+use Rattle.changes.proofs.Becomes.{difference-is}
+use Rattle.rings.specs.Ring.{covered, clip}
+use Rattle.rings.specs.Store.{extentOf, ringsOf}
+use Rattle.moves.specs.Move.{Left, generationAfter, moveOf}
+use Rattle.moves.proofs.Answered.{answered}
+use Rattle.moves.proofs.Accepted.{taken}
+use Rattle.demands.specs.Tool.{Tool, single, nose, polygon, toolAct, previewTool, toolGood, HeldTool}
+use Rattle.demands.specs.Wrote.{NearestRoot, Lists, Previews, Writes}
+use Rattle.demands.proofs.InTurn.{lent-commits}
+use Rattle.demands.proofs.Tools.{tool-sound, accepted-good, good-accepted, tool-rule}
+use Rattle.demands.proofs.Rings.{moved-covers}
+use Rattle.demands.proofs.Written.{changes-list, changes-written}
+
+-- ---- the root
+
+-- THE ROOT of a finite value above 0 is the nearest value of binary64. (That of either zero is +0.0 by the rule, and every other x is refused: `root-exactly` in `First`.)
+pub root-is-nearest : (m : ℕ) (e : ℤ) → T (fits binary64 (fin false (suc m) e)) → NearestRoot (fin false (suc m) e)
+root-is-nearest m e f = record { root = rootIn (unitsOf (fin false (suc m) e)); answer = root-of m e f; held = root-fits m e f; nearest = root-nearest m e f }
+
+-- ---- previews
+
+-- A PREVIEW DOES NOT REFUSE ALWAYS: of a cut that is no arc and in its domain, on a stock that is not refused, with room for a change in every cell, it answers.
+pub preview-accepts : (spec : TurnStockSpec) (n : ℕ) (t : Tool) (cs : List Float) (room : ℕ) → stockOf spec cs ≡ answers n → n ≤ room → toolGood t ≡ true → previewTool spec t cs room ≡ answers (changesTo (actCell (toolAct spec t)) cs n)
+preview-accepts = good-accepted
+
+preview-stock : (spec : TurnStockSpec) (t : Tool) (cs : List Float) (room : ℕ) (l : List TurnChange) → previewTool spec t cs room ≡ answers l → (n : ℕ) × (stockOf spec cs ≡ answers n)
+unfolding previewCut previewOf
+preview-stock spec (single u) cs room l e = let a = answered (stockOf spec cs) _ l e in (a .value, a .first)
+preview-stock spec (nose side rn xs) cs room l e = let a = answered (stockOf spec cs) _ l e in (a .value, a .first)
+preview-stock spec (polygon side excess ps) cs room l e = let a = answered (stockOf spec cs) _ l e in (a .value, a .first)
+
+-- An accepted preview is of a stock that is not refused, and what it lists are the changes of the cut.
+pub preview-is : (spec : TurnStockSpec) (t : Tool) (cs : List Float) (room : ℕ) (l : List TurnChange) → previewTool spec t cs room ≡ answers l → (n : ℕ) × (stockOf spec cs ≡ answers n) × (l ≡ changesTo (actCell (toolAct spec t)) cs n)
+preview-is spec t cs room l e =
+    let s = preview-stock spec t cs room l e in
+    let k : List TurnChange = changesTo (actCell (toolAct spec t)) cs (s .0) in
+    let p = demanded (leb (length k) room) 6 (answers k) l (sym (tool-rule spec (s .0) t (accepted-good spec t cs room l e) cs room (s .1)) ∙ e) .1 in
+    (s .0, s .1, sym (same-answer p))
+
+-- WHAT IT LISTS: the change of each bin whose cell the cut changes, with the cell before and the cell that the cut makes of it, and no other change; by rising index.
+pub preview-lists : (spec : TurnStockSpec) (t : Tool) (cs : List Float) (room : ℕ) (l : List TurnChange) → previewTool spec t cs room ≡ answers l → (n : ℕ) × (stockOf spec cs ≡ answers n) × Lists (actCell (toolAct spec t)) cs n l
+preview-lists spec t cs room l e =
+    let p = preview-is spec t cs room l e in
+    (p .0, p .1, subst (Lists (actCell (toolAct spec t)) cs (p .0)) (sym (p .2)) (changes-list (actCell (toolAct spec t)) cs (p .0)))
+
+-- a proposal that answered with a count: its changes are that many, and they read back from the first records
+record Read (p : Paper (List TurnChange)) (k : ℕ) (is is' : List ℕ) (xs xs' : List Float) : Type 0 where
+  changes : List TurnChange
+  answer : p ≡ answers changes
+  count : k ≡ length changes
+  records : changesFrom is' xs' k ≡ changes
+  indices : is' ≡ over (indicesOf changes) is
+  numbers : xs' ≡ over (numbersOf changes) xs
+
+read : {k : ℕ} {is is' : List ℕ} {xs xs' : List Float} (p : Paper (List TurnChange)) → Proposed p (Changes k) is is' xs xs' → Read p k is is' xs xs'
+read {k} (refuses n) h = absurd (no-answer n k (sym (h .answer)))
+read {k} {is} {is'} {xs} {xs'} (answers l) h =
+    let e : k ≡ length l = same-answer (h .answer) in
+    let i : is' ≡ over (indicesOf l) is = h .indices in
+    let x : xs' ≡ over (numbersOf l) xs = h .numbers in
+    record { changes = l; answer = refl; count = e; records = (λ j. changesFrom (i j) (x j) (e j)) ∙ read-back l is xs; indices = i; numbers = x }
+
+-- WHAT IT WRITES: a preview that answers `Changes k` leaves k records, and those are the changes of the cut; the rest of the lists is as it was.
+pub preview-writes : (spec : TurnStockSpec) (t : Tool) (cs : List Float) (k : ℕ) (is is' : List ℕ) (xs xs' : List Float) → Proposed (previewTool spec t cs (roomOf (length is) (length xs))) (Changes k) is is' xs xs' → Previews spec t cs k is is' xs xs'
+preview-writes spec t cs k is is' xs xs' h =
+    let room = roomOf (length is) (length xs) in
+    let w = read (previewTool spec t cs room) h in
+    let p = preview-lists spec t cs room (w .changes) (w .answer) in
+    record { bins = p .0; stock = p .1; changes = w .changes; lists = p .2; count = w .count; records = w .records; indices = w .indices; numbers = w .numbers }
+
+-- ---- the difference
+
+-- WHAT IT LISTS: the bins whose cells are unequal, each with the first stock's cell before and the second's after, and no other; by rising index.
+pub difference-lists : (spec : TurnStockSpec) (cs ds : List Float) (room : ℕ) (l : List TurnChange) → differenceOf spec cs ds room ≡ answers l → (n : ℕ) × (stockOf spec cs ≡ answers n) × Lists (otherCell ds) cs n l
+unfolding differenceOf
+difference-lists spec cs ds room l e =
+    let s = difference-stock spec cs ds room l e in
+    (s .0, s .1, subst (Lists (otherCell ds) cs (s .0)) (sym (difference-is spec cs ds (s .0) room l (s .1) e)) (changes-list (otherCell ds) cs (s .0)))
+  where
+    difference-stock : (spec : TurnStockSpec) (cs ds : List Float) (room : ℕ) (l : List TurnChange) → differenceOf spec cs ds room ≡ answers l → (n : ℕ) × (stockOf spec cs ≡ answers n)
+    difference-stock spec cs ds room l e = let a = answered (stockOf spec cs) _ l e in (a .value, a .first)
+
+-- ---- commits
+
+-- WHAT A COMMIT WRITES: each of the k changes of the lent lists, and no other bin; the generation rises by 1, also with no changes.
+pub commit-writes : (spec : TurnStockSpec) (cs : List Float) (gen : ℕ) (is : List ℕ) (xs : List Float) (k : ℕ) (m : Committed) → applyOf spec cs gen is xs k ≡ answers m → Writes (changesFrom is xs k) cs (m .cells) × (m .generation ≡ gen + 1)
+unfolding applyOf commitIn
+commit-writes spec cs gen is xs k m h =
+    let s = answered (stockOf spec cs) _ m h in
+    let d6 = demanded _ _ _ _ (s .then) in
+    let p = answered _ _ _ (d6 .1) in
+    let d12 = demanded _ _ _ _ (p .then) in
+    let v : _≡_ {A = Committed} (record { cells = putAll cs (changesFrom is xs k); generation = gen + 1 }) m = same-answer (d12 .1) in
+    (subst (λ (y : Committed). Writes (changesFrom is xs k) cs (y .cells)) v (changes-written spec cs (s .value) (changesFrom is xs k) (s .first) (p .first)), sym (ap (λ (y : Committed). y .generation) v))
+
+-- the same of the call: what it leaves in the lent cells
+pub commit-call-writes : (spec : TurnStockSpec) (cs cs' : List Float) (gen g : ℕ) (is : List ℕ) (xs : List Float) (k : ℕ) → Applies (applyOf spec cs gen is xs k) (Generation g) cs cs' → Writes (changesFrom is xs k) cs cs' × (g ≡ gen + 1)
+commit-call-writes spec cs cs' gen g is xs k a = go (applyOf spec cs gen is xs k) refl (a .answer) (a .cells)
+  where
+    go : (p : Paper Committed) → applyOf spec cs gen is xs k ≡ p → answers g ≡ generationOf p → cs' ≡ cellsAfter p cs → Writes (changesFrom is xs k) cs cs' × (g ≡ gen + 1)
+    go (refuses n) e b c = absurd (no-answer n g (sym b))
+    go (answers m) e b c = let w = commit-writes spec cs gen is xs k m e in (subst (Writes (changesFrom is xs k) cs) (sym c) (w .0), same-answer b ∙ w .1)
+
+-- PREVIEWS ALWAYS COMMIT: what a preview left in the lists, a commit on the same stock accepts while generations last; each cell is then what the cut makes of it.
+pub previews-commit : (spec : TurnStockSpec) (n : ℕ) (t : Tool) → HeldSpec spec → HeldTool t → (cs : List Float) → HeldList cs → stockOf spec cs ≡ answers n
+    → (gen k : ℕ) (is is' : List ℕ) (xs xs' : List Float) → gen < lastGeneration → Proposed (previewTool spec t cs (roomOf (length is) (length xs))) (Changes k) is is' xs xs'
+    → (m : Committed) × (applyOf spec cs gen is' xs' k ≡ answers m) × (m .generation ≡ gen + 1) × ((i : ℕ) → i < n → cellAt (m .cells) i ≡ actCell (toolAct spec t) i (cellAt cs i))
+previews-commit spec n t hs ht cs hc e gen k is is' xs xs' h p =
+    let room = roomOf (length is) (length xs) in
+    let w = read (previewTool spec t cs room) p in
+    let s = tool-sound spec n hs (stocked spec cs n e .count) t ht (accepted-good spec t cs room (w .changes) (w .answer)) in
+    let g = stock-good hs hc e in
+    let f = actCell (toolAct spec t) in
+    (record { cells = putAll cs (changesTo f cs n); generation = gen + 1 }, lent-commits s hs cs hc e gen k is is' xs xs' h p, refl, good-bins g f (act-cuts g (toolAct spec t) (s .plain)))
+
+-- ---- moves
+
+-- WHAT A MOVE LEAVES: each change in its bin and no other bin touched; every point that was covered or that one of its rings covers, clipped to the stock; the generation
+-- raised by 1 for the commit and by 1 for each ring that is not empty after clipping.
+pub move-writes : (spec : TurnStockSpec) (cs xs : List Float) (count g : ℕ) (is : List ℕ) (ys : List Float) (k : ℕ) (removed : List Float) (a : Left) → moveOf spec cs xs count g is ys k removed ≡ answers a
+    → Writes (changesFrom is ys k) cs (a .cells) × ((z r : Float) → covered (a .rings) z r ≡ (covered (ringsOf count xs) z r || covered (map (clip (extentOf (cleanSpec spec))) (ringsOf (length removed / 4) removed)) z r)) × (a .generation ≡ generationAfter spec g removed)
+move-writes spec cs xs count g is ys k removed a h =
+    let t = taken spec cs xs count g is ys k removed a h in
+    (subst (Writes (changesFrom is ys k) cs) (sym (t .cells)) (changes-written spec cs (t .bins) (changesFrom is ys k) (t .stock) (t .pass)), moved-covers spec cs xs count g is ys k removed a h, t .rises)

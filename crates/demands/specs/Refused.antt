@@ -1,0 +1,207 @@
+-- What each call's refusals turn on: the tests that its rule asks, in 01's order, each with the number that it refuses with. Assumes nothing.
+use mathlib.Core.Path.{_≡_}
+use mathlib.Core.Bool.{Bool, true, false, not, _&&_, _||_}
+use mathlib.Core.List.{List, [], _∷_, _++_}
+use mathlib.Core.Option.{Option, none, some}
+use Prim.Native.Nat.{ℕ, _*_, _/_}
+use lib.Dec.{eqb, leb, ltb}
+use lib.ListN.{length}
+use lib.Ieee.{Float, le}
+use lib.Ieee.Scale.{finite}
+use Rattle.refusals.specs.Paper.{Paper, answers, refuses}
+use Rattle.refusals.specs.Limits.{cellLimit, lastGeneration}
+use Rattle.floats.specs.Each.{Each}
+use Rattle.floats.specs.Numbers.{_+₆₄_, _*₆₄_, zero64, usable}
+use Rattle.numbers.specs.Whole.{wholeUp}
+use Rattle.stock.specs.declared.TurnStockSpec.{TurnStockSpec}
+use Rattle.stock.specs.declared.TurnCell.{TurnCell}
+use Rattle.stock.specs.declared.TurnChange.{TurnChange}
+use Rattle.stock.specs.declared.TurnSide.{TurnSide}
+use Rattle.stock.specs.Spec.{cleanSpec, specGood, quotient, cellsOf}
+use Rattle.stock.specs.Cell.{cellFits, cellsFit, stockOf}
+use Rattle.reach.specs.Reach.{Act, actCell}
+use Rattle.nose.specs.Nose.{segmentsGood, noseAct}
+use Rattle.polygon.specs.Polygon.{polygonGood, polygonAct}
+use Rattle.records.specs.Change.{changesTo, changesFrom}
+use Rattle.records.specs.Change as change
+use Rattle.cuts.specs.declared.Cut.{Cut}
+use Rattle.cuts.specs.Cut.{isArc, cleanCut, cutGood, cutAct}
+use Rattle.changes.specs.Commit.{appliesTo, rises}
+use Rattle.changes.specs.Difference.{otherCell}
+use Rattle.rings.specs.declared.Ring.{Ring}
+use Rattle.rings.specs.Ring.{filled, clip, left}
+use Rattle.rings.specs.Store.{extentOf, ringsOf, roomOf, countFits, finiteRing, ringsGood}
+use Rattle.rings.specs.Remove.{roomFor}
+use Rattle.moves.specs.Move.{generationAfter}
+use Rattle.envelope.specs.Envelope.{pointsGood}
+
+-- ---- what "exactly when, in this order" means
+
+-- a test, and the number of the refusal where it does not hold
+pub record Asked : Type 0 where
+  pub holds : Bool
+  pub number : ℕ
+
+abbrev pub ask : Bool → ℕ → Asked
+ask t n = record { holds = t; number = n }
+
+-- all of them hold
+abbrev pub AllHold : List Asked → Type 0
+AllHold l = Each (λ (q : Asked). q .holds ≡ true) l
+
+-- the first of the tests that does not hold has the number k: all that stand before it hold
+pub record Stops (k : ℕ) (l : List Asked) : Type 0 where
+  pub before : List Asked
+  pub after : List Asked
+  pub order : l ≡ before ++ (ask false k ∷ after)
+  pub hold : AllHold before
+
+-- A rule refuses with k exactly when the first of the tests that does not hold has the number k; and it answers exactly when all of them hold.
+pub record Exactly {A : Type 0} (p : Paper A) (l : List Asked) : Type 0 where
+  pub stops : (k : ℕ) → p ≡ refuses k → Stops k l
+  pub refused : (k : ℕ) → Stops k l → p ≡ refuses k
+  pub hold : (a : A) → p ≡ answers a → AllHold l
+  pub answered : AllHold l → (a : A) × (p ≡ answers a)
+
+-- A test of what p answers. Where p refuses it is not asked, since one of the tests of p stands before it and does not hold.
+unfoldable pub ofAnswer : {A : Type 0} → Paper A → (A → Bool) → Bool
+ofAnswer (answers a) test = test a
+ofAnswer (refuses n) test = true
+
+-- ---- the root and the length: 5
+
+-- finite, and not below 0
+abbrev pub rootAsks : Float → List Asked
+rootAsks x = ask (finite x && le zero64 x) 5 ∷ []
+
+-- the same of the rounded sum of the rounded squares
+abbrev pub lengthAsks : Float → Float → List Asked
+lengthAsks x y = rootAsks (x *₆₄ x +₆₄ y *₆₄ y)
+
+-- ---- a spec, its bins and its cells
+
+-- n is there (finite, and not over 4,096), not 0, and not over max_cells
+abbrev pub countGood : ℕ → Option ℕ → Bool
+countGood most none = false
+countGood most (some n) = not (eqb n 0) && leb n most
+
+-- 1, 2
+abbrev pub specAsks : TurnStockSpec → List Asked
+specAsks spec = ask (specGood (cleanSpec spec)) 1 ∷ ask (countGood (cleanSpec spec .«max_cells») (wholeUp (quotient (cleanSpec spec)) cellLimit)) 2 ∷ []
+
+-- 1, 2, 9: bin i of n
+abbrev pub binAsks : TurnStockSpec → ℕ → List Asked
+binAsks spec i = specAsks spec ++ (ask (ofAnswer (cellsOf spec) (λ n. ltb i n)) 9 ∷ [])
+
+-- 1, 2, 3: so many lent numbers are four for each of n cells
+abbrev pub newAsks : TurnStockSpec → ℕ → List Asked
+newAsks spec len = specAsks spec ++ (ask (ofAnswer (cellsOf spec) (λ n. eqb len (4 * n))) 3 ∷ [])
+
+-- 1, 2, 3: the lent cells are n, and each fits
+abbrev pub stockAsks : TurnStockSpec → List Float → List Asked
+stockAsks spec cs = specAsks spec ++ (ask (ofAnswer (cellsOf spec) (λ n. cellsFit (cleanSpec spec) cs n)) 3 ∷ [])
+
+-- ---- previews
+
+-- no more changes than room, where f says what the cell of each bin becomes
+abbrev pub roomGood : TurnStockSpec → List Float → (ℕ → TurnCell → TurnCell) → ℕ → Bool
+roomGood spec cs f room = ofAnswer (stockOf spec cs) (λ n. leb (length (changesTo f cs n)) room)
+
+-- 1, 2, 3, 13, 5, 6
+abbrev pub previewCutAsks : TurnStockSpec → List Float → Cut → ℕ → List Asked
+previewCutAsks spec cs cut room =
+    let u = cleanCut cut in
+    stockAsks spec cs ++ (ask (not (isArc u)) 13 ∷ ask (cutGood u) 5 ∷ ask (roomGood spec cs (actCell (cutAct (cleanSpec spec) u)) room) 6 ∷ [])
+
+-- 1, 2, 3, 5, 6: a cut that is in its domain or not
+abbrev pub previewAsks : TurnStockSpec → List Float → Bool → Act → ℕ → List Asked
+previewAsks spec cs good a room = stockAsks spec cs ++ (ask good 5 ∷ ask (roomGood spec cs (actCell a) room) 6 ∷ [])
+
+-- the same of a nose and of a polygon
+abbrev pub previewNoseAsks : TurnStockSpec → List Float → TurnSide → Float → List Float → ℕ → List Asked
+previewNoseAsks spec cs side rn xs room = previewAsks spec cs (segmentsGood rn xs) (noseAct (cleanSpec spec) side rn xs) room
+
+abbrev pub previewPolygonAsks : TurnStockSpec → List Float → TurnSide → Float → List Float → ℕ → List Asked
+previewPolygonAsks spec cs side excess ps room = previewAsks spec cs (polygonGood ps excess) (polygonAct (cleanSpec spec) side excess ps) room
+
+-- ---- changes
+
+-- change by change, 8 before 9; p is how many cells there are
+unfoldable pub eachAsks : TurnStockSpec → Paper ℕ → List Float → List TurnChange → List Asked
+eachAsks s p cs [] = []
+eachAsks s p cs (c ∷ l) = ask (cellFits s (c .after)) 8 ∷ ask (ofAnswer p (λ n. appliesTo n cs c)) 9 ∷ eachAsks s p cs l
+
+-- 7 over the whole list, then change by change
+abbrev pub passAsks : TurnStockSpec → Paper ℕ → List Float → List TurnChange → List Asked
+passAsks s p cs l = ask (rises l) 7 ∷ eachAsks s p cs l
+
+-- 1, 2, 3, 7, 8 or 9, 12
+abbrev pub commitAsks : TurnStockSpec → List Float → ℕ → List TurnChange → List Asked
+commitAsks spec cs gen l = stockAsks spec cs ++ (passAsks (cleanSpec spec) (stockOf spec cs) cs l ++ (ask (ltb gen lastGeneration) 12 ∷ []))
+
+-- 1, 2, 3, 6, 7, 8 or 9, 12: k changes of the lent lists
+abbrev pub applyAsks : TurnStockSpec → List Float → ℕ → List ℕ → List Float → ℕ → List Asked
+applyAsks spec cs gen is xs k =
+    stockAsks spec cs ++ (ask (leb k (change.roomOf (length is) (length xs))) 6 ∷ passAsks (cleanSpec spec) (stockOf spec cs) cs (changesFrom is xs k) ++ (ask (ltb gen lastGeneration) 12 ∷ []))
+
+-- 1, 2, 3 of the first list and of the second, 6
+abbrev pub differenceAsks : TurnStockSpec → List Float → List Float → ℕ → List Asked
+differenceAsks spec cs ds room = stockAsks spec cs ++ (ask (ofAnswer (stockOf spec cs) (λ n. cellsFit (cleanSpec spec) ds n)) 3 ∷ ask (roomGood spec cs (otherCell ds) room) 6 ∷ [])
+
+-- ---- rings
+
+-- 1, 2, 4, 10, 12, 11; a ring that is empty after clipping skips 12 and 11
+abbrev pub removeAsks : TurnStockSpec → List Float → ℕ → ℕ → Ring → List Asked
+removeAsks spec xs n g q =
+    let e = extentOf (cleanSpec spec) in
+    specAsks spec
+    ++ (ask (countFits e xs n) 4
+    ∷ ask (finiteRing q) 10
+    ∷ ask (not (filled (clip e q)) || ltb g lastGeneration) 12
+    ∷ ask (not (filled (clip e q)) || roomFor (roomOf (length xs)) (ringsOf n xs) (clip e q)) 11
+    ∷ [])
+
+-- one ring after the other: never over 256 pieces in hand, and room for what is left of each, beside what the store then holds
+unfoldable pub roomForAll : Ring → ℕ → List Ring → List Ring → Bool
+roomForAll e room ks [] = true
+roomForAll e room ks (q ∷ qs) = roomFor room ks (clip e q) && roomForAll e room (ks ++ left ks (clip e q)) qs
+
+-- the same of lent rings and n stored ones
+abbrev pub allStored : TurnStockSpec → List Float → ℕ → List Float → Bool
+allStored spec xs n removed = roomForAll (extentOf (cleanSpec spec)) (roomOf (length xs)) (ringsOf n xs) (ringsOf (length removed / 4) removed)
+
+-- 4 for the count alone, 11: rings of a stock that is checked already
+abbrev pub removeRingsAsks : TurnStockSpec → List Float → ℕ → List Float → List Asked
+removeRingsAsks spec xs n removed = ask (leb n (roomOf (length xs))) 4 ∷ ask (allStored spec xs n removed) 11 ∷ []
+
+-- 1, 2, 3, 10, 11
+abbrev pub partsAsks : TurnStockSpec → List Float → List Float → List Float → List Asked
+partsAsks spec cs given xs = stockAsks spec cs ++ (ask (ringsGood given) 10 ∷ ask (allStored spec xs 0 given) 11 ∷ [])
+
+-- 1, 2, 3, 6, 4, 10, 7, 8 or 9, 12, 11
+abbrev pub moveAsks : TurnStockSpec → List Float → List Float → ℕ → ℕ → List ℕ → List Float → ℕ → List Float → List Asked
+moveAsks spec cs xs count g is ys k removed =
+    stockAsks spec cs
+    ++ (ask (leb k (change.roomOf (length is) (length ys))) 6
+    ∷ ask (countFits (extentOf (cleanSpec spec)) xs count) 4
+    ∷ ask (ringsGood removed) 10
+    ∷ passAsks (cleanSpec spec) (stockOf spec cs) cs (changesFrom is ys k)
+    ++ (ask (leb (generationAfter spec g removed) lastGeneration) 12 ∷ ask (allStored spec xs count removed) 11 ∷ []))
+
+-- ---- volume: 1, 2, 3, 4. `envelope_at` asks as a stock does.
+abbrev pub volumeAsks : TurnStockSpec → List Float → List Float → ℕ → List Asked
+volumeAsks spec cs xs k = stockAsks spec cs ++ (ask (countFits (extentOf (cleanSpec spec)) xs k) 4 ∷ [])
+
+-- ---- envelopes: 14
+
+-- the points
+abbrev pub pointsAsks : List Float → List Asked
+pointsAsks ps = ask (pointsGood ps) 14 ∷ []
+
+-- and a query of one number
+abbrev pub radiusAsks : List Float → Float → List Asked
+radiusAsks ps u = ask (pointsGood ps && usable u) 14 ∷ []
+
+-- or of two
+abbrev pub withinAsks : List Float → Float → Float → List Asked
+withinAsks ps lo hi = ask (pointsGood ps && (usable lo && usable hi)) 14 ∷ []

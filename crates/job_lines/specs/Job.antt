@@ -1,0 +1,123 @@
+-- What a line does to a job. Assumes nothing.
+use Prim.Native.Nat.{ℕ, _*_}
+use mathlib.Core.Path.{_≡_}
+use mathlib.Core.List.{List}
+use lib.Dec.{eqb, leb, ltb}
+use lib.ListN.{length, take}
+use lib.Ieee.{Float}
+use Rattle.refusals.specs.Number.{numberOf}
+use Rattle.refusals.specs.Paper.{Paper, answers, refuses, demand, onward}
+use Rattle.refusals.specs.Lent.{over}
+use Rattle.floats.specs.Pick.{pick}
+use Rattle.stock.specs.declared.TurnStockSpec.{TurnStockSpec}
+use Rattle.stock.specs.Spec.{cleanSpec, cellsOf}
+use Rattle.stock.specs.Cell.{freshCell, cellsLike}
+use Rattle.cuts.specs.declared.Cut.{Cut}
+use Rattle.cuts.specs.Preview.{previewCut}
+use Rattle.changes.specs.Commit.{Committed, commitOf}
+use Rattle.rings.specs.declared.Ring.{Ring}
+use Rattle.rings.specs.Store.{storeAs}
+use Rattle.rings.specs.Remove.{removeRing}
+use Rattle.words.specs.declared.Line.{Line}
+use Rattle.words.specs.declared.Line.the-variants.{Bar, Cutting, Removing, Arc, Bad}
+use Rattle.words.specs.Kind.{maxCells, lineOf}
+use Rattle.job_lines.specs.declared.Job.{Job}
+use Rattle.job_lines.specs.declared.Carried.{Carried}
+use Rattle.job_lines.specs.declared.Carried.the-variants as carried
+
+-- 128 bytes at most, with the newline
+abbrev pub lineLimit : ℕ
+lineLimit = 128
+
+-- a job, and the lent numbers of its cells and its rings
+pub record Stand : Type 0 where
+  pub job : Job
+  pub cells : List Float
+  pub rings : List Float
+
+abbrev pub stand : Job → List Float → List Float → Stand
+stand j cs rs = record { job = j; cells = cs; rings = rs }
+
+-- ---- each kind of line
+
+-- a bar: new cells over the front of the lent ones, no rings, generation 0; 1, 2, and 3 where the lent ones are too few
+unfoldable pub barLine : TurnStockSpec → List Float → List Float → Paper Stand
+barLine spec cs rs =
+    onward (cellsOf spec) (λ n.
+    demand (leb (4 * n) (length cs)) 3
+    (answers (stand (record { spec = spec; cells = n; rings = 0; generation = 0 }) (over (cellsLike (freshCell (cleanSpec spec)) n) cs) rs)))
+
+-- a cut: its preview, with room for a change of every cell, and their commit
+unfoldable pub madeCut : TurnStockSpec → List Float → ℕ → Cut → Paper Committed
+madeCut spec cs gen cut = onward (previewCut spec cs cut maxCells) (λ l. commitOf spec cs gen l)
+
+-- the job's cells, which stand first in the lent ones
+abbrev pub cellsOfJob : Job → List Float → List Float
+cellsOfJob j cs = take (4 * j .cells) cs
+
+unfoldable pub cutLine : Job → Cut → List Float → List Float → Paper Stand
+cutLine j cut cs rs =
+    onward (madeCut (j .spec) (cellsOfJob j cs) (j .generation) cut) (λ k.
+    answers (stand (record { spec = j .spec; cells = j .cells; rings = j .rings; generation = k .generation }) (over (k .cells) cs) rs))
+
+-- a ring: one more removed from the stock
+unfoldable pub ringLine : Job → Ring → List Float → List Float → Paper Stand
+ringLine j q cs rs =
+    onward (removeRing (j .spec) rs (j .rings) (j .generation) q) (λ s.
+    answers (stand (record { spec = j .spec; cells = j .cells; rings = length (s .rings); generation = s .generation }) cs (storeAs rs (s .rings))))
+
+-- ---- a line by its place
+
+-- anything but a bar before it is 15, an arc too
+unfoldable pub firstLine : Line → List Float → List Float → Paper Stand
+firstLine (Bar spec) cs rs = barLine spec cs rs
+firstLine (Cutting cut) cs rs = refuses 15
+firstLine (Removing q) cs rs = refuses 15
+firstLine Arc cs rs = refuses 15
+firstLine Bad cs rs = refuses 15
+
+-- an arc is 13, a second bar 15
+unfoldable pub laterLine : Job → Line → List Float → List Float → Paper Stand
+laterLine j (Bar spec) cs rs = refuses 15
+laterLine j (Cutting cut) cs rs = cutLine j cut cs rs
+laterLine j (Removing q) cs rs = ringLine j q cs rs
+laterLine j Arc cs rs = refuses 13
+laterLine j Bad cs rs = refuses 15
+
+-- the bytes of a line without its newline: 15 where it is too long, then by its place
+unfoldable pub jobLine : Job → List ℕ → List Float → List Float → Paper Stand
+jobLine j s cs rs =
+    demand (ltb (length s) lineLimit) 15
+    (pick (eqb (j .cells) 0) (firstLine (lineOf s) cs rs) (laterLine j (lineOf s) cs rs))
+
+-- ---- what the call answers, case by case, and what the lent numbers hold afterwards
+
+abbrev pub carriedPaper : Carried → Paper Job
+carriedPaper (carried.Onward j) = answers j
+carriedPaper (carried.Refused c) = refuses (numberOf c)
+
+abbrev pub jobAfter : Paper Stand → Paper Job
+jobAfter (answers s) = answers (s .job)
+jobAfter (refuses n) = refuses n
+
+-- a refusal leaves them
+abbrev pub cellsAfter : Paper Stand → List Float → List Float
+cellsAfter (answers s) cs = s .cells
+cellsAfter (refuses n) cs = cs
+
+abbrev pub ringsAfter : Paper Stand → List Float → List Float
+ringsAfter (answers s) rs = s .rings
+ringsAfter (refuses n) rs = rs
+
+pub record Carries (p : Paper Stand) (r : Carried) (cs cs' rs rs' : List Float) : Type 0 where
+  pub answer : carriedPaper r ≡ jobAfter p
+  pub cells : cs' ≡ cellsAfter p cs
+  pub rings : rs' ≡ ringsAfter p rs
+
+-- the same of a line that leaves the rings, whatever they are
+abbrev pub CarriesCells : (List Float → Paper Stand) → Carried → List Float → List Float → Type 0
+CarriesCells p r cs cs' = (rs : List Float) → Carries (p rs) r cs cs' rs rs
+
+-- and of one that leaves the cells
+abbrev pub CarriesRings : (List Float → List Float → Paper Stand) → Carried → List Float → List Float → Type 0
+CarriesRings p r rs rs' = (cs : List Float) → Carries (p cs rs) r cs cs rs rs'

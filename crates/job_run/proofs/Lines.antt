@@ -1,0 +1,96 @@
+-- What a line, a part and the end do to a job. Assumes nothing.
+use Prim.Native.Nat.{ℕ, _+_, _*_, _≤_, _<_}
+use mathlib.Core.Path.{_≡_, sym, ap, _∙_, subst}
+use mathlib.Core.List.{List, []}
+use lib.ListN.{take, set, getD}
+use lib.Ieee.{Float}
+use borrow.Author.Tests.{eq-eqb, ne-eqb, lt-ltb, le-ltb}
+use Rattle.refusals.specs.declared.Refusal.{Refusal}
+use Rattle.refusals.specs.declared.Refusal.the-variants.{LineMalformed}
+use Rattle.refusals.specs.Number.{numberOf}
+use Rattle.refusals.specs.Paper.{Paper, answers, refuses}
+use Rattle.text.proofs.Chosen.{yes, no}
+use Rattle.stock.proofs.Count.{no-answer, same-answer}
+use Rattle.job_lines.specs.declared.Job.{Job}
+use Rattle.job_lines.specs.declared.Carried.{Carried}
+use Rattle.job_lines.specs.declared.Carried.the-variants as carried
+use Rattle.job_lines.proofs.Carrying.{same-number}
+use Rattle.job_lines.specs.Job.{Stand, jobLine, Carries}
+use Rattle.answer.specs.Answer.{answerOf}
+use Rattle.job_run.specs.declared.Run.{Run}
+use Rattle.job_run.specs.Run.{State, state, next, refusedWith, refusing, answered, onLine, onLong, hold, roomOf, byteOn, finishOf, outputOf}
+
+-- ---- a line
+
+carried-refused : (p : Paper Stand) (r : Run) (c : Refusal) (cs cs' rs rs' : List Float) → Carries p (carried.Refused c) cs cs' rs rs' → state (refusing r c) cs' rs' ≡ answered (state r cs rs) p
+unfolding answered
+carried-refused (answers s) r c cs cs' rs rs' w = absurd (no-answer (numberOf c) (s .job) (w .answer))
+carried-refused (refuses n) r c cs cs' rs rs' w =
+    ap (λ (k : ℕ). state (refusedWith r k) cs' rs') (same-number {A = Job} (w .answer))
+    ∙ ap (λ (x : List Float). state (refusedWith r n) x rs') (w .cells)
+    ∙ ap (λ (x : List Float). state (refusedWith r n) cs x) (w .rings)
+
+carried-went : (p : Paper Stand) (r : Run) (j : Job) (cs cs' rs rs' : List Float) → Carries p (carried.Onward j) cs cs' rs rs' → state (record { job = j; lines = next r; refused = 0 }) cs' rs' ≡ answered (state r cs rs) p
+unfolding answered
+carried-went (refuses n) r j cs cs' rs rs' w = absurd (no-answer n j (sym (w .answer)))
+carried-went (answers s) r j cs cs' rs rs' w =
+    ap (λ (k : Job). state (record { job = k; lines = next r; refused = 0 }) cs' rs') (same-answer (w .answer))
+    ∙ ap (λ (x : List Float). state (record { job = s .job; lines = next r; refused = 0 }) x rs') (w .cells)
+    ∙ ap (λ (x : List Float). state (record { job = s .job; lines = next r; refused = 0 }) (s .cells) x) (w .rings)
+
+module _ (r : Run) (s : List ℕ) (cs cs' rs rs' : List Float) (d : Carried) (w : Carries (jobLine (r .job) s cs rs) d cs cs' rs rs') where
+  told : (x : Carried) → d ≡ x → Carries (jobLine (r .job) s cs rs) x cs cs' rs rs'
+  told x e = subst (λ (y : Carried). Carries (jobLine (r .job) s cs rs) y cs cs' rs rs') e w
+
+  pub line-refused : (c : Refusal) (q : Run) → d ≡ carried.Refused c → q ≡ refusing r c → state q cs' rs' ≡ onLine (state r cs rs) s
+  unfolding onLine
+  line-refused c q e eq = rw eq (carried-refused _ r c cs cs' rs rs' (told _ e))
+
+  pub line-went : (j : Job) (l : ℕ) → d ≡ carried.Onward j → l ≡ next r → state (record { job = j; lines = l; refused = 0 }) cs' rs' ≡ onLine (state r cs rs) s
+  unfolding onLine
+  line-went j l e el = rw el (carried-went _ r j cs cs' rs rs' (told _ e))
+
+-- the next line refused
+pub refused-is : (r : Run) (c : Refusal) (l n : ℕ) → l ≡ next r → n ≡ numberOf c → _≡_ {A = Run} (record { job = r .job; lines = l; refused = n }) (refusing r c)
+unfolding refusedWith
+refused-is r c l n el en = rw (el, en)
+
+-- ---- the end
+pub finish-stopped : (j : Run) (n : ℕ) → (j .refused ≡ 0 → ⊥) → j ≡ finishOf j n
+unfolding finishOf
+finish-stopped j n h = simp (ne-eqb _ _ h, yes)
+
+pub finish-cut : (j : Run) (n : ℕ) → j .refused ≡ 0 → (n ≡ 0 → ⊥) → refusing j LineMalformed ≡ finishOf j n
+unfolding finishOf
+finish-cut j n h k = simp (eq-eqb _ _ h, ne-eqb _ _ k, no, yes)
+
+pub finish-empty : (j : Run) (n : ℕ) → j .refused ≡ 0 → n ≡ 0 → j .lines ≡ 0 → refusing j LineMalformed ≡ finishOf j n
+unfolding finishOf
+finish-empty j n h k l = simp (eq-eqb _ _ h, eq-eqb _ _ k, eq-eqb _ _ l, no, yes)
+
+pub finish-done : (j : Run) (n : ℕ) → j .refused ≡ 0 → n ≡ 0 → (j .lines ≡ 0 → ⊥) → j ≡ finishOf j n
+unfolding finishOf
+finish-done j n h k l = simp (eq-eqb _ _ h, eq-eqb _ _ k, ne-eqb _ _ l, no)
+
+-- ---- a byte
+module _ (st : State) (l : List ℕ) (n b : ℕ) where
+  pub byte-stopped : (st .run .refused ≡ 0 → ⊥) → hold st l n ≡ byteOn (hold st l n) b
+  unfolding byteOn
+  byte-stopped h = simp (ne-eqb _ _ h, yes)
+
+  pub byte-ends : (after : State) → st .run .refused ≡ 0 → b ≡ 10 → after ≡ onLine st (take n l) → hold after l 0 ≡ byteOn (hold st l n) b
+  unfolding byteOn
+  byte-ends after h k e = rw e (simp (eq-eqb _ _ h, eq-eqb _ _ k, no, yes))
+
+  pub byte-held : st .run .refused ≡ 0 → (b ≡ 10 → ⊥) → n < roomOf l → hold st (set l n b) (n + 1) ≡ byteOn (hold st l n) b
+  unfolding byteOn
+  byte-held h k r = simp (eq-eqb _ _ h, ne-eqb _ _ k, lt-ltb n (roomOf l) r, no, yes)
+
+  pub byte-over : st .run .refused ≡ 0 → (b ≡ 10 → ⊥) → roomOf l ≤ n → hold (onLong st) l 0 ≡ byteOn (hold st l n) b
+  unfolding byteOn
+  byte-over h k r = simp (eq-eqb _ _ h, ne-eqb _ _ k, le-ltb n (roomOf l) r, no)
+
+-- ---- the output
+pub output-is : (r : Run) (cs rs xs ys : List Float) (k : ℕ) → xs ≡ take (4 * r .job .cells) cs → ys ≡ take (4 * r .job .rings) rs → getD (answerOf (r .refused) (r .lines) (r .job .generation) xs ys) k [] ≡ getD (outputOf (state r cs rs)) k []
+unfolding outputOf
+output-is r cs rs xs ys k ex ey = rw (ex, ey)

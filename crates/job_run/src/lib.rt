@@ -1,0 +1,197 @@
+// A job run: its bytes as they come, cut anywhere, and the lines that it writes.
+//
+// Lines are carried out one by one, to the first refusal. Only the unfinished line is held over, in
+// lent memory with room for it, so that a job has no size limit.
+ghost use mathlib.Core.Path.{_≡_};
+ghost use mathlib.Core.List.{[], foldl};
+ghost use Prim.Native.Nat.{_-_, _*_, _≤_, min};
+ghost use lib.ListN.{length, take, getD};
+ghost use Rattle.job_lines.specs.Job.{lineLimit};
+ghost use Rattle.spelled.specs.Wrote.{Wrote};
+ghost use Rattle.job_run.specs.Run.{state, freshRun, refusing, onLine, hold, byteOn, finishOf, outputOf};
+use job_lines::Carried;
+use job_lines::Job;
+use job_lines::LINE_LIMIT;
+use refusals::Refusal;
+use stock::TurnStockSpec;
+
+// A job, how many of its lines were taken, and the number that refused the last of them, or 0.
+pub struct Run {
+    pub job: Job,
+    pub lines: u64,
+    pub refused: u64,
+}
+
+// A run after some bytes; of the unfinished line, so many are held.
+pub struct Taken {
+    pub run: Run,
+    pub len: usize,
+}
+
+// Before the first byte.
+pub fn fresh() -> Run
+    ensures { λ r. ⌜ r ≡ freshRun ⌝ }
+{
+    Run {
+        job: Job {
+            spec: TurnStockSpec {
+                z_min_mm: 0.0,
+                z_max_mm: 0.0,
+                outer_radius_mm: 0.0,
+                bore_radius_mm: 0.0,
+                cell_mm: 0.0,
+                max_cells: 0,
+            },
+            cells: 0,
+            rings: 0,
+            generation: 0,
+        },
+        lines: 0,
+        refused: 0,
+    }
+}
+
+// The next line refused.
+fn refuse(run: Run, refusal: Refusal) -> Run
+    ensures { λ r. ⌜ r ≡ refusing run refusal ⌝ }
+{
+    let job = run.job;
+    let number = refusals::number(refusal);
+    Run {
+        job,
+        lines: std::num::wrapping_add_u64(run.lines, 1),
+        refused: number as u64,
+    }
+}
+
+// The next line carried out.
+fn on_line(run: Run, cells: &mut [f64], rings: &mut [f64], line: &[u8]) -> Run
+    ensures { λ r. ⌜ state r (now (cells .exit)) (now (rings .exit)) ≡ onLine (state run (now (cells .entry)) (now (rings .entry))) (now (line .entry)) ⌝ }
+{
+    let job = run.job;
+    let carried = job_lines::carry_out(job, line, cells, rings);
+    match carried {
+        Carried::Refused(r) => refuse(run, r),
+        Carried::Onward(next) => Run {
+            job: next,
+            lines: std::num::wrapping_add_u64(run.lines, 1),
+            refused: 0,
+        },
+    }
+}
+
+// The first len bytes.
+fn held(line: &[u8], len: usize) -> &[u8]
+    ensures { λ r. ⌜ now r ≡ take len (now (line .entry)) ⌝ }
+{
+    if line.len() < len {
+        return line;
+    }
+    &line[..len]
+}
+
+// Room for a line without its newline, and no more than there are bytes.
+fn room(bytes: usize) -> usize
+    ensures { λ r. ⌜ r ≡ min (lineLimit - 1) bytes ⌝ }
+{
+    if bytes < LINE_LIMIT - 1 {
+        bytes
+    } else {
+        LINE_LIMIT - 1
+    }
+}
+
+// One byte more, behind the first len of a line.
+fn take_byte(
+    run: Run,
+    cells: &mut [f64],
+    rings: &mut [f64],
+    line: &mut [u8],
+    len: usize,
+    byte: u8,
+) -> Taken
+    ensures { λ r. ⌜ hold (state (r .run) (now (cells .exit)) (now (rings .exit))) (now (line .exit)) (r .len) ≡ byteOn (hold (state run (now (cells .entry)) (now (rings .entry))) (now (line .entry)) len) byte ⌝ }
+{
+    if run.refused != 0 {
+        return Taken { run, len };
+    }
+    if byte == 10 {
+        let after = on_line(run, cells, rings, held(line, len));
+        return Taken { run: after, len: 0 };
+    }
+    if len < room(line.len()) {
+        line[len] = byte;
+        return Taken { run, len: len + 1 };
+    }
+    Taken {
+        run: refuse(run, Refusal::LineMalformed),
+        len: 0,
+    }
+}
+
+// Some bytes more. The unfinished line is the first len bytes of `line`.
+pub fn take_part(
+    run: Run,
+    cells: &mut [f64],
+    rings: &mut [f64],
+    line: &mut [u8],
+    len: usize,
+    bytes: &[u8],
+) -> Taken
+    ensures { λ r. ⌜ hold (state (r .run) (now (cells .exit)) (now (rings .exit))) (now (line .exit)) (r .len) ≡ foldl byteOn (hold (state run (now (cells .entry)) (now (rings .entry))) (now (line .entry)) len) (now (bytes .entry)) ⌝ }
+{
+    let mut k = run;
+    let mut n = len;
+    let mut i: usize = 0;
+    while i < bytes.len() {
+        let t = take_byte(k, cells, rings, line, n, bytes[i]);
+        k = t.run;
+        n = t.len;
+        i += 1;
+    }
+    Taken { run: k, len: n }
+}
+
+// The end of the bytes, where len of an unfinished line are held.
+pub fn finish(run: Run, len: usize) -> Run
+    ensures { λ r. ⌜ r ≡ finishOf run len ⌝ }
+{
+    if run.refused != 0 {
+        return run;
+    }
+    if len != 0 {
+        return refuse(run, Refusal::LineMalformed);
+    }
+    if run.lines == 0 {
+        return refuse(run, Refusal::LineMalformed);
+    }
+    run
+}
+
+// The first n fours of numbers.
+fn front(xs: &[f64], n: usize) -> &[f64]
+    ensures { λ r. ⌜ now r ≡ take (4 * n) (now (xs .entry)) ⌝ }
+{
+    if xs.len() / 4 < n {
+        return xs;
+    }
+    let end = 4 * n;
+    &xs[..end]
+}
+
+// Puts line k of what a run writes at its end, and answers its length; past the last line, 0.
+pub fn output_line(out: &mut [u8; 128], run: Run, cells: &[f64], rings: &[f64], k: usize) -> usize
+    ensures { λ r. ⌜ Wrote (now (out .entry)) 0 (getD (outputOf (state run (now (cells .entry)) (now (rings .entry)))) k []) (now (out .exit)) r ⌝ }
+    ensures { λ r. ⌜ r ≤ 128 ⌝ }
+{
+    let job = run.job;
+    answer::answer_line(
+        out,
+        run.refused,
+        run.lines,
+        job.generation,
+        front(cells, job.cells),
+        front(rings, job.rings),
+        k,
+    )
+}

@@ -1,0 +1,24 @@
+-- The lines of a job's answer. Assumes nothing.
+use Prim.Native.Nat.{ℕ}
+use mathlib.Core.List.{List, [], _∷_, _++_}
+use lib.Ieee.{Float}
+use Rattle.spelled.specs.Digits.{decimalOf, hexOf}
+
+abbrev pub newline : List ℕ
+newline = 10 ∷ []
+
+-- `cell`, the index, and outer and inner bounds, lower first
+unfoldable pub cellLine : ℕ → Float → Float → Float → Float → List ℕ
+cellLine i a b c d = (99 ∷ 101 ∷ 108 ∷ 108 ∷ 9 ∷ []) ++ (decimalOf i ++ ((9 ∷ hexOf a) ++ ((9 ∷ hexOf b) ++ ((9 ∷ hexOf c) ++ ((9 ∷ hexOf d) ++ newline)))))
+
+-- `ring` and its edges
+unfoldable pub ringLine : Float → Float → Float → Float → List ℕ
+ringLine a b c d = (114 ∷ 105 ∷ 110 ∷ 103 ∷ []) ++ ((9 ∷ hexOf a) ++ ((9 ∷ hexOf b) ++ ((9 ∷ hexOf c) ++ ((9 ∷ hexOf d) ++ newline))))
+
+-- `gen` and the generation
+unfoldable pub genLine : ℕ → List ℕ
+genLine n = (103 ∷ 101 ∷ 110 ∷ 9 ∷ []) ++ (decimalOf n ++ newline)
+
+-- `refused`, the line's number and the refusal's
+unfoldable pub refusedLine : ℕ → ℕ → List ℕ
+refusedLine k n = (114 ∷ 101 ∷ 102 ∷ 117 ∷ 115 ∷ 101 ∷ 100 ∷ 9 ∷ []) ++ (decimalOf k ++ ((9 ∷ []) ++ (decimalOf n ++ newline)))

@@ -1,0 +1,3 @@
+pub mod Chosen
+pub mod Parting
+pub mod Compare
