@@ -48,7 +48,7 @@ wrote l k is is' xs xs' p = go (leb (length l) (roomOf (length is) (length xs)))
     go false e q = absurd (no-answer 6 k (sym (q .answer)))
 
 -- the lists keep their lengths, and so their room
-room-kept : (l : List TurnChange) (is : List ℕ) (xs : List Float) → length l ≤ roomOf (length is) (length xs) → length l ≤ roomOf (length (over (indicesOf l) is)) (length (over (numbersOf l) xs))
+pub room-kept : (l : List TurnChange) (is : List ℕ) (xs : List Float) → length l ≤ roomOf (length is) (length xs) → length l ≤ roomOf (length (over (indicesOf l) is)) (length (over (numbersOf l) xs))
 room-kept l is xs h =
     let a = length-map l (λ (c : TurnChange). c .index) in
     let b = length-numbers l in

@@ -51,7 +51,7 @@ fn applies(n: usize, cells: &[f64], change: TurnChange) -> bool
 }
 
 // One change, against n cells: 8 before 9.
-fn change_passes(s: TurnStockSpec, n: usize, cells: &[f64], change: TurnChange) -> Passing
+pub fn change_passes(s: TurnStockSpec, n: usize, cells: &[f64], change: TurnChange) -> Passing
     ensures { λ r. ⌜ passingPaper r ≡ passes s n (now (cells .entry)) change ⌝ }
 {
     let after = change.after;
