@@ -9,3 +9,4 @@ pub mod LeftAlone
 pub mod Rings
 pub mod Written
 pub mod Second
+pub mod Once

@@ -13,6 +13,9 @@
 // the records written; a commit writes each change and touches no other bin; what a preview proposes
 // a commit accepts. The programs that this excludes are named there one by one.
 //
+// Each promise allows one outcome (`proofs/Once`): two answers that meet it are the same, and so is each
+// lent buffer. Every public call is listed there with the law that covers it.
+//
 // Demand 3, of cuts: below. Of rings (`proofs/Rings`): accepted rings cover the same points in every
 // order, and no two stored rings share one.
 //

@@ -1,0 +1,331 @@
+-- Two outcomes that meet the promise of a call, of the same inputs, are the same: the answer, and each lent buffer afterwards. Assumes nothing.
+--
+-- Each public call, by the law that covers it. A buffer that is lent to be read only is as it was. `X.Y` is the law Y of proofs/X of the crate named beside it.
+--
+-- equal: the promise is `answer ≡ rule`, or `buffer afterwards ≡ rule`
+--   refusals  number
+--   floats    least, greatest, abs, clean, is_minus_zero, is_usable
+--   numbers   whole_part
+--   stock     clean_spec, bin_of, cell_at, put_cell, cell_fits, same_cell
+--   reach     flip, cut_cell
+--   records   room
+--   nose      segment_at, segments_good, track_of, alike
+--   polygon   polygon_good, index_range
+--   changes   put_after
+--   rings     rings_fit, rings_good, raised_by
+--   envelope  within, of the numbers of the part that is lent back
+--   text      part, of the bytes that are lent back; part_count, same
+--   figures   read_whole, read_number
+--   words     read_line
+--   job_run   fresh, finish
+--
+-- alike: the promise is `paper answer ≡ rule`, and the paper is one to one
+--   numbers   root, length (same-rooted), whole_up (same-whole)
+--   stock     validate, cells_fit (same-counted), bin (same-binned)
+--   reach     lower, upper, low_of (same-low), reach_from (same-reach)
+--   nose      sampled (same-sample), step (same-swept)
+--   polygon   lowest (same-low), extent_of (same-extent)
+--   changes   first_refusal, change_passes (same-passing)
+--   envelope  order_of (same-ordered), within_span (same-spanned), within_refusal (same-looked), radius_at (same-radius-at), radius_range (same-radius-range)
+--   queries   volume, envelope_at (Outcomes.volume-once, Outcomes.envelope-once of queries)
+--
+-- a record of equations: the answer and each lent buffer
+--   stock     fill (filled-once)
+--   records   list_change (listed-once)
+--   polygon   swept_in (swept-once)
+--   cuts      preview_cut, preview, preview_polygon, thread_cut, thread_cut_inner, drill (Proposals.once of records)
+--   changes   apply (applied-once), changes_to (Proposals.once of records)
+--   slices    apply, read_changes (Once of slices)
+--   rings     remove_ring (removed-once), remove_rings (Once.stored-once of moves)
+--   moves     apply_move (Once.moved-once of moves), from_parts (Once.stored-once of moves)
+--   envelope  held::Envelope: new (new-once), order (order-once), within (within-once, of the numbers), radius_at (radius-at-once), radius_range (radius-range-once)
+--   spelled   cell_line, ring_line, gen_line, refused_line (wrote-once)
+--   answer    answer_line (wrote-once)
+--   job_lines carry_out (Carrying.once of job_lines)
+--   job_run   take_part (taken-once), output_line (wrote-once)
+--
+-- The calls of the C boundary: proofs/Once of turning.
+use mathlib.Core.Path.{_≡_, refl, sym, ap, ap₂, _∙_}
+use mathlib.Core.List.{List}
+use mathlib.Core.Option.{Option, none, some}
+use Prim.Native.Nat.{ℕ, _+_}
+use native.Mathlib.Omega.{arith}
+use lib.IntN.{ℤ}
+use lib.Ieee.{Float}
+use denote.Ref.{RefT, now}
+use Rattle.refusals.specs.declared.Refusal.{Refusal}
+use Rattle.refusals.specs.Number.{numberOf}
+use Rattle.refusals.specs.Paper.{Paper, answers, refuses}
+use Rattle.refusals.proofs.OneToOne.{one-to-one}
+use Rattle.numbers.specs.declared.Rooted.{Rooted}
+use Rattle.numbers.specs.declared.Rooted.the-variants as rooted
+use Rattle.numbers.specs.declared.Whole.{Whole}
+use Rattle.numbers.specs.declared.Whole.the-variants as whole
+use Rattle.numbers.specs.Root.{rootedPaper}
+use Rattle.numbers.specs.Whole.{wholePaper}
+use Rattle.stock.specs.declared.TurnStockSpec.{TurnStockSpec}
+use Rattle.stock.specs.declared.TurnChange.{TurnChange}
+use Rattle.stock.specs.declared.TurnSide.{TurnSide}
+use Rattle.stock.specs.declared.ZRange.{ZRange}
+use Rattle.stock.specs.declared.Counted.{Counted}
+use Rattle.stock.specs.declared.Counted.the-variants as counted
+use Rattle.stock.specs.declared.Binned.{Binned}
+use Rattle.stock.specs.declared.Binned.the-variants as binned
+use Rattle.stock.specs.Spec.{countedPaper}
+use Rattle.stock.specs.Bin.{binnedPaper}
+use Rattle.stock.specs.Cell.{Filled}
+use Rattle.stock.proofs.Count.{same-answer, no-answer}
+use Rattle.envelope.specs.declared.held.Envelope.{Envelope}
+use Rattle.envelope.specs.declared.Span.{Span}
+use Rattle.envelope.specs.declared.Ordered.{Ordered}
+use Rattle.envelope.specs.declared.Ordered.the-variants as ordered
+use Rattle.envelope.specs.declared.Spanned.{Spanned}
+use Rattle.envelope.specs.declared.Spanned.the-variants as spanned
+use Rattle.envelope.specs.declared.Looked.{Looked}
+use Rattle.envelope.specs.declared.Looked.the-variants as looked
+use Rattle.envelope.specs.declared.RadiusAt.{RadiusAt}
+use Rattle.envelope.specs.declared.RadiusAt.the-variants as radius-at
+use Rattle.envelope.specs.declared.RadiusRange.{RadiusRange}
+use Rattle.envelope.specs.declared.RadiusRange.the-variants as radius-range
+use Rattle.envelope.specs.Envelope.{orderedPaper, span, spannedPaper, lookedPaper, radiusAtPaper, Radii, radiusRangePaper}
+use Rattle.envelope.specs.Halving.{keptOf, OrderKept, WithinKept, RadiusAtKept, RadiusRangeKept}
+use Rattle.reach.specs.declared.Low.{Low}
+use Rattle.reach.specs.declared.Low.the-variants as low-case
+use Rattle.reach.specs.declared.Reach.{Reach}
+use Rattle.reach.specs.declared.Reach.the-variants as reach-case
+use Rattle.reach.specs.declared.Swept.{Swept}
+use Rattle.reach.specs.Low.{lowPaper, Found, sweptPaper}
+use Rattle.reach.specs.Reach.{reachPaper}
+use Rattle.records.specs.Change.{Listed}
+use Rattle.nose.specs.declared.Sample.{Sample}
+use Rattle.nose.specs.Track.{Samples, samplePaper}
+use Rattle.polygon.specs.declared.Extent.{Extent}
+use Rattle.polygon.specs.declared.Extent.the-variants as extent
+use Rattle.polygon.specs.Polygon as Polygon
+use Rattle.polygon.specs.Polygon.{extentPaper, Sweeps}
+use Rattle.changes.specs.declared.Passing.{Passing}
+use Rattle.changes.specs.declared.Passing.the-variants as passing
+use Rattle.changes.specs.declared.Applied.{Applied}
+use Rattle.changes.specs.declared.Applied.the-variants as applied
+use Rattle.changes.specs.Commit.{passingPaper, Committed, appliedPaper, Applies}
+use Rattle.rings.specs.declared.Removed.{Removed}
+use Rattle.rings.specs.declared.Removed.the-variants as removed
+use Rattle.rings.specs.Remove.{RingStore, RingCount, removedPaper, Removes}
+use Rattle.spelled.specs.Wrote.{Wrote}
+use Rattle.job_run.specs.declared.Run.{Run}
+use Rattle.job_run.specs.declared.Taken.{Taken}
+use Rattle.job_run.specs.Run.{State, state, Hold, hold}
+
+-- ---- a promise that is an equation
+
+-- the answer itself, or a buffer afterwards
+pub equal : {A : Type 0} (a r r' : A) → r ≡ a → r' ≡ a → r ≡ r'
+equal a r r' e e' = e ∙ sym e'
+
+-- the answer through its paper, which is one to one
+pub alike : {R A : Type 0} (paper : R → A) → ((r r' : R) → paper r ≡ paper r' → r ≡ r') → (a : A) (r r' : R) → paper r ≡ a → paper r' ≡ a → r ≡ r'
+alike paper one a r r' e e' = one r r' (e ∙ sym e')
+
+-- ---- what two papers that are the same say
+
+same-number : {A : Type 0} {m n : ℕ} → _≡_ {A = Paper A} (refuses m) (refuses n) → m ≡ n
+same-number h = cc
+
+-- two refusals that say the same
+same-refusal : {A : Type 0} (c d : Refusal) → _≡_ {A = Paper A} (refuses (numberOf c)) (refuses (numberOf d)) → c ≡ d
+same-refusal c d h = one-to-one c d (same-number h)
+
+same-some : {A : Type 0} {a b : A} → some a ≡ some b → a ≡ b
+same-some h = cc
+
+none-some : {A : Type 0} (a : A) → none ≡ some a → ⊥
+none-some a h = let z : _≡_ {A = ℕ} 0 1 = cc in omega arith
+
+-- ---- papers of numbers and of a stock, each one to one
+
+pub same-rooted : (r r' : Rooted) → rootedPaper r ≡ rootedPaper r' → r ≡ r'
+same-rooted (rooted.Root x) (rooted.Root y) h = ap rooted.Root (same-answer h)
+same-rooted (rooted.Root x) (rooted.Refused d) h = absurd (no-answer _ _ (sym h))
+same-rooted (rooted.Refused c) (rooted.Root y) h = absurd (no-answer _ _ h)
+same-rooted (rooted.Refused c) (rooted.Refused d) h = ap rooted.Refused (same-refusal c d h)
+
+pub same-whole : (r r' : Whole) → wholePaper r ≡ wholePaper r' → r ≡ r'
+same-whole (whole.Of n) (whole.Of m) h = ap whole.Of (same-some h)
+same-whole (whole.Of n) whole.Over h = absurd (none-some n (sym h))
+same-whole whole.Over (whole.Of m) h = absurd (none-some m h)
+same-whole whole.Over whole.Over h = refl
+
+pub same-counted : (r r' : Counted) → countedPaper r ≡ countedPaper r' → r ≡ r'
+same-counted (counted.Cells n) (counted.Cells m) h = ap counted.Cells (same-answer h)
+same-counted (counted.Cells n) (counted.Refused d) h = absurd (no-answer _ _ (sym h))
+same-counted (counted.Refused c) (counted.Cells m) h = absurd (no-answer _ _ h)
+same-counted (counted.Refused c) (counted.Refused d) h = ap counted.Refused (same-refusal c d h)
+
+pub same-binned : (r r' : Binned) → binnedPaper r ≡ binnedPaper r' → r ≡ r'
+same-binned (binned.At z) (binned.At y) h = ap binned.At (same-answer h)
+same-binned (binned.At z) (binned.Refused d) h = absurd (no-answer _ _ (sym h))
+same-binned (binned.Refused c) (binned.At y) h = absurd (no-answer _ _ h)
+same-binned (binned.Refused c) (binned.Refused d) h = ap binned.Refused (same-refusal c d h)
+
+-- ---- papers of cuts, each one to one
+
+pub same-low : (r r' : Low) → lowPaper r ≡ lowPaper r' → r ≡ r'
+unfolding lowPaper
+same-low (low-case.At x) (low-case.At y) h = ap low-case.At (same-some h)
+same-low (low-case.At x) low-case.Nowhere h = absurd (none-some x (sym h))
+same-low low-case.Nowhere (low-case.At y) h = absurd (none-some y h)
+same-low low-case.Nowhere low-case.Nowhere h = refl
+
+-- a swept bin and a sample are two lows each
+pub same-swept : (r r' : Swept) → sweptPaper r ≡ sweptPaper r' → r ≡ r'
+same-swept r r' h =
+    ap₂ (λ (a b : Low). record { low = a; high = b }) (same-low (r .low) (r' .low) (ap (λ (f : Found). f .low) h)) (same-low (r .high) (r' .high) (ap (λ (f : Found). f .high) h))
+
+pub same-sample : (r r' : Sample) → samplePaper r ≡ samplePaper r' → r ≡ r'
+same-sample r r' h =
+    ap₂ (λ (a b : Low). record { grown = a; shrunk = b }) (same-low (r .grown) (r' .grown) (ap (λ (s : Samples). s .grown) h)) (same-low (r .shrunk) (r' .shrunk) (ap (λ (s : Samples). s .shrunk) h))
+
+pub same-reach : (r r' : Reach) → reachPaper r ≡ reachPaper r' → r ≡ r'
+unfolding reachPaper
+same-reach reach-case.Passed reach-case.Passed h = refl
+same-reach reach-case.Passed (reach-case.Low x) h = let z : _≡_ {A = ℕ} 0 1 = cc in absurd (omega arith)
+same-reach reach-case.Passed (reach-case.Both x y) h = let z : _≡_ {A = ℕ} 0 1 = cc in absurd (omega arith)
+same-reach (reach-case.Low x) reach-case.Passed h = let z : _≡_ {A = ℕ} 0 1 = cc in absurd (omega arith)
+same-reach (reach-case.Low x) (reach-case.Low u) h = let e : x ≡ u = cc in ap reach-case.Low e
+same-reach (reach-case.Low x) (reach-case.Both u v) h = let z : _≡_ {A = ℕ} 0 1 = cc in absurd (omega arith)
+same-reach (reach-case.Both x y) reach-case.Passed h = let z : _≡_ {A = ℕ} 0 1 = cc in absurd (omega arith)
+same-reach (reach-case.Both x y) (reach-case.Low u) h = let z : _≡_ {A = ℕ} 0 1 = cc in absurd (omega arith)
+same-reach (reach-case.Both x y) (reach-case.Both u v) h = let d : x ≡ u = cc in let e : y ≡ v = cc in ap₂ reach-case.Both d e
+
+pub same-extent : (r r' : Extent) → extentPaper r ≡ extentPaper r' → r ≡ r'
+unfolding extentPaper
+same-extent (extent.Over a b) (extent.Over a' b') h =
+    let e : _≡_ {A = Polygon.Span} (record { lo = a; hi = b }) (record { lo = a'; hi = b' }) = same-some h in
+    ap₂ extent.Over (ap (λ (s : Polygon.Span). s .lo) e) (ap (λ (s : Polygon.Span). s .hi) e)
+same-extent (extent.Over a b) extent.Nothing h = absurd (none-some _ (sym h))
+same-extent extent.Nothing (extent.Over a b) h = absurd (none-some _ h)
+same-extent extent.Nothing extent.Nothing h = refl
+
+-- ---- papers of a commit and of rings, each one to one
+
+pub same-passing : (r r' : Passing) → passingPaper r ≡ passingPaper r' → r ≡ r'
+unfolding passingPaper
+same-passing passing.Pass passing.Pass h = refl
+same-passing passing.Pass (passing.Refused d) h = absurd (no-answer _ _ (sym h))
+same-passing (passing.Refused c) passing.Pass h = absurd (no-answer _ _ h)
+same-passing (passing.Refused c) (passing.Refused d) h = ap passing.Refused (same-refusal c d h)
+
+pub same-applied : (r r' : Applied) → appliedPaper r ≡ appliedPaper r' → r ≡ r'
+same-applied (applied.Generation g) (applied.Generation k) h = ap applied.Generation (same-answer h)
+same-applied (applied.Generation g) (applied.Refused d) h = absurd (no-answer _ _ (sym h))
+same-applied (applied.Refused c) (applied.Generation k) h = absurd (no-answer _ _ h)
+same-applied (applied.Refused c) (applied.Refused d) h = ap applied.Refused (same-refusal c d h)
+
+pub same-removed : (r r' : Removed) → removedPaper r ≡ removedPaper r' → r ≡ r'
+same-removed (removed.Stored n g) (removed.Stored n' g') h =
+    let e : _≡_ {A = RingCount} (record { rings = n; generation = g }) (record { rings = n'; generation = g' }) = same-answer h in
+    ap₂ removed.Stored (ap (λ (c : RingCount). c .rings) e) (ap (λ (c : RingCount). c .generation) e)
+same-removed (removed.Stored n g) (removed.Refused d) h = absurd (no-answer _ _ (sym h))
+same-removed (removed.Refused c) (removed.Stored n g) h = absurd (no-answer _ _ h)
+same-removed (removed.Refused c) (removed.Refused d) h = ap removed.Refused (same-refusal c d h)
+
+-- ---- papers of an envelope, each one to one
+
+pub same-ordered : (r r' : Ordered) → orderedPaper r ≡ orderedPaper r' → r ≡ r'
+same-ordered (ordered.Order o) (ordered.Order p) h = ap ordered.Order (same-answer h)
+same-ordered (ordered.Order o) (ordered.Refused d) h = absurd (no-answer _ _ (sym h))
+same-ordered (ordered.Refused c) (ordered.Order p) h = absurd (no-answer _ _ h)
+same-ordered (ordered.Refused c) (ordered.Refused d) h = ap ordered.Refused (same-refusal c d h)
+
+-- a part's end is its first point and its count together, so the first point and the end give the count
+same-count : (a b n m : ℕ) → a ≡ b → a + n ≡ b + m → n ≡ m
+same-count a b n m e h = omega arith
+
+pub same-spanned : (r r' : Spanned) → spannedPaper r ≡ spannedPaper r' → r ≡ r'
+same-spanned (spanned.Part a n) (spanned.Part b m) h =
+    let e : span a (a + n) ≡ span b (b + m) = same-answer h in
+    let s : a ≡ b = ap (λ (x : Span). x .start) e in
+    ap₂ spanned.Part s (same-count a b n m s (ap (λ (x : Span). x .end) e))
+same-spanned (spanned.Part a n) (spanned.Refused d) h = absurd (no-answer _ _ (sym h))
+same-spanned (spanned.Refused c) (spanned.Part b m) h = absurd (no-answer _ _ h)
+same-spanned (spanned.Refused c) (spanned.Refused d) h = ap spanned.Refused (same-refusal c d h)
+
+pub same-looked : (r r' : Looked) → lookedPaper r ≡ lookedPaper r' → r ≡ r'
+same-looked looked.Fine looked.Fine h = refl
+same-looked looked.Fine (looked.Refused d) h = absurd (no-answer _ _ (sym h))
+same-looked (looked.Refused c) looked.Fine h = absurd (no-answer _ _ h)
+same-looked (looked.Refused c) (looked.Refused d) h = ap looked.Refused (same-refusal c d h)
+
+pub same-radius-at : (r r' : RadiusAt) → radiusAtPaper r ≡ radiusAtPaper r' → r ≡ r'
+same-radius-at (radius-at.At x) (radius-at.At y) h = ap radius-at.At (same-some (same-answer h))
+same-radius-at (radius-at.At x) radius-at.Nowhere h = absurd (none-some x (sym (same-answer h)))
+same-radius-at (radius-at.At x) (radius-at.Refused d) h = absurd (no-answer _ _ (sym h))
+same-radius-at radius-at.Nowhere (radius-at.At y) h = absurd (none-some y (same-answer h))
+same-radius-at radius-at.Nowhere radius-at.Nowhere h = refl
+same-radius-at radius-at.Nowhere (radius-at.Refused d) h = absurd (no-answer _ _ (sym h))
+same-radius-at (radius-at.Refused c) (radius-at.At y) h = absurd (no-answer _ _ h)
+same-radius-at (radius-at.Refused c) radius-at.Nowhere h = absurd (no-answer _ _ h)
+same-radius-at (radius-at.Refused c) (radius-at.Refused d) h = ap radius-at.Refused (same-refusal c d h)
+
+pub same-radius-range : (r r' : RadiusRange) → radiusRangePaper r ≡ radiusRangePaper r' → r ≡ r'
+same-radius-range (radius-range.From a b) (radius-range.From a' b') h =
+    let e : _≡_ {A = Radii} (record { lowest = a; highest = b }) (record { lowest = a'; highest = b' }) = same-some (same-answer h) in
+    ap₂ radius-range.From (ap (λ (x : Radii). x .lowest) e) (ap (λ (x : Radii). x .highest) e)
+same-radius-range (radius-range.From a b) radius-range.Nowhere h = absurd (none-some _ (sym (same-answer h)))
+same-radius-range (radius-range.From a b) (radius-range.Refused d) h = absurd (no-answer _ _ (sym h))
+same-radius-range radius-range.Nowhere (radius-range.From a b) h = absurd (none-some _ (same-answer h))
+same-radius-range radius-range.Nowhere radius-range.Nowhere h = refl
+same-radius-range radius-range.Nowhere (radius-range.Refused d) h = absurd (no-answer _ _ (sym h))
+same-radius-range (radius-range.Refused c) (radius-range.From a b) h = absurd (no-answer _ _ h)
+same-radius-range (radius-range.Refused c) radius-range.Nowhere h = absurd (no-answer _ _ h)
+same-radius-range (radius-range.Refused c) (radius-range.Refused d) h = ap radius-range.Refused (same-refusal c d h)
+
+-- ---- promises with lent buffers
+
+pub filled-once : (spec : TurnStockSpec) (r r' : Counted) (cs cs₁ cs₂ : List Float) → Filled spec r cs cs₁ → Filled spec r' cs cs₂ → (r ≡ r') × (cs₁ ≡ cs₂)
+filled-once spec r r' cs cs₁ cs₂ a b = (same-counted r r' (a .answer ∙ sym (b .answer)), a .cells ∙ sym (b .cells))
+
+pub listed-once : (k k₁ k₂ : ℕ) (c : TurnChange) (is is₁ is₂ : List ℕ) (xs xs₁ xs₂ : List Float) → Listed k k₁ c is is₁ xs xs₁ → Listed k k₂ c is is₂ xs xs₂ → (k₁ ≡ k₂) × (is₁ ≡ is₂) × (xs₁ ≡ xs₂)
+listed-once k k₁ k₂ c is is₁ is₂ xs xs₁ xs₂ a b = (a .count ∙ sym (b .count), a .indices ∙ sym (b .indices), a .numbers ∙ sym (b .numbers))
+
+pub swept-once : (ps : List Float) (side : TurnSide) (excess : Float) (b : ZRange) (lo hi : Float) (start end : Low) (r r' : Swept) → Sweeps ps side excess b lo hi start end r → Sweeps ps side excess b lo hi start end r' → r ≡ r'
+swept-once ps side excess b lo hi start end r r' m n =
+    ap₂ (λ (x y : Low). record { low = x; high = y }) (same-low (r .low) (r' .low) (m .low ∙ sym (n .low))) (same-low (r .high) (r' .high) (m .high ∙ sym (n .high)))
+
+pub applied-once : (p : Paper Committed) (r r' : Applied) (cs cs₁ cs₂ : List Float) → Applies p r cs cs₁ → Applies p r' cs cs₂ → (r ≡ r') × (cs₁ ≡ cs₂)
+applied-once p r r' cs cs₁ cs₂ a b = (same-applied r r' (a .answer ∙ sym (b .answer)), a .cells ∙ sym (b .cells))
+
+pub removed-once : (xs : List Float) (p : Paper RingStore) (r r' : Removed) (xs₁ xs₂ : List Float) → Removes xs p r xs₁ → Removes xs p r' xs₂ → (r ≡ r') × (xs₁ ≡ xs₂)
+removed-once xs p r r' xs₁ xs₂ a b = (same-removed r r' (a .answer ∙ sym (b .answer)), a .store ∙ sym (b .store))
+
+-- ---- an envelope that is kept
+
+-- a new one: the lent points where they are lent, and their number
+pub new-once : (ps : RefT (List Float)) (r r' : Envelope) → (r .points ≡ ps) × (r .order ≡ keptOf (now ps)) → (r' .points ≡ ps) × (r' .order ≡ keptOf (now ps)) → r ≡ r'
+new-once ps r r' a b = ap₂ (λ (p : RefT (List Float)) (z : ℤ). record { points = p; order = z }) (a .0 ∙ sym (b .0)) (a .1 ∙ sym (b .1))
+
+-- what a method finds over the same points and number, whether the number is that of the points or not
+pub order-once : (ps : List Float) (z : ℤ) (r r' : Ordered) → OrderKept ps z r → OrderKept ps z r' → r ≡ r'
+order-once ps z r r' a b = same-ordered r r' (a .found ∙ sym (b .found))
+
+pub within-once : (ps : List Float) (z : ℤ) (lo hi : Float) (l l' : List Float) → WithinKept ps z lo hi l → WithinKept ps z lo hi l' → l ≡ l'
+within-once ps z lo hi l l' a b = a .found ∙ sym (b .found)
+
+pub radius-at-once : (ps : List Float) (z : ℤ) (u : Float) (r r' : RadiusAt) → RadiusAtKept ps z u r → RadiusAtKept ps z u r' → r ≡ r'
+radius-at-once ps z u r r' a b = same-radius-at r r' (a .found ∙ sym (b .found))
+
+pub radius-range-once : (ps : List Float) (z : ℤ) (lo hi : Float) (r r' : RadiusRange) → RadiusRangeKept ps z lo hi r → RadiusRangeKept ps z lo hi r' → r ≡ r'
+radius-range-once ps z lo hi r r' a b = same-radius-range r r' (a .found ∙ sym (b .found))
+
+-- ---- a job
+
+-- a line written to a lent buffer, and how many bytes it has
+pub wrote-once : (l : List ℕ) (i : ℕ) (t m m' : List ℕ) (j j' : ℕ) → Wrote l i t m j → Wrote l i t m' j' → (j ≡ j') × (m ≡ m')
+wrote-once l i t m m' j j' a b = (a .end ∙ sym (b .end), a .text ∙ sym (b .text))
+
+-- bytes taken: the run and the count of bytes held, the cells, the rings and the bytes of the unfinished line
+pub taken-once : (h : Hold) (r r' : Taken) (cs cs' rs rs' : List Float) (l l' : List ℕ) → hold (state (r .run) cs rs) l (r .len) ≡ h → hold (state (r' .run) cs' rs') l' (r' .len) ≡ h → (r ≡ r') × (cs ≡ cs') × (rs ≡ rs') × (l ≡ l')
+taken-once h r r' cs cs' rs rs' l l' a b =
+    let e : hold (state (r .run) cs rs) l (r .len) ≡ hold (state (r' .run) cs' rs') l' (r' .len) = a ∙ sym b in
+    let s : state (r .run) cs rs ≡ state (r' .run) cs' rs' = ap (λ (x : Hold). x .state) e in
+    (ap₂ (λ (u : Run) (n : ℕ). record { run = u; len = n }) (ap (λ (x : State). x .run) s) (ap (λ (x : Hold). x .len) e), ap (λ (x : State). x .cells) s, ap (λ (x : State). x .rings) s, ap (λ (x : Hold). x .line) e)

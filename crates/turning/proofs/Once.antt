@@ -1,0 +1,75 @@
+-- Two outcomes of a call of the C boundary that meet its promise, of the same inputs, are the same: the number that it returns, and what it leaves in each
+-- out-parameter and each lent buffer. Assumes nothing.
+--
+-- Each call of include/turning.h, by the law that covers it:
+--   gives-once            turning_root, turning_length, turning_validate, turning_envelope_order
+--   gives-two-once        turning_volume, turning_within
+--   gives-bin-once        turning_bin
+--   gives-cells-once      turning_new
+--   gives-changes-once    turning_preview, turning_preview_polygon, turning_thread_cut, turning_thread_cut_inner, turning_drill, turning_changes_to
+--   gives-stock-once      turning_apply
+--   gives-rings-once      turning_remove_ring
+--   gives-move-once       turning_apply_move
+--   gives-store-once      turning_from_parts
+--   gives-found-once      turning_radius_at
+--   gives-found-two-once  turning_envelope_at, turning_radius_range
+-- A buffer that is lent to be read only is as it was.
+use mathlib.Core.Path.{_≡_, sym, _∙_}
+use mathlib.Core.List.{List}
+use mathlib.Core.Option.{Option}
+use Prim.Native.Nat.{ℕ}
+use lib.Ieee.{Float}
+use Rattle.refusals.specs.Paper.{Paper}
+use Rattle.stock.specs.declared.TurnStockSpec.{TurnStockSpec}
+use Rattle.stock.specs.declared.TurnChange.{TurnChange}
+use Rattle.stock.specs.declared.ZRange.{ZRange}
+use Rattle.changes.specs.Commit.{Committed}
+use Rattle.rings.specs.declared.Ring.{Ring}
+use Rattle.rings.specs.Remove.{RingStore}
+use Rattle.moves.specs.Move.{Left}
+use Rattle.turning.specs.Boundary.{Gives, GivesTwo, GivesBin, GivesCells, GivesChanges, GivesStock, GivesRings, GivesMove, GivesStore, GivesFound, GivesFoundTwo}
+
+-- one number
+pub gives-once : {A : Type 0} (p : Paper A) (r r' : ℕ) (x x₁ x₂ : A) → Gives p r x x₁ → Gives p r' x x₂ → (r ≡ r') × (x₁ ≡ x₂)
+gives-once p r r' x x₁ x₂ a b = (a .code ∙ sym (b .code), a .out ∙ sym (b .out))
+
+-- two numbers
+pub gives-two-once : {A B C : Type 0} (f : A → B) (g : A → C) (p : Paper A) (r r' : ℕ) (x x₁ x₂ : B) (y y₁ y₂ : C) → GivesTwo f g p r x x₁ y y₁ → GivesTwo f g p r' x x₂ y y₂ → (r ≡ r') × (x₁ ≡ x₂) × (y₁ ≡ y₂)
+gives-two-once f g p r r' x x₁ x₂ y y₁ y₂ a b = (a .code ∙ sym (b .code), a .one ∙ sym (b .one), a .other ∙ sym (b .other))
+
+-- a bin's two ends
+pub gives-bin-once : (p : Paper ZRange) (r r' : ℕ) (x x₁ x₂ y y₁ y₂ : Float) → GivesBin p r x x₁ y y₁ → GivesBin p r' x x₂ y y₂ → (r ≡ r') × (x₁ ≡ x₂) × (y₁ ≡ y₂)
+gives-bin-once p r r' x x₁ x₂ y y₁ y₂ a b = (a .code ∙ sym (b .code), a .start ∙ sym (b .start), a .end ∙ sym (b .end))
+
+-- fresh cells
+pub gives-cells-once : (spec : TurnStockSpec) (p : Paper ℕ) (r r' : ℕ) (cs cs₁ cs₂ : List Float) → GivesCells spec p r cs cs₁ → GivesCells spec p r' cs cs₂ → (r ≡ r') × (cs₁ ≡ cs₂)
+gives-cells-once spec p r r' cs cs₁ cs₂ a b = (a .code ∙ sym (b .code), a .cells ∙ sym (b .cells))
+
+-- changes: their count, the indices and the numbers
+pub gives-changes-once : (p : Paper (List TurnChange)) (r r' k k₁ k₂ : ℕ) (is is₁ is₂ : List ℕ) (xs xs₁ xs₂ : List Float) → GivesChanges p r k k₁ is is₁ xs xs₁ → GivesChanges p r' k k₂ is is₂ xs xs₂ → (r ≡ r') × (k₁ ≡ k₂) × (is₁ ≡ is₂) × (xs₁ ≡ xs₂)
+gives-changes-once p r r' k k₁ k₂ is is₁ is₂ xs xs₁ xs₂ a b = (a .code ∙ sym (b .code), a .count ∙ sym (b .count), a .indices ∙ sym (b .indices), a .numbers ∙ sym (b .numbers))
+
+-- the cells and the generation
+pub gives-stock-once : (p : Paper Committed) (r r' : ℕ) (cs cs₁ cs₂ : List Float) (g g₁ g₂ : ℕ) → GivesStock p r cs cs₁ g g₁ → GivesStock p r' cs cs₂ g g₂ → (r ≡ r') × (cs₁ ≡ cs₂) × (g₁ ≡ g₂)
+gives-stock-once p r r' cs cs₁ cs₂ g g₁ g₂ a b = (a .code ∙ sym (b .code), a .cells ∙ sym (b .cells), a .generation ∙ sym (b .generation))
+
+-- the rings, their count and the generation
+pub gives-rings-once : (p : Paper RingStore) (r r' : ℕ) (xs xs₁ xs₂ : List Float) (k k₁ k₂ g g₁ g₂ : ℕ) → GivesRings p r xs xs₁ k k₁ g g₁ → GivesRings p r' xs xs₂ k k₂ g g₂ → (r ≡ r') × (xs₁ ≡ xs₂) × (k₁ ≡ k₂) × (g₁ ≡ g₂)
+gives-rings-once p r r' xs xs₁ xs₂ k k₁ k₂ g g₁ g₂ a b = (a .code ∙ sym (b .code), a .rings ∙ sym (b .rings), a .count ∙ sym (b .count), a .generation ∙ sym (b .generation))
+
+-- the cells, the rings, their count and the generation
+pub gives-move-once : (p : Paper Left) (r r' : ℕ) (cs cs₁ cs₂ xs xs₁ xs₂ : List Float) (k k₁ k₂ g g₁ g₂ : ℕ) → GivesMove p r cs cs₁ xs xs₁ k k₁ g g₁ → GivesMove p r' cs cs₂ xs xs₂ k k₂ g g₂ → (r ≡ r') × (cs₁ ≡ cs₂) × (xs₁ ≡ xs₂) × (k₁ ≡ k₂) × (g₁ ≡ g₂)
+gives-move-once p r r' cs cs₁ cs₂ xs xs₁ xs₂ k k₁ k₂ g g₁ g₂ a b =
+    (a .code ∙ sym (b .code), a .cells ∙ sym (b .cells), a .rings ∙ sym (b .rings), a .count ∙ sym (b .count), a .generation ∙ sym (b .generation))
+
+-- the rings and their count
+pub gives-store-once : (p : Paper (List Ring)) (r r' : ℕ) (xs xs₁ xs₂ : List Float) (k k₁ k₂ : ℕ) → GivesStore p r xs xs₁ k k₁ → GivesStore p r' xs xs₂ k k₂ → (r ≡ r') × (xs₁ ≡ xs₂) × (k₁ ≡ k₂)
+gives-store-once p r r' xs xs₁ xs₂ k k₁ k₂ a b = (a .code ∙ sym (b .code), a .rings ∙ sym (b .rings), a .count ∙ sym (b .count))
+
+-- one number, if it is found
+pub gives-found-once : {A : Type 0} (p : Paper (Option A)) (r r' f f₁ f₂ : ℕ) (x x₁ x₂ : A) → GivesFound p r f f₁ x x₁ → GivesFound p r' f f₂ x x₂ → (r ≡ r') × (f₁ ≡ f₂) × (x₁ ≡ x₂)
+gives-found-once p r r' f f₁ f₂ x x₁ x₂ a b = (a .code ∙ sym (b .code), a .found ∙ sym (b .found), a .out ∙ sym (b .out))
+
+-- two numbers, if they are found
+pub gives-found-two-once : {A : Type 0} (g h : A → Float) (p : Paper (Option A)) (r r' f f₁ f₂ : ℕ) (x x₁ x₂ y y₁ y₂ : Float) → GivesFoundTwo g h p r f f₁ x x₁ y y₁ → GivesFoundTwo g h p r' f f₂ x x₂ y y₂ → (r ≡ r') × (f₁ ≡ f₂) × (x₁ ≡ x₂) × (y₁ ≡ y₂)
+gives-found-two-once g h p r r' f f₁ f₂ x x₁ x₂ y y₁ y₂ a b = (a .code ∙ sym (b .code), a .found ∙ sym (b .found), a .one ∙ sym (b .one), a .other ∙ sym (b .other))
