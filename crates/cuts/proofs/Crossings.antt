@@ -23,7 +23,7 @@ use Rattle.polygon.proofs.Reaches.{reach-nothing, reach-unspanned, reach-skippe
 use Rattle.cuts.specs.Rows.{noRow, Empty, Extends, PutRow, Crosses, Crossed, Says}
 
 -- an empty row says that the bin is passed over
-says-nothing : (side : TurnSide) (f : Found) → f ≡ noRow → reachFrom side (f .low) (f .high) ≡ passed
+pub says-nothing : (side : TurnSide) (f : Found) → f ≡ noRow → reachFrom side (f .low) (f .high) ≡ passed
 unfolding reachFrom
 says-nothing side f e = rw e
 
@@ -65,28 +65,30 @@ crossed-more {side} {reach} {first} {i} {old} {new} {next} f w u = record {
     go j a (no p) b = ap (λ (f : Found). reachFrom side (f .low) (f .high)) (u .others j (λ e. p (omega arith))) ∙ w .inside j a (omega arith)
 
 -- ---- all bins
-module _ (s : TurnStockSpec) (n : ℕ) (side : TurnSide) (excess : Float) (ps : List Float) {old : ℕ → Found} (empty : Empty 0 n old) where
+module _ (s : TurnStockSpec) (n : ℕ) (side : TurnSide) (excess : Float) (ps : List Float) where
   -- no points
-  pub says-none : extentOf ps ≡ none → Says (polygonAct s side excess ps) n old
+  pub says-none : {new : ℕ → Found} → extentOf ps ≡ none → Says (polygonAct s side excess ps) n 0 0 new
   unfolding polygonAct
-  says-none h j l = says-nothing side (old j) (empty j (omega arith) l) ∙ sym (reach-nothing s side (cleanOf excess) ps j h)
+  says-none h = record {
+    ordered = omega arith;
+    within = omega arith;
+    under = λ j a b. absurd (omega arith);
+    inside = λ j a b. absurd (omega arith);
+    over = λ j a b. reach-nothing s side (cleanOf excess) ps j h;
+  }
 
   -- the bins of the range were walked, and the others are not visited
-  module _ (lo hi : Float) (ex : Extends ps lo hi) {new : ℕ → Found} (x : Float) (e : x ≡ cleanOf excess) (first last : ℕ) (w : Crossed side (polygonReach s side x ps) first last old new) where
-    outside : (j : ℕ) → j < n → new j ≡ old j → spans s lo hi j ≡ false → reachFrom side (new j .low) (new j .high) ≡ polygonReach s side x ps j
-    outside j l k v = says-nothing side (new j) (k ∙ empty j (omega arith) l) ∙ sym (reach-unspanned s side x ps j _ ex v)
-
-    pub says-crossed : (bins : Bins) → bins ≡ binsOf s lo hi n → first ≡ bins .from → last ≡ bins .to → Says (polygonAct s side excess ps) n new
+  module _ (lo hi : Float) (ex : Extends ps lo hi) {old new : ℕ → Found} (x : Float) (e : x ≡ cleanOf excess) where
+    pub says-crossed : (bins : Bins) → bins ≡ binsOf s lo hi n → Crossed side (polygonReach s side x ps) (bins .from) (bins .to) old new → Says (polygonAct s side excess ps) n (bins .from) (bins .to) new
     unfolding polygonAct
-    says-crossed bins eb ef el j l = go (decLe first j) (decLe last j) ∙ ap (λ (y : Float). polygonReach s side y ps j) e
-      where
-        from : first ≡ binsOf s lo hi n .from
-        from = ef ∙ ap (λ (b : Bins). b .from) eb
-
-        to : last ≡ binsOf s lo hi n .to
-        to = el ∙ ap (λ (b : Bins). b .to) eb
-
-        go : Dec (first ≤ j) → Dec (last ≤ j) → reachFrom side (new j .low) (new j .high) ≡ polygonReach s side x ps j
-        go (no p) d = outside j l (w .under j (omega arith)) (not-before s lo hi n j l (omega (arith, from)))
-        go (yes p) (yes q) = outside j l (w .over j q) (not-behind s lo hi n j l (omega (arith, to)))
-        go (yes p) (no q) = w .inside j p (omega arith)
+    says-crossed bins eb w =
+        let from : bins .from ≡ binsOf s lo hi n .from = ap (λ (b : Bins). b .from) eb in
+        let to : bins .to ≡ binsOf s lo hi n .to = ap (λ (b : Bins). b .to) eb in
+        let v = visits-range s lo hi n in
+        record {
+          ordered = omega (arith, from, to, v .ordered);
+          within = omega (arith, to, v .few);
+          under = λ j a l. reach-unspanned s side (cleanOf excess) ps j _ ex (not-before s lo hi n j l (omega (arith, from)));
+          inside = λ j a b. w .inside j a b ∙ ap (λ (y : Float). polygonReach s side y ps j) e;
+          over = λ j a l. reach-unspanned s side (cleanOf excess) ps j _ ex (not-behind s lo hi n j l (omega (arith, to)));
+        }

@@ -4,4 +4,5 @@ pub mod Grades
 pub mod Sweeps
 pub mod Crossings
 pub mod EachBin
+pub mod Spans
 pub mod Singles

@@ -1,10 +1,11 @@
 -- The rules of the previews, by what their questions find. Assumes nothing.
 use mathlib.Core.Path.{_≡_, refl, sym, ap, _∙_, subst}
 use mathlib.Core.Bool.{Bool, true, false, not, false≢true}
-use mathlib.Core.List.{List, []}
+use mathlib.Core.List.{List}
 use Prim.Native.Nat.{ℕ, _<_}
 use lib.Ieee.{Float}
 use Rattle.refusals.specs.Paper.{answers, refuses, demand, papers}
+use Rattle.floats.specs.Numbers.{leastOf, greatestOf}
 use Rattle.stock.specs.declared.TurnStockSpec.{TurnStockSpec}
 use Rattle.stock.specs.declared.TurnSide.{TurnSide}
 use Rattle.stock.specs.declared.TurnSide.the-variants.{Outer, Inner}
@@ -20,34 +21,47 @@ use Rattle.cuts.specs.declared.Cut.{Cut}
 use Rattle.cuts.specs.declared.Cut.the-variants.{Line, Thread, ThreadInner, Drill, Arc}
 use Rattle.cuts.specs.declared.list.Source.the-variants as source
 use Rattle.cuts.specs.Cut.{lineOf, cleanCut, cutReach, cutGood, isArc, cutAct}
-use Rattle.cuts.specs.Rows.{rowAt, Graded, Says}
-use Rattle.cuts.specs.Source.{sourceSide, sourceReach, sourceAct, SameTo}
+use Rattle.cuts.specs.Rows.{rowAt, passedOf, Graded, Split, Between, Says}
+use Rattle.cuts.specs.Source.{sourceSide, sourceReach, sourceAct, spanAct, threadAct, drillAct, SameTo}
 use Rattle.cuts.specs.Preview.{proposed, previewOf, previewCut}
 use Rattle.cuts.proofs.Grades.{graded}
 use Rattle.cuts.proofs.EachBin.{proposed-same}
+use Rattle.cuts.proofs.Spans.{span-is, thread-spans, drill-spans}
 
 -- ---- what the lists are taken from
 module _ (s : TurnStockSpec) (cs : List Float) (room n : ℕ) where
   -- rows that say what the cut reaches
-  pub rows-propose : (a : Act) (side : TurnSide) (values : List Float) (there : List Bool) → a .side ≡ side → Says a n (rowAt values there) → proposed a cs room n ≡ proposed (sourceAct s (source.Rows side) values there) cs room n
+  pub rows-propose : (a : Act) (values : List Float) (there : List Bool) (first last : ℕ) → Says a n first last (rowAt values there) → proposed a cs room n ≡ proposed (spanAct first last (sourceAct s (source.Rows (a .side)) values there)) cs room n
   unfolding sourceSide sourceReach
-  rows-propose a side values there e w = proposed-same a (sourceAct s (source.Rows side) values there) cs room n e (λ j l. subst (λ (σ : TurnSide). a .at j ≡ sourceReach s (source.Rows σ) values there j) e (sym (w j l)))
+  rows-propose a values there first last w =
+      proposed-same a (spanAct first last (sourceAct s (source.Rows (a .side)) values there)) cs room n refl
+      (span-is first last n (sourceReach s (source.Rows (a .side)) values there) (a .at) (w .under) (λ j p q. sym (w .inside j p q)) (w .over))
+
+  -- the bins between the ends of a thread
+  pub thread-propose : (side : TurnSide) (z0 z1 r lo hi : Float) → lo ≡ leastOf z0 z1 → hi ≡ greatestOf z0 z1 → (first last : ℕ) → Between (passedOf s lo true false) (passedOf s hi false false) n first last → (values : List Float) (there : List Bool) → proposed (threadAct s side z0 z1 r) cs room n ≡ proposed (spanAct first last (sourceAct s (source.Thread side r) values there)) cs room n
+  unfolding sourceSide sourceReach
+  thread-propose side z0 z1 r lo hi el eh first last w values there = proposed-same (threadAct s side z0 z1 r) (spanAct first last (sourceAct s (source.Thread side r) values there)) cs room n refl (thread-spans s n z0 z1 r lo hi el eh first last w)
+
+  -- the bins from the tip of a drill on
+  pub drill-propose : (tip r cone : Float) (first : ℕ) → Split (passedOf s tip true false) n first → (values : List Float) (there : List Bool) → proposed (drillAct s tip r cone) cs room n ≡ proposed (spanAct first n (sourceAct s (source.Drill tip r cone) values there)) cs room n
+  unfolding sourceSide sourceReach
+  drill-propose tip r cone first w values there = proposed-same (drillAct s tip r cone) (spanAct first n (sourceAct s (source.Drill tip r cone) values there)) cs room n refl (drill-spans s n tip r cone first w)
 
   module _ (cut : Cut) where
     pub line-proposed : {side : TurnSide} {rn sag ar az br bz : Float} → cut ≡ Line side rn sag ar az br bz → demand (not (isArc cut)) 13 (proposed (cutAct s cut) cs room n) ≡ proposed (noseAct s side rn (lineOf ar az br bz sag)) cs room n
     unfolding demand cutReach noseAct
     line-proposed e = rw e refl
 
-    pub thread-proposed : {z0 z1 r : Float} → cut ≡ Thread z0 z1 r → demand (not (isArc cut)) 13 (proposed (cutAct s cut) cs room n) ≡ proposed (sourceAct s (source.Thread Outer z0 z1 r) [] []) cs room n
-    unfolding demand cutReach sourceSide sourceReach
+    pub thread-proposed : {z0 z1 r : Float} → cut ≡ Thread z0 z1 r → demand (not (isArc cut)) 13 (proposed (cutAct s cut) cs room n) ≡ proposed (threadAct s Outer z0 z1 r) cs room n
+    unfolding demand cutReach
     thread-proposed e = rw e refl
 
-    pub inner-proposed : {z0 z1 r : Float} → cut ≡ ThreadInner z0 z1 r → demand (not (isArc cut)) 13 (proposed (cutAct s cut) cs room n) ≡ proposed (sourceAct s (source.Thread Inner z0 z1 r) [] []) cs room n
-    unfolding demand cutReach sourceSide sourceReach
+    pub inner-proposed : {z0 z1 r : Float} → cut ≡ ThreadInner z0 z1 r → demand (not (isArc cut)) 13 (proposed (cutAct s cut) cs room n) ≡ proposed (threadAct s Inner z0 z1 r) cs room n
+    unfolding demand cutReach
     inner-proposed e = rw e refl
 
-    pub drill-proposed : {tip r cone : Float} → cut ≡ Drill tip r cone → demand (not (isArc cut)) 13 (proposed (cutAct s cut) cs room n) ≡ proposed (sourceAct s (source.Drill tip r cone) [] []) cs room n
-    unfolding demand cutReach sourceSide sourceReach
+    pub drill-proposed : {tip r cone : Float} → cut ≡ Drill tip r cone → demand (not (isArc cut)) 13 (proposed (cutAct s cut) cs room n) ≡ proposed (drillAct s tip r cone) cs room n
+    unfolding demand cutReach
     drill-proposed e = rw e refl
 
     pub arc-proposed : cut ≡ Arc → demand (not (isArc cut)) 13 (proposed (cutAct s cut) cs room n) ≡ refuses 13

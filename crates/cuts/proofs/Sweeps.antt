@@ -3,7 +3,7 @@ use mathlib.Core.Path.{_≡_, refl, sym, ap, _∙_, subst}
 use mathlib.Core.Bool.{Bool, true, false, not}
 use mathlib.Core.List.{List}
 use mathlib.Core.Option.{none}
-use Prim.Native.Nat.{ℕ, _+_, _≤_, _<_}
+use Prim.Native.Nat.{ℕ, _+_, _≤_, _<_, min, max}
 use native.Mathlib.Decide.{decLe}
 use native.Mathlib.Omega.{arith}
 use borrow.Author.Tests.{not-true, not-false}
@@ -16,11 +16,13 @@ use Rattle.stock.specs.declared.TurnSide.{TurnSide}
 use Rattle.stock.specs.declared.ZRange.{ZRange}
 use Rattle.stock.specs.Bin.{binOf}
 use Rattle.reach.specs.Low.{Found}
+use Rattle.polygon.specs.declared.Bins.{Bins}
 use Rattle.nose.specs.declared.Track.{Track}
 use Rattle.nose.specs.Nose.{segmentAt, segmentCount, noseTo, noseAct}
 use Rattle.nose.specs.Track.{Samples, sampleAt, stepOf, trackOf, withTrack}
 use Rattle.nose.proofs.Tracks.{nose-more, nose-at, track-under, track-over, track-step}
-use Rattle.cuts.specs.Rows.{PutRow, passedOf, Split, stepped, Stepped, Passed, Empty, Filled, Says}
+use Rattle.cuts.specs.Rows.{PutRow, passedOf, Split, stepped, Stepped, Passed, noRow, Empty, Filled, Idle, Says}
+use Rattle.cuts.proofs.Crossings.{says-nothing}
 
 -- each row is as long as it was
 pub record Even (xs : List Float) (is : List Bool) (ys : List Float) (js : List Bool) : Type 0 where
@@ -49,7 +51,7 @@ module _ {s : TurnStockSpec} {t : Track} {first i : ℕ} {old new next : ℕ →
   stepped-more bin a b eb ea ez f w u = more f w (record { here = u .here ∙ simp (ea, ez, eb); others = u .others })
 
 -- ---- the bins that a segment does not reach
-module _ (s : TurnStockSpec) (n : ℕ) (t : Track) (first last : ℕ) (A : Split (passedOf s (t .from) true) n first) (B : Split (passedOf s (t .to) false) n last) where
+module _ (s : TurnStockSpec) (n : ℕ) (t : Track) (first last : ℕ) (A : Split (passedOf s (t .from) true true) n first) (B : Split (passedOf s (t .to) false true) n last) where
   -- a bin before the first, and one from the last on, is one that the rule passes over
   under-skips : (acc : Found) (j : ℕ) → j < first → withTrack acc t (binOf s j) ≡ acc
   unfolding passedOf pick
@@ -87,7 +89,39 @@ module _ (s : TurnStockSpec) (n : ℕ) (side : TurnSide) (rn : Float) (xs : List
   pub filled-more : (k : ℕ) (t : Track) (old new : ℕ → Found) → t ≡ trackOf (segmentAt xs k side) rn → Filled s n side rn xs k old → Passed s n t old new → Filled s n side rn xs (k + 1) new
   filled-more k t old new e f p j h = p j h ∙ (simp (e, f j h)) ∙ sym (nose-more side rn xs (binOf s j) k)
 
+-- ---- the bins that were visited
+module _ {n : ℕ} {old new : ℕ → Found} where
+  -- one segment more
+  pub idle-more : {s : TurnStockSpec} {t : Track} {first last : ℕ} (seen bins : Bins) → last ≤ n → Idle n seen old → Stepped s t first last old new → bins .from ≡ min (seen .from) first → bins .to ≡ max (seen .to) last → Idle n bins new
+  idle-more {s} {t} {first} {last} seen bins h w u ef el =
+      let sw = w .within in
+      record {
+        within = omega (arith, el, sw);
+        under = λ j a l. u .under j (omega (arith, ef)) ∙ w .under j (omega (arith, ef)) l;
+        over = λ j a l. u .over j (omega (arith, el)) ∙ w .over j (omega (arith, el)) l;
+      }
+
+-- before the first segment
+pub idle-none : (n : ℕ) (old : ℕ → Found) → Empty 0 n old → Idle n (record { from = n; to = 0 }) old
+idle-none n old h = record { within = omega arith; under = λ j a l. h j (omega arith) l; over = λ j a l. h j (omega arith) l }
+
+-- none were
+pub idle-all : {n : ℕ} {new : ℕ → Found} (seen : Bins) → Idle n seen new → seen .to < seen .from → Idle n (record { from = 0; to = 0 }) new
+idle-all {n} {new} seen w h = record { within = omega arith; under = λ j a l. absurd (omega arith); over = λ j a l. go j l (decLe (seen .from) j) }
+  where
+    go : (j : ℕ) → j < n → Dec (seen .from ≤ j) → new j ≡ noRow
+    go j l (yes p) = w .over j (omega arith) l
+    go j l (no p) = w .under j (omega arith) l
+
 -- over all segments the rows say what the nose reaches
-pub says-nose : (s : TurnStockSpec) (n : ℕ) (side : TurnSide) (rn : Float) (xs : List Float) (new : ℕ → Found) → Filled s n side (cleanOf rn) xs (segmentCount xs) new → Says (noseAct s side rn xs) n new
+pub says-nose : (s : TurnStockSpec) (n : ℕ) (side : TurnSide) (rn : Float) (xs : List Float) (new : ℕ → Found) (bins : Bins) → Filled s n side (cleanOf rn) xs (segmentCount xs) new → Idle n bins new → bins .from ≤ bins .to → Says (noseAct s side rn xs) n (bins .from) (bins .to) new
 unfolding noseAct
-says-nose s n side rn xs new f j h = nose-at s side rn xs j (new j) (f j h)
+says-nose s n side rn xs new bins f w o =
+    let h = w .within in
+    record {
+      ordered = o;
+      within = h;
+      under = λ j a l. sym (nose-at s side rn xs j (new j) (f j l)) ∙ says-nothing side (new j) (w .under j a l);
+      inside = λ j a b. nose-at s side rn xs j (new j) (f j (omega arith));
+      over = λ j a l. sym (nose-at s side rn xs j (new j) (f j l)) ∙ says-nothing side (new j) (w .over j a l);
+    }

@@ -14,10 +14,11 @@ use Rattle.stock.specs.declared.TurnStockSpec.{TurnStockSpec}
 use Rattle.stock.specs.declared.TurnSide.{TurnSide}
 use Rattle.stock.specs.Bin.{binOf}
 use Rattle.reach.specs.Low.{Found, lowPaper}
-use Rattle.reach.specs.Reach.{Reached, reachFrom, Act}
+use Rattle.reach.specs.Reach.{Reached, passed, reachFrom, Act}
 use Rattle.nose.specs.declared.Track.{Track}
 use Rattle.nose.specs.Nose.{noseTo}
 use Rattle.nose.specs.Track.{sampleAt, stepOf, withTrack}
+use Rattle.polygon.specs.declared.Bins.{Bins}
 use Rattle.polygon.specs.Polygon.{lowestOf, extentOf}
 use Rattle.cuts.specs.declared.across.Held.{Held}
 
@@ -58,18 +59,18 @@ abbrev pub Empty : ℕ → ℕ → (ℕ → Found) → Type 0
 Empty i n old = (j : ℕ) → i ≤ j → j < n → old j ≡ noRow
 
 -- ---- where a line falls among the bins
--- bin j ends before e; or it does not start after e
-unfoldable pub passedOf : TurnStockSpec → Float → Bool → ℕ → Bool
-passedOf s e ends j = pick ends (lt (binOf s j .zb) e) (not (lt e (binOf s j .za)))
+-- bin j ends before e; or it does not start after e. Where touching e is not reaching it, a bin that ends on e is passed, and one that starts on e is not
+unfoldable pub passedOf : TurnStockSpec → Float → Bool → Bool → ℕ → Bool
+passedOf s e ends touch j = pick ends (pick touch (lt (binOf s j .zb) e) (le (binOf s j .zb) e)) (not (pick touch (lt e (binOf s j .za)) (le e (binOf s j .za))))
 
 -- the bin before g is passed, if there is one
-unfoldable pub beforeOf : TurnStockSpec → Float → Bool → ℕ → Bool
-beforeOf s e ends zero = true
-beforeOf s e ends (suc g) = passedOf s e ends g
+unfoldable pub beforeOf : TurnStockSpec → Float → Bool → Bool → ℕ → Bool
+beforeOf s e ends touch zero = true
+beforeOf s e ends touch (suc g) = passedOf s e ends touch g
 
 -- bin g of n is one, and is passed
-unfoldable pub onwardOf : TurnStockSpec → Float → Bool → ℕ → ℕ → Bool
-onwardOf s e ends n g = pick (ltb g n) (passedOf s e ends g) false
+unfoldable pub onwardOf : TurnStockSpec → Float → Bool → Bool → ℕ → ℕ → Bool
+onwardOf s e ends touch n g = pick (ltb g n) (passedOf s e ends touch g) false
 
 -- both ends of the n bins are numbers, and rise with the bins
 pub record Graded (s : TurnStockSpec) (n : ℕ) : Type 0 where
@@ -84,6 +85,14 @@ pub record Split (P : ℕ → Bool) (n r : ℕ) : Type 0 where
   pub within : r ≤ n
   pub below : (j : ℕ) → j < r → P j ≡ true
   pub above : (j : ℕ) → r ≤ j → j < n → P j ≡ false
+
+-- P holds of the numbers below first, Q of those below last, of which there are n at most; and of no other
+pub record Between (P Q : ℕ → Bool) (n first last : ℕ) : Type 0 where
+  pub ordered : first ≤ last
+  pub within : last ≤ n
+  pub under : (j : ℕ) → j < first → P j ≡ true
+  pub inside : (j : ℕ) → first ≤ j → j < last → (P j ≡ false) × (Q j ≡ true)
+  pub over : (j : ℕ) → last ≤ j → j < n → Q j ≡ false
 
 -- ---- a nose, segment by segment
 -- one segment over one bin that it reaches
@@ -103,6 +112,12 @@ Passed s n t old new = (j : ℕ) → j < n → new j ≡ withTrack (old j) t (bi
 -- every bin holds what the rule has of it, over the first k segments
 abbrev pub Filled : TurnStockSpec → ℕ → TurnSide → Float → List Float → ℕ → (ℕ → Found) → Type 0
 Filled s n side rn xs k new = (j : ℕ) → j < n → new j ≡ noseTo side rn xs (binOf s j) k
+
+-- of n bins those before the first and from the last on are empty
+pub record Idle (n : ℕ) (bins : Bins) (new : ℕ → Found) : Type 0 where
+  pub within : bins .to ≤ n
+  pub under : (j : ℕ) → j < bins .from → j < n → new j ≡ noRow
+  pub over : (j : ℕ) → bins .to ≤ j → j < n → new j ≡ noRow
 
 -- ---- a polygon, bin by bin
 -- its extent is from lo to hi
@@ -125,6 +140,10 @@ pub record Crossed (side : TurnSide) (reach : ℕ → Reached) (first last : ℕ
   pub over : (j : ℕ) → last ≤ j → new j ≡ old j
 
 -- ---- any cut
--- in each of n bins the rows say what the cut reaches there
-abbrev pub Says : Act → ℕ → (ℕ → Found) → Type 0
-Says a n new = (j : ℕ) → j < n → reachFrom (a .side) (new j .low) (new j .high) ≡ a .at j
+-- in the bins from first to before last the rows say what the cut reaches there, and it passes the others of n over
+pub record Says (a : Act) (n first last : ℕ) (new : ℕ → Found) : Type 0 where
+  pub ordered : first ≤ last
+  pub within : last ≤ n
+  pub under : (j : ℕ) → j < first → j < n → a .at j ≡ passed
+  pub inside : (j : ℕ) → first ≤ j → j < last → reachFrom (a .side) (new j .low) (new j .high) ≡ a .at j
+  pub over : (j : ℕ) → last ≤ j → j < n → a .at j ≡ passed

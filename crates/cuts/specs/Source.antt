@@ -1,33 +1,62 @@
--- Where the loop over the bins takes from what a cut reaches: from the numbers of a thread or a drill, or from rows that were filled before. Assumes nothing.
+-- Where the loop over the bins takes from what a cut reaches: from the numbers of a thread or a drill, or from rows that were filled before; and which bins it visits. Assumes nothing.
 use mathlib.Core.Path.{_≡_}
 use mathlib.Core.Bool.{Bool, true}
 use mathlib.Core.List.{List}
 use Prim.Native.Nat.{ℕ}
+use lib.Dec.{leb, ltb}
 use lib.Ieee.{Float}
+use Rattle.floats.specs.Pick.{pick}
 use Rattle.stock.specs.declared.TurnStockSpec.{TurnStockSpec}
+use Rattle.stock.specs.declared.TurnCell.{TurnCell}
+use Rattle.stock.specs.declared.TurnChange.{TurnChange}
 use Rattle.stock.specs.declared.TurnSide.{TurnSide}
 use Rattle.stock.specs.declared.TurnSide.the-variants.{Inner}
+use Rattle.stock.specs.declared.ZRange.{ZRange}
 use Rattle.stock.specs.Bin.{binOf}
 use Rattle.stock.specs.Cell.{cellAt, sameCell}
-use Rattle.reach.specs.Reach.{Reached, reachFrom, Act}
+use Rattle.reach.specs.declared.Reach.{Reach}
+use Rattle.reach.specs.Reach.{Reached, passed, low, both, reachPaper, reachFrom, cutCell, Act}
 use Rattle.cuts.specs.declared.list.Source.{Source}
 use Rattle.cuts.specs.declared.list.Source.the-variants as source
-use Rattle.cuts.specs.Cut.{threadReach, drillReach}
+use Rattle.cuts.specs.Cut.{drillAt, threadReach, drillReach}
 use Rattle.cuts.specs.Rows.{rowAt}
 
 unfoldable pub sourceSide : Source → TurnSide
-sourceSide (source.Thread side z0 z1 r) = side
+sourceSide (source.Thread side r) = side
 sourceSide (source.Drill tip r cone) = Inner
 sourceSide (source.Rows side) = side
 
+-- what a drill reaches in a bin that does not end before its tip
+abbrev pub drillBoth : ZRange → Float → Float → Float → Reached
+drillBoth b tip r cone = both (drillAt (b .zb) tip r cone) (drillAt (b .za) tip r cone)
+
 unfoldable pub sourceReach : TurnStockSpec → Source → List Float → List Bool → ℕ → Reached
-sourceReach s (source.Thread side z0 z1 r) values there i = threadReach (binOf s i) z0 z1 r
-sourceReach s (source.Drill tip r cone) values there i = drillReach (binOf s i) tip r cone
+sourceReach s (source.Thread side r) values there i = low r
+sourceReach s (source.Drill tip r cone) values there i = drillBoth (binOf s i) tip r cone
 sourceReach s (source.Rows side) values there i = reachFrom side (rowAt values there i .low) (rowAt values there i .high)
 
 -- the cut
 abbrev pub sourceAct : TurnStockSpec → Source → List Float → List Bool → Act
 sourceAct s src values there = record { side = sourceSide src; at = sourceReach s src values there }
+
+-- in the bins from first to before last what a reach says, the others passed over
+unfoldable pub spanReach : ℕ → ℕ → (ℕ → Reached) → ℕ → Reached
+spanReach first last reach i = pick (leb first i) (pick (ltb i last) (reach i) passed) passed
+
+-- a cut in those bins only
+abbrev pub spanAct : ℕ → ℕ → Act → Act
+spanAct first last a = record { side = a .side; at = spanReach first last (a .at) }
+
+-- a thread, and a drill
+abbrev pub threadAct : TurnStockSpec → TurnSide → Float → Float → Float → Act
+threadAct s side z0 z1 r = record { side = side; at = λ i. threadReach (binOf s i) z0 z1 r }
+
+abbrev pub drillAct : TurnStockSpec → Float → Float → Float → Act
+drillAct s tip r cone = record { side = Inner; at = λ i. drillReach (binOf s i) tip r cone }
+
+-- the change of bin i, from its cell and from what is reached there
+abbrev pub cutChange : TurnSide → TurnCell → Reach → ℕ → TurnChange
+cutChange side before reached i = record { index = i; before = before; after = cutCell side before (reachPaper reached) }
 
 -- the cell of bin i is the same as itself: none of its numbers is a NaN
 abbrev pub SameTo : List Float → ℕ → Type 0

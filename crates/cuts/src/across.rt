@@ -8,6 +8,7 @@ ghost use Rattle.reach.specs.Low.{lowPaper};
 ghost use Rattle.polygon.specs.Polygon.{lowestOf, spans, polygonReach, polygonAct};
 ghost use Rattle.cuts.specs.Rows.{rowAt, Room, Empty, noRow, Extends, Sampled, Crosses, Crossed, Says};
 use crate::rows;
+use polygon::Bins;
 use polygon::Extent;
 use reach::Low;
 use stock::TurnSide;
@@ -87,7 +88,7 @@ fn sweep(
     }
 }
 
-// All n bins, into rows that are empty.
+// All n bins, into rows that are empty; the bins that were visited.
 pub fn fill(
     s: TurnStockSpec,
     n: usize,
@@ -96,13 +97,13 @@ pub fn fill(
     points: &[f64],
     values: &mut [f64],
     there: &mut [bool],
-)
+) -> Bins
     requires { ⌜ (n ≤ cellLimit) × Room n (now values) (now there) × Empty 0 n (rowAt (now values) (now there)) ⌝ }
-    ensures { λ _. ⌜ Says (polygonAct s side excess (now (points .entry))) n (rowAt (now (values .exit)) (now (there .exit))) ⌝ }
+    ensures { λ r. ⌜ Says (polygonAct s side excess (now (points .entry))) n (r .from) (r .to) (rowAt (now (values .exit)) (now (there .exit))) ⌝ }
 {
     let extent = polygon::extent_of(points);
     let Extent::Over(lo, hi) = extent else {
-        return;
+        return Bins { from: 0, to: 0 };
     };
     let bins = polygon::index_range(s, lo, hi, n);
     let raise = floats::clean(excess);
@@ -118,4 +119,5 @@ pub fn fill(
         values,
         there,
     );
+    bins
 }

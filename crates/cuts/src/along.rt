@@ -7,12 +7,13 @@ ghost use Rattle.refusals.specs.Limits.{cellLimit};
 ghost use Rattle.reach.specs.Low.{sweptPaper};
 ghost use Rattle.nose.specs.Nose.{segmentCount};
 ghost use Rattle.nose.specs.Track.{samplePaper, sampleAt, stepOf};
-ghost use Rattle.cuts.specs.Rows.{rowAt, Room, PutRow, Empty, Graded, Stepped, Passed, Filled};
+ghost use Rattle.cuts.specs.Rows.{rowAt, Room, PutRow, Empty, Graded, Stepped, Passed, Filled, Idle};
 use crate::ends;
 use crate::rows;
 use nose::Point;
 use nose::Sample;
 use nose::Track;
+use polygon::Bins;
 use stock::TurnSide;
 use stock::TurnStockSpec;
 use stock::ZRange;
@@ -73,20 +74,29 @@ fn sweep(
     }
 }
 
-// A segment over all n bins: those that its span does not reach stay as they are.
-fn pass(s: TurnStockSpec, n: usize, t: Track, values: &mut [f64], there: &mut [bool])
-    requires { ⌜ Graded s n × Room n (now values) (now there) ⌝ }
-    ensures { λ _. ⌜ Passed s n t (rowAt (now (values .entry)) (now (there .entry))) (rowAt (now (values .exit)) (now (there .exit))) ⌝ }
+// A segment over all n bins: those that its span does not reach stay as they are; the bins that were
+// visited with those before.
+fn pass(
+    s: TurnStockSpec,
+    n: usize,
+    t: Track,
+    seen: Bins,
+    values: &mut [f64],
+    there: &mut [bool],
+) -> Bins
+    requires { ⌜ Graded s n × Room n (now values) (now there) × Idle n seen (rowAt (now values) (now there)) ⌝ }
+    ensures { λ r. ⌜ Passed s n t (rowAt (now (values .entry)) (now (there .entry))) (rowAt (now (values .exit)) (now (there .exit))) × Idle n r (rowAt (now (values .exit)) (now (there .exit))) ⌝ }
 {
-    let first = ends::find(s, n, t.from, true);
-    let last = ends::find(s, n, t.to, false);
+    let first = ends::find(s, n, t.from, true, true);
+    let last = ends::find(s, n, t.to, false, true);
     if last <= first {
-        return;
+        return seen;
     }
     sweep(s, t, first, last, values, there);
+    ends::wider(seen, first, last)
 }
 
-// All segments over all n bins, into rows that are empty.
+// All segments over all n bins, into rows that are empty; the bins that were visited.
 pub fn fill(
     s: TurnStockSpec,
     n: usize,
@@ -95,15 +105,20 @@ pub fn fill(
     segments: &[f64],
     values: &mut [f64],
     there: &mut [bool],
-)
+) -> Bins
     requires { ⌜ Graded s n × Room n (now values) (now there) × Empty 0 n (rowAt (now values) (now there)) ⌝ }
-    ensures { λ _. ⌜ Filled s n side rn (now (segments .entry)) (segmentCount (now (segments .entry))) (rowAt (now (values .exit)) (now (there .exit))) ⌝ }
+    ensures { λ r. ⌜ Filled s n side rn (now (segments .entry)) (segmentCount (now (segments .entry))) (rowAt (now (values .exit)) (now (there .exit))) × Idle n r (rowAt (now (values .exit)) (now (there .exit))) × (r .from ≤ r .to) ⌝ }
 {
     let m = segments.len() / 5;
     let mut k: usize = 0;
+    let mut seen = Bins { from: n, to: 0 };
     while k < m {
         let t = nose::track_of(nose::segment_at(segments, k, side), rn);
-        pass(s, n, t, values, there);
+        seen = pass(s, n, t, seen, values, there);
         k += 1;
     }
+    if seen.to < seen.from {
+        return Bins { from: 0, to: 0 };
+    }
+    seen
 }

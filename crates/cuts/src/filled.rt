@@ -2,7 +2,6 @@
 // stock whose cells are checked.
 ghost use mathlib.Core.Path.{_≡_};
 ghost use mathlib.Core.Bool.{not};
-ghost use mathlib.Core.List.{[]};
 ghost use Prim.Native.Nat.{ℕ, _≤_, _<_};
 ghost use lib.ListN.{length};
 ghost use Rattle.refusals.specs.Limits.{cellLimit};
@@ -12,11 +11,12 @@ ghost use Rattle.nose.specs.Nose.{noseAct};
 ghost use Rattle.polygon.specs.Polygon.{polygonAct};
 ghost use Rattle.cuts.specs.Cut.{isArc, cutAct};
 ghost use Rattle.cuts.specs.Rows.{Graded};
-ghost use Rattle.cuts.specs.Source.{sourceAct, SameTo};
+ghost use Rattle.cuts.specs.Source.{threadAct, drillAct, SameTo};
 ghost use Rattle.cuts.specs.Preview.{proposed};
 use crate::Cut;
 use crate::across;
 use crate::along;
+use crate::ends;
 use crate::list;
 use crate::list::Source;
 use records::Previewed;
@@ -44,13 +44,15 @@ pub fn nose(
     let mut values = [0.0f64; PLACES];
     let mut there = [false; PLACES];
     let radius = floats::clean(rn);
-    along::fill(s, n, side, radius, segments, &mut values, &mut there);
+    let bins = along::fill(s, n, side, radius, segments, &mut values, &mut there);
     list::list(
         s,
         Source::Rows(side),
         &values,
         &there,
         cells,
+        bins.from,
+        bins.to,
         n,
         indices,
         numbers,
@@ -73,32 +75,84 @@ pub fn polygon(
 {
     let mut values = [0.0f64; PLACES];
     let mut there = [false; PLACES];
-    across::fill(s, n, side, excess, points, &mut values, &mut there);
+    let bins = across::fill(s, n, side, excess, points, &mut values, &mut there);
     list::list(
         s,
         Source::Rows(side),
         &values,
         &there,
         cells,
+        bins.from,
+        bins.to,
         n,
         indices,
         numbers,
     )
 }
 
-// A thread or a drill, which need no rows.
-fn plain(
+// A thread: only the bins between its ends are visited, and it reaches the same in each of them.
+fn thread(
     s: TurnStockSpec,
     n: usize,
-    source: Source,
+    side: TurnSide,
+    z0: f64,
+    z1: f64,
+    radius: f64,
     cells: &[f64],
     indices: &mut [usize],
     numbers: &mut [f64],
 ) -> Previewed
-    requires { ⌜ (n ≤ cellLimit) × ((i : ℕ) → i < n → SameTo (now cells) i) ⌝ }
-    ensures { λ r. ⌜ Proposed (proposed (sourceAct s source [] []) (now (cells .entry)) (roomOf (length (now (indices .entry))) (length (now (numbers .entry)))) n) r (now (indices .entry)) (now (indices .exit)) (now (numbers .entry)) (now (numbers .exit)) ⌝ }
+    requires { ⌜ Graded s n × ((i : ℕ) → i < n → SameTo (now cells) i) ⌝ }
+    ensures { λ r. ⌜ Proposed (proposed (threadAct s side z0 z1 radius) (now (cells .entry)) (roomOf (length (now (indices .entry))) (length (now (numbers .entry)))) n) r (now (indices .entry)) (now (indices .exit)) (now (numbers .entry)) (now (numbers .exit)) ⌝ }
 {
-    list::list(s, source, &[], &[], cells, n, indices, numbers)
+    let lo = floats::least(z0, z1);
+    let hi = floats::greatest(z0, z1);
+    let bins = ends::between(s, n, lo, hi, false);
+    list::list(
+        s,
+        Source::Thread { side, radius },
+        &[],
+        &[],
+        cells,
+        bins.from,
+        bins.to,
+        n,
+        indices,
+        numbers,
+    )
+}
+
+// A drill: the bins that end before its tip are not visited.
+fn drill(
+    s: TurnStockSpec,
+    n: usize,
+    tip_z: f64,
+    radius: f64,
+    cone: f64,
+    cells: &[f64],
+    indices: &mut [usize],
+    numbers: &mut [f64],
+) -> Previewed
+    requires { ⌜ Graded s n × ((i : ℕ) → i < n → SameTo (now cells) i) ⌝ }
+    ensures { λ r. ⌜ Proposed (proposed (drillAct s «tip_z» radius cone) (now (cells .entry)) (roomOf (length (now (indices .entry))) (length (now (numbers .entry)))) n) r (now (indices .entry)) (now (indices .exit)) (now (numbers .entry)) (now (numbers .exit)) ⌝ }
+{
+    let first = ends::find(s, n, tip_z, true, false);
+    list::list(
+        s,
+        Source::Drill {
+            tip_z,
+            radius,
+            cone,
+        },
+        &[],
+        &[],
+        cells,
+        first,
+        n,
+        n,
+        indices,
+        numbers,
+    )
 }
 
 // A single cut, whose -0.0 is read as +0.0; 13.
@@ -132,28 +186,24 @@ pub fn cut(
             indices,
             numbers,
         ),
-        Cut::Thread { z0, z1, radius } => plain(
+        Cut::Thread { z0, z1, radius } => thread(
             s,
             n,
-            Source::Thread {
-                side: TurnSide::Outer,
-                z0,
-                z1,
-                radius,
-            },
+            TurnSide::Outer,
+            z0,
+            z1,
+            radius,
             cells,
             indices,
             numbers,
         ),
-        Cut::ThreadInner { z0, z1, radius } => plain(
+        Cut::ThreadInner { z0, z1, radius } => thread(
             s,
             n,
-            Source::Thread {
-                side: TurnSide::Inner,
-                z0,
-                z1,
-                radius,
-            },
+            TurnSide::Inner,
+            z0,
+            z1,
+            radius,
             cells,
             indices,
             numbers,
@@ -162,18 +212,7 @@ pub fn cut(
             tip_z,
             radius,
             cone,
-        } => plain(
-            s,
-            n,
-            Source::Drill {
-                tip_z,
-                radius,
-                cone,
-            },
-            cells,
-            indices,
-            numbers,
-        ),
+        } => drill(s, n, tip_z, radius, cone, cells, indices, numbers),
         Cut::Arc => Previewed::Refused(Refusal::Arc),
     }
 }

@@ -3,9 +3,10 @@ ghost use mathlib.Core.Path.{_≡_};
 ghost use Prim.Native.Nat.{ℕ, _+_, _≤_, _<_};
 ghost use lib.ListN.{length};
 ghost use Rattle.refusals.specs.Limits.{cellLimit};
+ghost use Rattle.stock.specs.declared.TurnSide.the-variants.{Outer, Inner};
 ghost use Rattle.reach.specs.Reach.{reachPaper, reachFrom, actCell};
 ghost use Rattle.records.specs.Change.{changeAt, changeOf, changesTo, roomOf, Listed, Listing, Proposed};
-ghost use Rattle.cuts.specs.Source.{sourceSide, sourceReach, sourceAct, SameTo};
+ghost use Rattle.cuts.specs.Source.{sourceSide, sourceReach, sourceAct, spanAct, cutChange, SameTo};
 ghost use Rattle.cuts.specs.Rows.{rowAt};
 ghost use Rattle.cuts.specs.Preview.{proposed};
 use crate::rows;
@@ -14,23 +15,16 @@ use reach::Low;
 use reach::Reach;
 use records::Previewed;
 use refusals::Refusal;
+use stock::TurnCell;
 use stock::TurnChange;
 use stock::TurnSide;
 use stock::TurnStockSpec;
 
 // Where what a cut reaches is taken from.
 pub enum Source {
-    Thread {
-        side: TurnSide,
-        z0: f64,
-        z1: f64,
-        radius: f64,
-    },
-    Drill {
-        tip_z: f64,
-        radius: f64,
-        cone: f64,
-    },
+    // the same low in every bin
+    Thread { side: TurnSide, radius: f64 },
+    Drill { tip_z: f64, radius: f64, cone: f64 },
     // rows that were filled before
     Rows(TurnSide),
 }
@@ -40,12 +34,7 @@ fn side_of(source: Source) -> TurnSide
     ensures { λ r. ⌜ r ≡ sourceSide source ⌝ }
 {
     match source {
-        Source::Thread {
-            side,
-            z0: _,
-            z1: _,
-            radius: _,
-        } => side,
+        Source::Thread { side, radius: _ } => side,
         Source::Drill {
             tip_z: _,
             radius: _,
@@ -72,12 +61,24 @@ fn reach_at(s: TurnStockSpec, source: Source, values: &[f64], there: &[bool], i:
     ensures { λ r. ⌜ reachPaper r ≡ sourceReach s source (now (values .entry)) (now (there .entry)) i ⌝ }
 {
     match source {
-        Source::Thread {
-            side: _,
-            z0,
-            z1,
+        Source::Thread { side: _, radius } => Reach::Low(radius),
+        Source::Drill {
+            tip_z,
             radius,
-        } => single::thread_reach(stock::bin_of(s, i), z0, z1, radius),
+            cone,
+        } => single::drill_reach(stock::bin_of(s, i), tip_z, radius, cone),
+        Source::Rows(side) => row_reach(side, values, there, i),
+    }
+}
+
+// The same, for the loop that writes: each of the two loops has its own, so that both are compiled
+// without a call a bin.
+fn write_reach(s: TurnStockSpec, source: Source, values: &[f64], there: &[bool], i: usize) -> Reach
+    requires { ⌜ i ≤ cellLimit ⌝ }
+    ensures { λ r. ⌜ reachPaper r ≡ sourceReach s source (now (values .entry)) (now (there .entry)) i ⌝ }
+{
+    match source {
+        Source::Thread { side: _, radius } => Reach::Low(radius),
         Source::Drill {
             tip_z,
             radius,
@@ -113,25 +114,66 @@ fn count_bin(
     k + 1
 }
 
-// How many of the first n cells the cut changes.
+// How many cells the cut changes, where it is taken in the bins from first to before last only.
 fn count(
     s: TurnStockSpec,
     source: Source,
     values: &[f64],
     there: &[bool],
     cells: &[f64],
-    n: usize,
+    first: usize,
+    last: usize,
 ) -> usize
-    requires { ⌜ (n ≤ cellLimit) × ((i : ℕ) → i < n → SameTo (now cells) i) ⌝ }
-    ensures { λ r. ⌜ r ≡ length (changesTo (actCell (sourceAct s source (now (values .entry)) (now (there .entry)))) (now (cells .entry)) n) ⌝ }
+    requires { ⌜ (first ≤ last) × (last ≤ cellLimit) × ((i : ℕ) → i < last → SameTo (now cells) i) ⌝ }
+    ensures { λ r. ⌜ r ≡ length (changesTo (actCell (spanAct first last (sourceAct s source (now (values .entry)) (now (there .entry))))) (now (cells .entry)) last) ⌝ }
 {
     let mut k: usize = 0;
-    let mut i: usize = 0;
-    while i < n {
+    let mut i: usize = first;
+    while i < last {
         k = count_bin(s, source, values, there, cells, i, k);
         i += 1;
     }
     k
+}
+
+// What a cut of the outside makes of the cell of bin i, written behind k others where it is another.
+fn put_outer(
+    before: TurnCell,
+    reached: Reach,
+    i: usize,
+    indices: &mut [usize],
+    numbers: &mut [f64],
+    k: usize,
+) -> usize
+    ensures { λ r. ⌜ Listed k r (cutChange Outer before reached i) (now (indices .entry)) (now (indices .exit)) (now (numbers .entry)) (now (numbers .exit)) ⌝ }
+{
+    let after = reach::cut_cell(TurnSide::Outer, before, reached);
+    let change = TurnChange {
+        index: i,
+        before,
+        after,
+    };
+    records::list_change(indices, numbers, k, change)
+}
+
+// The same of a cut of the inside.
+fn put_inner(
+    before: TurnCell,
+    reached: Reach,
+    i: usize,
+    indices: &mut [usize],
+    numbers: &mut [f64],
+    k: usize,
+) -> usize
+    ensures { λ r. ⌜ Listed k r (cutChange Inner before reached i) (now (indices .entry)) (now (indices .exit)) (now (numbers .entry)) (now (numbers .exit)) ⌝ }
+{
+    let after = reach::cut_cell(TurnSide::Inner, before, reached);
+    let change = TurnChange {
+        index: i,
+        before,
+        after,
+    };
+    records::list_change(indices, numbers, k, change)
 }
 
 // The change of bin i, written behind k others where the cut makes one; how many there are then. A
@@ -150,65 +192,87 @@ fn write_bin(
     requires { ⌜ (i ≤ cellLimit) × SameTo (now cells) i ⌝ }
     ensures { λ r. ⌜ Listed k r (changeOf (actCell (sourceAct s source (now (values .entry)) (now (there .entry)))) (now (cells .entry)) i) (now (indices .entry)) (now (indices .exit)) (now (numbers .entry)) (now (numbers .exit)) ⌝ }
 {
-    let reached = reach_at(s, source, values, there, i);
+    let reached = write_reach(s, source, values, there, i);
     let low = reach::low_of(reached);
     let Low::At(_) = low else {
         return k;
     };
     let before = stock::cell_at(cells, i);
-    let after = reach::cut_cell(side_of(source), before, reached);
-    let change = TurnChange {
-        index: i,
-        before,
-        after,
-    };
-    records::list_change(indices, numbers, k, change)
+    let side = side_of(source);
+    match side {
+        TurnSide::Outer => put_outer(before, reached, i, indices, numbers, k),
+        TurnSide::Inner => put_inner(before, reached, i, indices, numbers, k),
+    }
 }
 
-// The changes of the first n cells, written out; how many they are.
+// The changes of the cut, taken in the bins from first to before last only, written out; how many
+// they are.
 fn write(
     s: TurnStockSpec,
     source: Source,
     values: &[f64],
     there: &[bool],
     cells: &[f64],
-    n: usize,
+    first: usize,
+    last: usize,
     indices: &mut [usize],
     numbers: &mut [f64],
 ) -> usize
-    requires { ⌜ (n ≤ cellLimit) × ((i : ℕ) → i < n → SameTo (now cells) i) × (length (changesTo (actCell (sourceAct s source (now values) (now there))) (now cells) n) ≤ roomOf (length (now indices)) (length (now numbers))) ⌝ }
-    ensures { λ r. ⌜ Listing (actCell (sourceAct s source (now (values .entry)) (now (there .entry)))) (now (cells .entry)) n r (now (indices .entry)) (now (indices .exit)) (now (numbers .entry)) (now (numbers .exit)) ⌝ }
+    requires { ⌜ (first ≤ last) × (last ≤ cellLimit) × ((i : ℕ) → i < last → SameTo (now cells) i) × (length (changesTo (actCell (spanAct first last (sourceAct s source (now values) (now there)))) (now cells) last) ≤ roomOf (length (now indices)) (length (now numbers))) ⌝ }
+    ensures { λ r. ⌜ Listing (actCell (spanAct first last (sourceAct s source (now (values .entry)) (now (there .entry))))) (now (cells .entry)) last r (now (indices .entry)) (now (indices .exit)) (now (numbers .entry)) (now (numbers .exit)) ⌝ }
 {
     let mut k: usize = 0;
-    let mut i: usize = 0;
-    while i < n {
+    let mut i: usize = first;
+    while i < last {
         k = write_bin(s, source, values, there, cells, i, indices, numbers, k);
         i += 1;
     }
     k
 }
 
-// The changes of the first n cells, where there is room for them: in one pass where there is room
-// for every bin.
+// The changes that the cut makes in n cells, where it is taken in the bins from first to before last
+// only, and where there is room for them: in one pass where there is room for all of those bins.
 pub fn list(
     s: TurnStockSpec,
     source: Source,
     values: &[f64],
     there: &[bool],
     cells: &[f64],
+    first: usize,
+    last: usize,
     n: usize,
     indices: &mut [usize],
     numbers: &mut [f64],
 ) -> Previewed
-    requires { ⌜ (n ≤ cellLimit) × ((i : ℕ) → i < n → SameTo (now cells) i) ⌝ }
-    ensures { λ r. ⌜ Proposed (proposed (sourceAct s source (now (values .entry)) (now (there .entry))) (now (cells .entry)) (roomOf (length (now (indices .entry))) (length (now (numbers .entry)))) n) r (now (indices .entry)) (now (indices .exit)) (now (numbers .entry)) (now (numbers .exit)) ⌝ }
+    requires { ⌜ (first ≤ last) × (last ≤ n) × (n ≤ cellLimit) × ((i : ℕ) → i < n → SameTo (now cells) i) ⌝ }
+    ensures { λ r. ⌜ Proposed (proposed (spanAct first last (sourceAct s source (now (values .entry)) (now (there .entry)))) (now (cells .entry)) (roomOf (length (now (indices .entry))) (length (now (numbers .entry)))) n) r (now (indices .entry)) (now (indices .exit)) (now (numbers .entry)) (now (numbers .exit)) ⌝ }
 {
     let room = records::room(indices.len(), numbers.len());
-    if n <= room {
-        return Previewed::Changes(write(s, source, values, there, cells, n, indices, numbers));
+    if last - first <= room {
+        return Previewed::Changes(write(
+            s,
+            source,
+            values,
+            there,
+            cells,
+            first,
+            last,
+            indices,
+            numbers,
+        ));
     }
-    if count(s, source, values, there, cells, n) <= room {
-        return Previewed::Changes(write(s, source, values, there, cells, n, indices, numbers));
+    if count(s, source, values, there, cells, first, last) <= room {
+        return Previewed::Changes(write(
+            s,
+            source,
+            values,
+            there,
+            cells,
+            first,
+            last,
+            indices,
+            numbers,
+        ));
     }
     Previewed::Refused(Refusal::ChangesOverRoom)
 }

@@ -1,17 +1,11 @@
-// The single cuts: what a thread and a drill reach in a bin, and the domain of each cut.
+// The single cuts: what a drill reaches in a bin, and the domain of each cut.
 ghost use mathlib.Core.Path.{_≡_};
 ghost use Rattle.reach.specs.Reach.{reachPaper};
-ghost use Rattle.cuts.specs.Cut.{misses, drillAt, threadReach, drillReach, threadGood, drillGood, cutGood, cleanCut};
+ghost use Rattle.cuts.specs.Source.{drillBoth};
+ghost use Rattle.cuts.specs.Cut.{drillAt, threadGood, drillGood, cutGood, cleanCut};
 use crate::Cut;
 use reach::Reach;
 use stock::ZRange;
-
-// The bin does not reach between z0 and z1.
-fn misses(b: ZRange, z0: f64, z1: f64) -> bool
-    ensures { λ r. ⌜ r ≡ misses b z0 z1 ⌝ }
-{
-    (b.zb <= floats::least(z0, z1)) | (floats::greatest(z0, z1) <= b.za)
-}
 
 // The drill's radius at z.
 fn drill_at(z: f64, tip: f64, radius: f64, cone: f64) -> f64
@@ -26,23 +20,10 @@ fn drill_at(z: f64, tip: f64, radius: f64, cone: f64) -> f64
     floats::least(floats::greatest((z - tip) / cone * radius, 0.0), radius)
 }
 
-// What a thread reaches.
-pub fn thread_reach(b: ZRange, z0: f64, z1: f64, radius: f64) -> Reach
-    ensures { λ r. ⌜ reachPaper r ≡ threadReach b z0 z1 radius ⌝ }
-{
-    if misses(b, z0, z1) {
-        return Reach::Passed;
-    }
-    Reach::Low(radius)
-}
-
-// What a drill reaches.
+// What a drill reaches in a bin that does not end before its tip.
 pub fn drill_reach(b: ZRange, tip: f64, radius: f64, cone: f64) -> Reach
-    ensures { λ r. ⌜ reachPaper r ≡ drillReach b tip radius cone ⌝ }
+    ensures { λ r. ⌜ reachPaper r ≡ drillBoth b tip radius cone ⌝ }
 {
-    if b.zb <= tip {
-        return Reach::Passed;
-    }
     let low = drill_at(b.zb, tip, radius, cone);
     let high = drill_at(b.za, tip, radius, cone);
     Reach::Both(low, high)

@@ -15,7 +15,7 @@ returns : tie.Need-returns
 unfolding extentPaper
 returns c =
     let b = c .before .before in
-    says-none _ _ _ _ _ (b .before .before .before .before .pre .2) (sym (b .extent-of .ensures) ∙ ap extentPaper (c .enum-told .given .1))
+    says-none _ _ _ _ _ (sym (b .extent-of .ensures) ∙ ap extentPaper (c .enum-told .given .1))
 
 sweep-requires : tie.Need-sweep-requires
 unfolding extentPaper
@@ -51,8 +51,7 @@ returns-2 c =
     let k = w .before .before .before in
     let x = k .before .before .before in
     let b = x .before .before in
-    let p = b .before .before .before .before .pre in
-    says-crossed _ _ _ _ _ (p .2) _ _ (sym (b .extent-of .ensures) ∙ ap extentPaper (x .extent .given .1)) _ (k .clean .ensures) _ _ (w .sweep .ensures) _ (k .before .index-range .ensures) refl refl
+    says-crossed _ _ _ _ _ _ _ (sym (b .extent-of .ensures) ∙ ap extentPaper (x .extent .given .1)) _ (k .clean .ensures) _ (k .before .index-range .ensures) (w .sweep .ensures)
 
 pub fill-spec : {M : Type 1} → statement M
 fill-spec =

@@ -9,16 +9,16 @@ use Rattle.cuts.proofs.ends.back.Statement.{statement}
 use Rattle.cuts.proofs.ends.back.Tie as tie
 
 abbrev Inv-loop : tie.InvT-loop
-Inv-loop s n e ends from g₀ g = g ≤ n
+Inv-loop s n e ends touch from g₀ g = g ≤ n
 
 abbrev μ-loop : tie.MeasureT-loop
-μ-loop s n e ends from g₀ g = g
+μ-loop s n e ends touch from g₀ g = g
 
 sub-g : tie.Need-sub-g Inv-loop μ-loop
-sub-g c = omega (arith, before-pos _ _ _ _ (sym (c .before .before2 .ensures) ∙ not-true _ (c .if1 .taken)))
+sub-g c = omega (arith, before-pos _ _ _ _ _ (sym (c .before .before2 .ensures) ∙ not-true _ (c .if1 .taken)))
 
 loop-less : tie.Need-loop-less Inv-loop μ-loop
-loop-less c = omega (arith, before-pos _ _ _ _ (sym (c .before .before2 .ensures) ∙ not-true _ (c .if1 .taken)))
+loop-less c = omega (arith, before-pos _ _ _ _ _ (sym (c .before .before2 .ensures) ∙ not-true _ (c .if1 .taken)))
 
 returns : tie.Need-returns Inv-loop μ-loop
 returns c = (c .before .before .loop .inv, sym (c .before .before2 .ensures) ∙ not-false _ (c .if1 .left))

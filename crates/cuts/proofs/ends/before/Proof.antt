@@ -10,7 +10,7 @@ pub before-spec : {M : Type 1} → statement M
 before-spec =
     tie.close
     (tie.spec
-    (λ c. sym (before-none _ _ _ _ (c .if1 .taken)))
+    (λ c. sym (before-none _ _ _ _ _ (c .if1 .taken)))
     (λ c. search needs)
     (λ c κs. search needs)
-    (λ c. c .passed .ensures ∙ sym (before-some _ _ _ _ (c .before .if1 .left))))
+    (λ c. c .passed .ensures ∙ sym (before-some _ _ _ _ _ (c .before .if1 .left))))

@@ -9,5 +9,5 @@ onward-spec =
     tie.close
     (tie.spec
     (λ c κs. tt)
-    (λ c. c .passed .ensures ∙ sym (onward-in _ _ _ _ _ (c .before .if1 .taken)))
-    (λ c. sym (onward-past _ _ _ _ _ (c .if1 .left))))
+    (λ c. c .passed .ensures ∙ sym (onward-in _ _ _ _ _ _ (c .before .if1 .taken)))
+    (λ c. sym (onward-past _ _ _ _ _ _ (c .if1 .left))))

@@ -10,5 +10,7 @@ passed-spec =
     tie.close
     (tie.spec
     (λ c κs. tt)
-    (λ c. search (picks, ← c .before .before .bin-of .ensures, c .before .if1 .taken))
-    (λ c. search (picks, ← c .before .before .bin-of .ensures, c .before .if1 .left)))
+    (λ c. search (picks, ← c .before .before .before .bin-of .ensures))
+    (λ c. search (picks, ← c .before .before .before .bin-of .ensures))
+    (λ c. search (picks, ← c .before .before .before .bin-of .ensures))
+    (λ c. search (picks, ← c .before .before .before .bin-of .ensures)))

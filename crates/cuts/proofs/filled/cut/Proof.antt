@@ -13,17 +13,17 @@ returns c =
 returns-2 : tie.Need-returns-2
 returns-2 c =
     let b = c .before .before .before .before in
-    same-proposal _ _ _ _ _ _ _ (thread-proposed _ _ _ _ _ (b .before .before .before .before .cut2 .given .1)) (b .plain .ensures)
+    same-proposal _ _ _ _ _ _ _ (thread-proposed _ _ _ _ _ (b .before .before .before .before .cut2 .given .1)) (b .thread .ensures)
 
 returns-3 : tie.Need-returns-3
 returns-3 c =
     let b = c .before .before .before .before in
-    same-proposal _ _ _ _ _ _ _ (inner-proposed _ _ _ _ _ (b .before .before .before .before .cut3 .given .1)) (b .plain2 .ensures)
+    same-proposal _ _ _ _ _ _ _ (inner-proposed _ _ _ _ _ (b .before .before .before .before .cut3 .given .1)) (b .thread2 .ensures)
 
 returns-4 : tie.Need-returns-4
 returns-4 c =
     let b = c .before .before .before .before in
-    same-proposal _ _ _ _ _ _ _ (drill-proposed _ _ _ _ _ (b .before .before .before .before .cut4 .given .1)) (b .plain3 .ensures)
+    same-proposal _ _ _ _ _ _ _ (drill-proposed _ _ _ _ _ (b .before .before .before .before .cut4 .given .1)) (b .drill .ensures)
 
 returns-5 : tie.Need-returns-5
 returns-5 c = left _ _ _ _ (arc-proposed _ _ _ _ _ (c .enum-told .given .1))

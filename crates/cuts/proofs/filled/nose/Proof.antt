@@ -27,8 +27,8 @@ returns c =
     let k = f .before .before .before in
     let a = k .before .before .before .before .before .args in
     let l = f .fill .last .1 .1 .1 .1 .1 in
-    let w : Filled (a .s) (a .n) (a .side) (cleanOf (a .rn)) (a .segments .now) (segmentCount (a .segments .now)) (rowAt (l .0) (l .1 .0)) = subst (λ (x : Float). Filled (a .s) (a .n) (a .side) x (a .segments .now) (segmentCount (a .segments .now)) (rowAt (l .0) (l .1 .0))) (k .clean .ensures) (f .fill .ensures) in
-    same-proposal _ _ _ _ _ _ _ (rows-propose _ _ _ _ (noseAct (a .s) (a .side) (a .rn) (a .segments .now)) _ _ _ refl (says-nose (a .s) (a .n) (a .side) (a .rn) (a .segments .now) (rowAt (l .0) (l .1 .0)) w)) (d .list .ensures)
+    let w : Filled (a .s) (a .n) (a .side) (cleanOf (a .rn)) (a .segments .now) (segmentCount (a .segments .now)) (rowAt (l .0) (l .1 .0)) = subst (λ (x : Float). Filled (a .s) (a .n) (a .side) x (a .segments .now) (segmentCount (a .segments .now)) (rowAt (l .0) (l .1 .0))) (k .clean .ensures) (f .fill .ensures .0) in
+    same-proposal _ _ _ _ _ _ _ (rows-propose _ _ _ _ (noseAct (a .s) (a .side) (a .rn) (a .segments .now)) _ _ _ _ (says-nose (a .s) (a .n) (a .side) (a .rn) (a .segments .now) (rowAt (l .0) (l .1 .0)) (f .fill .result) w (f .fill .ensures .1) (f .fill .ensures .2))) (d .list .ensures)
 
 pub nose-spec : {M : Type 1} → statement M
 nose-spec =

@@ -20,7 +20,7 @@ unfolding polygonAct
 returns c =
     let d = c .before .before .before .before in
     let f = d .before .before .before .before .before .before .before in
-    same-proposal _ _ _ _ _ _ _ (rows-propose _ _ _ _ _ _ _ _ refl (f .fill .ensures)) (d .list .ensures)
+    same-proposal _ _ _ _ _ _ _ (rows-propose _ _ _ _ _ _ _ _ _ (f .fill .ensures)) (d .list .ensures)
 
 pub polygon-spec : {M : Type 1} → statement M
 polygon-spec =

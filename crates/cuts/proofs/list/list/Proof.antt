@@ -1,30 +1,40 @@
 -- `cuts::list::list` meets its contract. Assumes nothing.
+use mathlib.Core.Path.{ap}
 use native.Mathlib.Omega.{arith}
+use lib.ListN.{length}
 use borrow.Author.Needs.{needs}
-use Rattle.records.proofs.Rising.{at-most}
 use Rattle.records.proofs.Proposals.{settled-listed, settled-full}
-use Rattle.reach.specs.Reach.{actCell}
 use Rattle.cuts.specs.Source.{sourceAct}
+use Rattle.cuts.proofs.Spans.{none-behind, span-most, listing-end}
 use Rattle.cuts.proofs.list.list.Statement.{statement}
 use Rattle.cuts.proofs.list.list.Tie as tie
 
--- there is room for every bin
+-- there is room for every bin that is visited
 write-requires : tie.Need-write-requires
 write-requires c κs =
     let r = c .before .before .before in
     let s = r .before .before .before .before .before .before in
     let a = s .args in
-    (s .pre .0, s .pre .1, omega (arith, at-most (actCell (sourceAct (a .s) (a .source) (a .values .now) (a .there .now))) (a .cells .now) (a .n), r .room .ensures))
+    let p = s .pre in
+    let most = span-most (a .first) (a .last) (sourceAct (a .s) (a .source) (a .values .now) (a .there .now)) (a .cells .now) (p .0) (λ j h. p .3 j (omega (arith, p .0, p .1))) in
+    (p .0, omega (arith, p .1, p .2), λ j h. p .3 j (omega (arith, p .1)), omega (arith, most, r .room .ensures))
 
 returns : tie.Need-returns
 returns c =
     let b = c .before .before .before .before in
     let r = b .before .before .before .before in
-    let a = r .before .before .before .before .before .before .args in
-    settled-listed _ _ _ _ _ _ _ _ _ (omega (arith, at-most (actCell (sourceAct (a .s) (a .source) (a .values .now) (a .there .now))) (a .cells .now) (a .n), r .room .ensures)) (b .write .ensures)
+    let s = r .before .before .before .before .before .before in
+    let a = s .args in
+    let p = s .pre in
+    let u = sourceAct (a .s) (a .source) (a .values .now) (a .there .now) in
+    let e = none-behind (a .first) (a .last) u (a .cells .now) (a .n) (p .1) (p .3) in
+    let most = span-most (a .first) (a .last) u (a .cells .now) (p .0) (λ j h. p .3 j (omega (arith, p .0, p .1))) in
+    settled-listed _ _ _ _ _ _ _ _ _ (omega (arith, ap length e, most, r .room .ensures)) (listing-end _ _ _ _ _ _ _ _ _ e (b .write .ensures))
 
 count-requires : tie.Need-count-requires
-count-requires c κs = c .before .before .before .before .before .before .before .pre
+count-requires c κs =
+    let p = c .before .before .before .before .before .before .before .pre in
+    (p .0, omega (arith, p .1, p .2), λ j h. p .3 j (omega (arith, p .1)))
 
 -- there is room for those that change
 write-requires-2 : tie.Need-write-requires-2
@@ -32,22 +42,34 @@ write-requires-2 c κs =
     let k = c .before .before .before in
     let r = k .before .before in
     let p = r .before .before .before .before .before .before .pre in
-    (p .0, p .1, omega (arith, k .count .ensures, r .room .ensures))
+    (p .0, omega (arith, p .1, p .2), λ j h. p .3 j (omega (arith, p .1)), omega (arith, k .count .ensures, r .room .ensures))
 
 returns-2 : tie.Need-returns-2
 returns-2 c =
     let b = c .before .before .before .before in
     let k = b .before .before .before .before in
-    settled-listed _ _ _ _ _ _ _ _ _ (omega (arith, k .count .ensures, k .before .before .room .ensures)) (b .write2 .ensures)
+    let r = k .before .before in
+    let s = r .before .before .before .before .before .before in
+    let a = s .args in
+    let p = s .pre in
+    let e = none-behind (a .first) (a .last) (sourceAct (a .s) (a .source) (a .values .now) (a .there .now)) (a .cells .now) (a .n) (p .1) (p .3) in
+    settled-listed _ _ _ _ _ _ _ _ _ (omega (arith, ap length e, k .count .ensures, r .room .ensures)) (listing-end _ _ _ _ _ _ _ _ _ e (b .write2 .ensures))
 
 returns-3 : tie.Need-returns-3
-returns-3 c = settled-full _ _ _ _ _ _ (omega (arith, c .before .count .ensures, c .before .before .before .room .ensures))
+returns-3 c =
+    let r = c .before .before .before in
+    let s = r .before .before .before .before .before .before in
+    let a = s .args in
+    let p = s .pre in
+    let e = none-behind (a .first) (a .last) (sourceAct (a .s) (a .source) (a .values .now) (a .there .now)) (a .cells .now) (a .n) (p .1) (p .3) in
+    settled-full _ _ _ _ _ _ (omega (arith, ap length e, c .before .count .ensures, r .room .ensures))
 
 pub list-spec : {M : Type 1} → statement M
 list-spec =
     tie.close
     (tie.spec
     (λ c κs. search needs)
+    (λ c. search needs)
     write-requires
     (λ c. search needs)
     (λ c. search needs)

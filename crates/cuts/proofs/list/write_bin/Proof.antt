@@ -1,7 +1,7 @@
 -- `cuts::list::write_bin` meets its contract. Assumes nothing.
-use mathlib.Core.Path.{_≡_, sym, ap, _∙_, subst}
+use mathlib.Core.Path.{refl, sym, ap, _∙_}
 use borrow.Author.Needs.{needs}
-use Rattle.stock.specs.declared.TurnChange.{TurnChange}
+use Rattle.stock.specs.declared.TurnSide.the-variants.{Outer, Inner}
 use Rattle.reach.specs.Low.{lowPaper}
 use Rattle.reach.specs.Reach.{actCell}
 use Rattle.records.specs.Change.{changeOf, Listed}
@@ -17,18 +17,31 @@ returns c =
     let l = c .before .before in
     let s = l .before .before .before .before .before .before .before in
     let a = s .args in
-    list-same _ _ _ _ (bin-passed (sourceAct (a .s) (a .source) (a .values .now) (a .there .now)) (a .cells .now) (a .i) _ (l .before .reach-at .ensures) (sym (l .low-of .ensures) ∙ ap lowPaper (c .enum-told2 .given .1)) (s .pre .1))
+    list-same _ _ _ _ (bin-passed (sourceAct (a .s) (a .source) (a .values .now) (a .there .now)) (a .cells .now) (a .i) _ (l .before .write-reach .ensures) (sym (l .low-of .ensures) ∙ ap lowPaper (c .enum-told2 .given .1)) (s .pre .1))
 
 returns-2 : tie.Need-returns-2
 returns-2 c =
     let d = c .before .before .before .before in
-    let u = d .before .before .before in
-    let b = u .before .before in
+    let m = d .before .before .before in
+    let u = m .before .before in
+    let b = u .before in
     let r = b .before .before .before .before in
     let a = r .before .before .before .before .before .before .args in
     let act = sourceAct (a .s) (a .source) (a .values .now) (a .there .now) in
-    let after = bin-after act (a .cells .now) (a .i) _ _ _ _ (u .before .side-of .ensures) (r .reach-at .ensures) (b .cell-at .ensures) (u .cut-cell .ensures) in
-    listed-as (actCell act) (a .cells .now) (a .i) _ _ _ _ (b .cell-at .ensures) after (d .list-change .ensures)
+    let after = bin-after act (a .cells .now) (a .i) Outer _ _ _ (sym (m .enum-told3 .given .1) ∙ u .side-of .ensures) (r .write-reach .ensures) (b .cell-at .ensures) refl in
+    listed-as (actCell act) (a .cells .now) (a .i) _ _ _ _ (b .cell-at .ensures) after (d .put-outer .ensures)
+
+returns-3 : tie.Need-returns-3
+returns-3 c =
+    let d = c .before .before .before .before in
+    let m = d .before .before .before in
+    let u = m .before .before in
+    let b = u .before in
+    let r = b .before .before .before .before in
+    let a = r .before .before .before .before .before .before .args in
+    let act = sourceAct (a .s) (a .source) (a .values .now) (a .there .now) in
+    let after = bin-after act (a .cells .now) (a .i) Inner _ _ _ (sym (m .enum-told4 .given .1) ∙ u .side-of .ensures) (r .write-reach .ensures) (b .cell-at .ensures) refl in
+    listed-as (actCell act) (a .cells .now) (a .i) _ _ _ _ (b .cell-at .ensures) after (d .put-inner .ensures)
 
 pub write-bin-spec : {M : Type 1} → statement M
 write-bin-spec =
@@ -41,8 +54,13 @@ write-bin-spec =
     returns
     (λ c κs. search needs)
     (λ c κs. search needs)
+    (λ c. search needs)
     (λ c κs. search needs)
+    (λ c. search needs)
     (λ c κs. search needs)
     (λ c. search needs)
     (λ c. search needs)
-    returns-2)
+    returns-2
+    (λ c. search needs)
+    (λ c. search needs)
+    returns-3)

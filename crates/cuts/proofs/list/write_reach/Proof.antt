@@ -1,0 +1,22 @@
+-- `cuts::list::write_reach` meets its contract. Assumes nothing.
+use borrow.Author.Needs.{needs}
+use Rattle.floats.specs.Pick.{picks}
+use Rattle.cuts.specs.Source.{sourceReach}
+use Rattle.reach.specs.Reach.{reachPaper}
+use Rattle.cuts.proofs.list.write_reach.Statement.{statement}
+use Rattle.cuts.proofs.list.write_reach.Tie as tie
+
+pub write-reach-spec : {M : Type 1} → statement M
+unfolding sourceReach reachPaper
+write-reach-spec =
+    tie.close
+    (tie.spec
+    (λ c. search needs)
+    (λ c. search needs)
+    (λ c κs. search needs)
+    (λ c κs. search needs)
+    (λ c. search needs)
+    (λ c κs. search needs)
+    (λ c. search (picks, c .before .source .given .1))
+    (λ c. search (picks, c .drill-reach .ensures, c .before .bin-of .ensures, c .before .before .before .source2 .given .1))
+    (λ c. search (picks, c .row-reach .ensures, c .before .before .source3 .given .1)))
