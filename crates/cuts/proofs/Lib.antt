@@ -6,3 +6,4 @@ pub mod Crossings
 pub mod EachBin
 pub mod Spans
 pub mod Singles
+mod Drills

@@ -1,11 +1,12 @@
 -- Where the loop over the bins takes from what a cut reaches: from the numbers of a thread or a drill, or from rows that were filled before; and which bins it visits. Assumes nothing.
 use mathlib.Core.Path.{_≡_}
-use mathlib.Core.Bool.{Bool, true}
+use mathlib.Core.Bool.{Bool, true, _&&_}
 use mathlib.Core.List.{List}
 use Prim.Native.Nat.{ℕ}
 use lib.Dec.{leb, ltb}
-use lib.Ieee.{Float}
+use lib.Ieee.{Float, lt, le}
 use Rattle.floats.specs.Pick.{pick}
+use Rattle.floats.specs.Numbers.{zero64, usable}
 use Rattle.stock.specs.declared.TurnStockSpec.{TurnStockSpec}
 use Rattle.stock.specs.declared.TurnCell.{TurnCell}
 use Rattle.stock.specs.declared.TurnChange.{TurnChange}
@@ -25,6 +26,10 @@ unfoldable pub sourceSide : Source → TurnSide
 sourceSide (source.Thread side r) = side
 sourceSide (source.Drill tip r cone) = Inner
 sourceSide (source.Rows side) = side
+
+-- so far above its tip that its point is behind; there drillAt is the radius (proofs/Drills)
+abbrev pub isPast : Float → Float → Float → Bool
+isPast a r cone = usable a && usable r && usable cone && lt zero64 r && lt zero64 cone && le cone a
 
 -- what a drill reaches in a bin that does not end before its tip
 abbrev pub drillBoth : ZRange → Float → Float → Float → Reached

@@ -2,10 +2,23 @@
 ghost use mathlib.Core.Path.{_≡_};
 ghost use Rattle.reach.specs.Reach.{reachPaper};
 ghost use Rattle.cuts.specs.Source.{drillBoth};
+ghost use Rattle.cuts.specs.Source.{isPast};
 ghost use Rattle.cuts.specs.Cut.{drillAt, threadGood, drillGood, cutGood, cleanCut};
 use crate::Cut;
 use reach::Reach;
 use stock::ZRange;
+
+// So far above the tip the point is behind: worked out, its radius there is the drill's.
+fn is_past(above: f64, radius: f64, cone: f64) -> bool
+    ensures { λ r. ⌜ r ≡ isPast above radius cone ⌝ }
+{
+    floats::is_usable(above)
+        & floats::is_usable(radius)
+        & floats::is_usable(cone)
+        & (0.0 < radius)
+        & (0.0 < cone)
+        & (cone <= above)
+}
 
 // The drill's radius at z.
 fn drill_at(z: f64, tip: f64, radius: f64, cone: f64) -> f64
@@ -17,7 +30,11 @@ fn drill_at(z: f64, tip: f64, radius: f64, cone: f64) -> f64
     if cone <= 0.0 {
         return radius;
     }
-    floats::least(floats::greatest((z - tip) / cone * radius, 0.0), radius)
+    let above = z - tip;
+    if is_past(above, radius, cone) {
+        return radius;
+    }
+    floats::least(floats::greatest(above / cone * radius, 0.0), radius)
 }
 
 // What a drill reaches in a bin that does not end before its tip.

@@ -1,8 +1,8 @@
 -- The expressions of a cut: the share of a way that a point between its ends has gone, a value at that share, what a root is taken of, and a drill's radius in its cone.
 -- None is a NaN, and each is in its range. Assumes nothing.
-use mathlib.Core.Path.{_≡_, refl, sym, ap, subst}
+use mathlib.Core.Path.{_≡_, refl, sym, ap, subst, _∙_}
 use Prim.Native.Nat.{ℕ, zero, suc, _+_, _-_, _*_, _^_, _≤_, _<_, max, zero-le}
-use native.Mathlib.Nat.{le-trans, le-of-eq}
+use native.Mathlib.Nat.{le-trans, le-of-eq, one-mul}
 use native.Mathlib.Omega.{arith}
 use mathlib.Core.Bool.{Bool, true, false, not, cond}
 use lib.IntN.{pos}
@@ -11,14 +11,15 @@ use lib.Ieee.{Float, nan, inf, fin, Format, emax, low, up, down, unlike, round, 
 use lib.Ieee.Fits.{div-fits, sub-fits}
 use lib.Ieee.Scale.{finite}
 use Rattle.floats.specs.Pick.{pick}
-use Rattle.floats.specs.Numbers.{leastOf, greatestOf}
+use Rattle.floats.specs.Numbers.{leastOf, greatestOf, minusZero}
 use Rattle.floats.specs.Kinds.{Number, Plain, Finite, Within, Ratio}
 use Rattle.floats.proofs.Keys.{top, key, key-inf}
-use Rattle.floats.proofs.Order.{to-le, of-le, le-self, lt→le, nlt→le, lt-asym, le-both}
-use Rattle.floats.proofs.Lattice.{greatest-ge-r, greatest-number, least-number, greatest-plain, least-plain, least-le-r, least-ge, least-mono, greatest-mono}
-use Rattle.floats.proofs.Exact.{zero-key, plain-zero}
+use Rattle.floats.proofs.Order.{to-le, of-le, le-self, lt→le, nlt→le, lt-asym, le-both, lt-le-trans, le-antisym}
+use Rattle.floats.proofs.Order.{le-trans as le-through}
+use Rattle.floats.proofs.Lattice.{greatest-ge-l, greatest-ge-r, greatest-number, least-number, greatest-plain, least-plain, least-le-r, least-ge, least-mono, greatest-mono}
+use Rattle.floats.proofs.Exact.{zero-key, plain-zero, round-held}
 use Rattle.floats.proofs.Rounded.{snap, rounded-le}
-use Rattle.floats.proofs.Signed.{number-finite, key-le, neg-finite, key-neg, sub-number, key-sub, sub-mono, sub-nonneg, sub-positive, div-number, div-nonneg, div-le-one, mul-mono, div-mono, no-size, mul-number, size-of-positive, of-nonneg, to-nonneg, of-positive, to-positive, number-zero, zero+}
+use Rattle.floats.proofs.Signed.{number-finite, key-le, neg-finite, key-neg, sub-number, key-sub, sub-mono, sub-nonneg, sub-positive, div-number, div-nonneg, div-le-one, div-ge-one, one+, number-one, mul-mono, div-mono, no-size, mul-number, size-of-positive, of-nonneg, to-nonneg, of-positive, to-positive, number-zero, zero+}
 use Rattle.floats.proofs.Zeros.{mul-plain, div-plain}
 use Rattle.floats.proofs.Within.{finite-within, number-within, finite-between, within-between, within-weaken, within-zero, within-one, within-greatest, add-within, sub-within, within-mul}
 
@@ -182,6 +183,24 @@ mul-plain-up {f} {x} {z} u v r h k = go x u h
 unfoldable pub coneOf : Format → Float → Float → Float → Float
 coneOf f a c r = leastOf (greatestOf (mul f (div f a c) r) zero+) r
 
+-- 1.0 times a number is the number
+like : (s : Bool) → unlike false s ≡ s
+like true = refl
+like false = refl
+
+one-times : (f : Format) (r : Float) → Finite f r → mul f one+ r ≡ r
+unfolding mul
+one-times f nan R = absurd (R .finite)
+one-times f (inf s) R = absurd (R .finite)
+one-times f (fin s m e) R = ap (λ (a : ℕ). round f (unlike false s) a (1 * down e)) (one-mul (m * up e)) ∙ ap (λ (b : ℕ). round f (unlike false s) (m * up e) b) (one-mul (down e)) ∙ ap (λ (t : Bool). round f t (m * up e) (down e)) (like s) ∙ round-held f s m e (R .held)
+
+-- what is above zero is not -0.0
+pub plain-positive : (f : Format) (x : Float) → Finite f x → T (lt zero+ x) → Plain f x
+plain-positive f nan F h = absurd (F .finite)
+plain-positive f (inf s) F h = absurd (F .finite)
+plain-positive f (fin s zero e) F h = absurd (no-size f s e (F .held) (size-of-positive F h))
+plain-positive f (fin s (suc m) e) F h = record { held = F .held; number = unfold isNan in tt; unsigned = unfold minusZero in tt }
+
 module _ {f : Format} {c r : Float} (C : Finite f c) (c+ : T (lt zero+ c)) (R : Finite f r) (r+ : T (lt zero+ r)) where
   wide : {a : Float} → Finite f a → Number f (mul f (div f a c) r)
   wide A = mul-number-up (div-number A C (size-of-positive C c+)) R r+
@@ -219,3 +238,15 @@ module _ {f : Format} {c r : Float} (C : Finite f c) (c+ : T (lt zero+ c)) (R : 
       least-mono (lift A) (number-finite R) (lift B) (number-finite R)
       (greatest-mono (wide A) number-zero (wide B) number-zero (mul-mono-up (div-number A C n) (div-number B C n) R r+ (div-mono A B C c+ h)) (le-self (number-zero {f = f})))
       (le-self (number-finite R))
+
+  -- as far up as the cone is long it is the whole radius
+  pub cone-full : {a : Float} → Finite f a → T (le c a) → coneOf f a c r ≡ r
+  unfolding coneOf
+  cone-full {a} A h =
+      let n = size-of-positive C c+ in
+      let a+ : T (lt zero+ a) = lt-le-trans number-zero (number-finite C) (number-finite A) c+ h in
+      let u : Plain f r = plain-positive f r R r+ in
+      let big : T (le r (mul f (div f a c) r)) = subst (λ (x : Float). T (le x (mul f (div f a c) r))) (one-times f r R) (mul-mono-up number-one (div-number A C n) R r+ (div-ge-one A C c+ h)) in
+      let high : T (le r (greatestOf (mul f (div f a c) r) zero+)) = le-through (number-finite R) (wide A) (lift A) big (greatest-ge-l (wide A) number-zero) in
+      let low : T (le r (coneOf f a c r)) = least-ge (lift A) (number-finite R) (number-finite R) high (le-self (number-finite R)) in
+      le-antisym (cone-plain u (plain-positive f a A a+) A (lt→le number-zero (number-finite A) a+)) u (cone-high A) low

@@ -483,3 +483,21 @@ div-le-one {f} {x} {z} p r h k =
     within : (s : Bool) (a k : ℕ) → k ≤ offset (top f) s a → k - top f ≤ a
     within true a k h = omega arith
     within false a k h = omega arith
+
+-- ---- and by a lesser one 1.0 at least
+pub div-ge-one : {f : Format} {x z : Float} → Finite f x → Finite f z → T (lt zero+ z) → T (le z x) → T (le one+ (div f x z))
+div-ge-one {f} {x} {z} p r h k =
+    let n = size-of-positive r h in
+    let Z = mag f z in
+    let t : top f < key f x = lt-of-lt-of-le (of-positive (number-finite r) h) (of-le (number-finite r) (number-finite p) k) in
+    let a : Z ≤ key f x - top f = above (minus? z) Z (key f x) (lt-of-lt-of-le (of-positive (number-finite r) h) (le-of-eq (key-is f z))) (le-trans (le-of-eq (sym (key-is f z))) (of-le (number-finite r) (number-finite p) k)) in
+    let b : rounded f 1 1 ≤ rounded f (key f x - top f) Z = rounded-mono f 1 1 (key f x - top f) Z (pow-pos 0) n (le-trans (le-of-eq (one-mul Z)) (le-trans a (le-of-eq (sym (mul-one (key f x - top f)))))) in
+    let c : rounded f (top f - key f x) Z ≡ 0 = ap (λ (m : ℕ). rounded f m Z) (gone (top f) (key f x) t) ∙ rounded-zero f Z n in
+    to-le number-one (div-number p r n) (omega (arith, key-div-by p r h, one-key f, whole-one f))
+  where
+    above : (s : Bool) (a k : ℕ) → top f < offset (top f) s a → offset (top f) s a ≤ k → a ≤ k - top f
+    above true a k h g = omega arith
+    above false a k h g = omega arith
+
+    gone : (o k : ℕ) → o < k → o - k ≡ 0
+    gone o k h = omega arith
