@@ -3,6 +3,7 @@ pub mod Order
 pub mod Lattice
 pub mod Exact
 pub mod Cleared
+pub mod Signs
 pub mod Folds
 pub mod Mirror
 pub mod Rounded

@@ -16,7 +16,7 @@ use Rattle.numbers.specs.Root.{rootIn, rootOf}
 use Rattle.numbers.specs.RootBits.{sigOf, expOf}
 use Rattle.numbers.proofs.Pack.{read, ofBits-is}
 
-not-both : false ≡ true → ⊥
+pub not-both : false ≡ true → ⊥
 not-both e = subst T (sym e) tt
 
 zero-is : ofBits binary64 0 ≡ fin false 0 (pos 0)

@@ -1,5 +1,6 @@
 pub mod Roots
 pub mod Turn
+pub mod Settle
 pub mod Pack
 pub mod Shift
 pub mod Answer

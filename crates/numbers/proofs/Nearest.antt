@@ -210,8 +210,8 @@ module _ (b : ℕ) (p : 0 < b) (l : b < 2047 * 2 ^ 52) where
 
   bits-fits : T (fits binary64 (rootIn (sigOf b * 2 ^ expOf b)))
   bits-fits =
-      let w = pattern b (expOf b) z p l refl (shift-in .0) (shift-in .1) (shift-in .2) (nearestRoot (shifted b (expOf b) z % 2 ^ 64 * 2 ^ 52)) refl in
-      subst (λ (x : Float). T (fits binary64 x)) (w .value) (ofBits-fits binary64 (half (expOf b) z * 2 ^ 52 + nearestRoot (shifted b (expOf b) z % 2 ^ 64 * 2 ^ 52)))
+      let w = pattern b (expOf b) z p l refl (shift-in .0) (shift-in .1) (shift-in .2) (nearestRoot (shifted b (expOf b) z * 2 ^ 52)) refl in
+      subst (λ (x : Float). T (fits binary64 x)) (w .value) (ofBits-fits binary64 (half (expOf b) z * 2 ^ 52 + nearestRoot (shifted b (expOf b) z * 2 ^ 52)))
 
 -- ---- the laws, for x = (m + 1) * 2 ^ e, any finite value of binary64 above 0
 

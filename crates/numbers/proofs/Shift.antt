@@ -1,16 +1,16 @@
--- The shift that brings a number to 53 binary digits, and what `root_bits` makes with it. Assumes nothing.
+-- The shift that brings a number to 53 binary digits, and what `aligned_root` and `root_bits` make with it. Assumes nothing.
 use mathlib.Core.Path.{_≡_, refl, sym, ap, ap₂, _∙_, subst}
 use mathlib.Core.Logic.{_⊎_, inl, inr}
-use mathlib.Core.Bool.{Bool, true, false, not, cond}
+use mathlib.Core.Bool.{Bool, true, false, cond}
 use Prim.Native.Nat.{ℕ, zero, suc, _+_, _-_, _*_, _/_, _%_, _^_, _≤_, _<_}
 use native.Mathlib.Nat.{le-trans, le-of-eq, lt-of-lt-of-le, lt-of-le-of-lt, lt-of-not-le, not-le-of-lt, mul-le-mul-right, mul-assoc, mul-one, mod-eq-of-lt, mod-lt, zero-lt-suc}
 use native.Mathlib.Omega.{arith}
 use lib.Dec.{T, ltb, ltb→lt, lit<, lit≤}
 use lib.Pow.{pow-add, pow-mono, shl-lt}
 use lib.Count.{leadingZeros, leading-top}
-use lib.Ieee.{binary64, odd, ofBits, nanBits}
+use lib.Ieee.{odd}
 use Rattle.numbers.specs.Root.{wholeRoot, rootIn}
-use Rattle.numbers.specs.RootBits.{nearestRoot, sigOf, expOf, Pattern}
+use Rattle.numbers.specs.RootBits.{nearestRoot, digitsOf, alignedRoot, sigOf, expOf, Pattern}
 use Rattle.numbers.proofs.Roots.{sq-le}
 use Rattle.numbers.proofs.Pack.{root-low, root-high, rootIn-is, read, no-nan}
 
@@ -78,13 +78,6 @@ module _ (b k z : ℕ) (pos : 0 < b) (fin : b < 2047 * 2 ^ 52) (ek : k ≡ expOf
         | inr f ↦ (omega arith, omega arith)
       ]
 
-  -- the machine's shift loses nothing
-  pub whole : (shifted b k z) % 2 ^ 64 ≡ (shifted b k z)
-  whole = mod-eq-of-lt (lt-of-le-of-lt (shifted-in .1) (lit< tt))
-
-  pub asked : (shifted b k z) % 2 ^ 64 < 2 ^ 54
-  asked = rw whole (lt-of-le-of-lt (shifted-in .1) (lit< tt))
-
   pub n-low : 2 ^ 104 ≤ ((shifted b k z) * 2 ^ 52)
   n-low = omega (arith, shifted-in)
 
@@ -102,12 +95,9 @@ module _ (b k z : ℕ) (pos : 0 < b) (fin : b < 2047 * 2 ^ 52) (ek : k ≡ expOf
       exponents : k + 1074 ≡ (places k z) + 52 + ((half k z) + (half k z))
       exponents = omega arith
 
-  module _ (r : ℕ) (er : r ≡ nearestRoot ((shifted b k z) % 2 ^ 64 * 2 ^ 52)) where
-    er′ : r ≡ nearestRoot ((shifted b k z) * 2 ^ 52)
-    er′ = rw whole at er
-
+  module _ (r : ℕ) (er : r ≡ nearestRoot (shifted b k z * 2 ^ 52)) where
     r-in : (2 ^ 52 ≤ r) × (r < 2 ^ 53)
-    r-in = rw er′ (near ((shifted b k z) * 2 ^ 52) n-low n-high)
+    r-in = rw er (near ((shifted b k z) * 2 ^ 52) n-low n-high)
 
     pub pattern-lt : (half k z) * 2 ^ 52 + r < 2047 * 2 ^ 52
     pattern-lt = omega (arith, r-in)
@@ -118,7 +108,7 @@ module _ (b k z : ℕ) (pos : 0 < b) (fin : b < 2047 * 2 ^ 52) (ek : k ≡ expOf
       value =
           read ((half k z) * 2 ^ 52 + r) pattern-lt
           ∙ ap₂ (λ (x y : ℕ). odd 53 false x y 1074) sig exp
-          ∙ ap (λ (x : ℕ). odd 53 false x (half k z) 1074) er′
+          ∙ ap (λ (x : ℕ). odd 53 false x (half k z) 1074) er
           ∙ sym (rootIn-is ((shifted b k z) * 2 ^ 52) n-low (lt-of-le-of-lt n-high (lit< tt)) ((b - k * 2 ^ 52) * 2 ^ k) (half k z) units)
           ∙ ap (λ (x : ℕ). rootIn ((b - x * 2 ^ 52) * 2 ^ x)) ek;
     }
@@ -128,3 +118,50 @@ module _ (b k z : ℕ) (pos : 0 < b) (fin : b < 2047 * 2 ^ 52) (ek : k ≡ expOf
 
         sig : sigOf ((half k z) * 2 ^ 52 + r) ≡ r
         sig = omega (arith, r-in, exp)
+
+-- ---- the digits of t
+
+module _ (t : ℕ) where
+  digits-in : (2 ^ 52 ≤ digitsOf t) × (digitsOf t ≤ 2 ^ 54 - 2)
+  digits-in = elim (bit (t % 2 ^ 52 + 2 ^ 52) (t / 2 ^ 52 % 2) (mod-lt (t / 2 ^ 52) (zero-lt-suc 1))) [
+    | inl f ↦ (omega arith, omega arith)
+    | inr f ↦ (omega arith, omega arith)
+  ]
+
+  -- the machine's shift loses nothing
+  pub whole : digitsOf t % 2 ^ 64 ≡ digitsOf t
+  whole = mod-eq-of-lt (lt-of-le-of-lt (digits-in .1) (lit< tt))
+
+  pub asked : digitsOf t % 2 ^ 64 < 2 ^ 54
+  asked = rw whole (lt-of-le-of-lt (digits-in .1) (lit< tt))
+
+  -- their root has 53 digits
+  pub root-in : nearestRoot (digitsOf t * 2 ^ 52) < 2 ^ 53
+  root-in = near (digitsOf t * 2 ^ 52) (omega (arith, digits-in)) (omega (arith, digits-in)) .1
+
+-- ---- t is b, its significand shifted by z, with 1021 added to the exponent's field
+
+module _ (b t z : ℕ) (pos : 0 < b) (fin : b < 2047 * 2 ^ 52) (little : z ≤ 52) (digits : t % 2 ^ 52 + 2 ^ 52 ≡ sigOf b * 2 ^ z) (exponent : t / 2 ^ 52 ≡ expOf b + 1022 - z) where
+  same : digitsOf t ≡ shifted b (expOf b) z
+  same =
+      let o = (expOf b + 1022 - z) % 2 in
+      ap₂ (λ (x y : ℕ). x * 2 ^ (y % 2)) digits exponent
+      ∙ mul-assoc (sigOf b) (2 ^ z) (2 ^ o)
+      ∙ ap (λ (x : ℕ). sigOf b * x) (sym (pow-add 2 z o))
+
+  halves : t / 2 ^ 53 ≡ half (expOf b) z
+  halves = omega (arith, exponent)
+
+  pub aligned-pattern : Pattern b (alignedRoot t)
+  aligned-pattern =
+      subst (Pattern b) (ap₂ (λ (x y : ℕ). x * 2 ^ 52 + nearestRoot (y * 2 ^ 52)) (sym halves) (sym same))
+      (pattern b (expOf b) z pos fin refl little (omega (arith, digits)) (omega (arith, digits)) (nearestRoot (shifted b (expOf b) z * 2 ^ 52)) refl)
+
+pub pattern-full : (b : ℕ) → b < 2047 * 2 ^ 52 → 2 ^ 52 ≤ b → Pattern b (alignedRoot (b + 1021 * 2 ^ 52))
+pattern-full b h l = aligned-pattern b (b + 1021 * 2 ^ 52) 0 (omega arith) h (omega arith) (omega arith) (omega arith)
+
+pub pattern-least : (b z : ℕ) → 0 < b → b < 2 ^ 52 → z ≤ 52 → 2 ^ 52 ≤ b * 2 ^ z → b * 2 ^ z < 2 ^ 53 → Pattern b (alignedRoot (b * 2 ^ z % 2 ^ 64 + (1021 - z) * 2 ^ 52))
+pattern-least b z p h ez lo hi =
+    let s : sigOf b ≡ b = omega arith in
+    let d : sigOf b * 2 ^ z ≡ b * 2 ^ z = ap (λ (x : ℕ). x * 2 ^ z) s in
+    aligned-pattern b (b * 2 ^ z % 2 ^ 64 + (1021 - z) * 2 ^ 52) z p (omega arith) ez (omega arith) (omega arith)

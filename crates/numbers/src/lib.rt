@@ -1,12 +1,14 @@
 // Root, length, whole part: what the Rust takes from the C library, worked out here.
 //
-// The root is decided over whole numbers: the bits of x give a whole number whose root is taken one
-// binary digit at a time, and what is left says whether the next value up is nearer. Its definition
-// speaks of squares of whole numbers alone, and of all values of f64 the answer is the nearest one.
+// The root is decided over whole numbers. Floats guess it, and nothing is promised of the guess: a
+// test over whole numbers says whether it is the nearest. Where the test does not say so, the root is
+// taken one binary digit at a time. Its definition speaks of squares of whole numbers alone, and of
+// all values of f64 the answer is the nearest one.
 ghost use mathlib.Core.Path.{_≡_};
 ghost use Prim.Native.Nat.{_*_, _^_, _<_, _≤_};
+ghost use mathlib.Core.Bool.{true};
 ghost use Rattle.numbers.specs.Root.{rootOf, rootedPaper};
-ghost use Rattle.numbers.specs.RootBits.{nearestRoot, expOf, Pattern};
+ghost use Rattle.numbers.specs.RootBits.{nearestRoot, alignedRoot, Pattern};
 ghost use Rattle.numbers.specs.Length.{lengthOf};
 ghost use Rattle.numbers.specs.Whole.{wholePart, wholeUp, wholePaper};
 use refusals::Refusal;
@@ -25,7 +27,7 @@ pub enum Whole {
 
 // The whole number nearest to the square root of m * 2^52, one binary digit at a time: `rem` is
 // what the square of `r` leaves of the digits of m that were taken, two at a time.
-fn nearest_root(m: u64) -> u64
+fn by_digits(m: u64) -> u64
     requires { ⌜ m < 2 ^ 54 ⌝ }
     ensures { λ r. ⌜ r ≡ nearestRoot (m * 2 ^ 52) ⌝ }
 {
@@ -46,12 +48,64 @@ fn nearest_root(m: u64) -> u64
     if r < rem { r + 1 } else { r }
 }
 
-// The exponent of the number above zero that b is the pattern of, counted from the least.
-fn exponent(b: u64) -> u64
-    ensures { λ r. ⌜ r ≡ expOf b ⌝ }
+// Whether u is the whole number nearest to the square root of m * 2^52, asked quickly: `false` says
+// nothing. Were there no wrapping, u * (u + 1) - m * 2^52 would be e * 2^26 and less than 2^26 more.
+fn is_nearest(m: u64, u: u64) -> bool
+    requires { ⌜ (m < 2 ^ 54) × (u ≤ 2 ^ 53) ⌝ }
+    ensures { λ r. ⌜ (r ≡ true → u ≡ nearestRoot (m * 2 ^ 52)) ⌝ }
 {
-    let k = b / 0x10_0000_0000_0000;
-    if k == 0 { 0 } else { k - 1 }
+    let h = u / 0x400_0000;
+    let l = u % 0x400_0000;
+    let d = std::num::wrapping_sub_u64(m, h * h);
+    if d < 0x2000_0000 {
+        let e = std::num::wrapping_sub_u64(
+            h * (2 * l + 1) + l * (l + 1) / 0x400_0000,
+            d * 0x400_0000,
+        );
+        return e < 2 * h;
+    }
+    false
+}
+
+// About the root of f, which is from 1 to 4: nearly always the float nearest to it. Nothing is
+// promised. A polynomial gives s, with 12 digits right; 3 * 2^26 is added to it and taken off, so
+// that s has 26 digits and its square is exact. One step of the fifth order gives the rest.
+fn guess(f: f64) -> f64 {
+    let f2 = f * f;
+    let a = (201326592.38090513 + f * 0.7731451153656295)
+        + f2 * ((f * 0.03321394069862195 - 0.18448207977408917) - f2 * 0.002531119174832449);
+    let s = a - 201326592.0;
+    let q = s * s;
+    let p = f + q;
+    s + ((s * 0.8) * (f - q)) * p / (p * p - f2 * 0.8)
+}
+
+// The whole number nearest to the square root of m * 2^52, where p is the pattern of about m / 2^52.
+fn nearest_root(m: u64, p: u64) -> u64
+    requires { ⌜ (m < 2 ^ 54) × (p < 2047 * 2 ^ 52) ⌝ }
+    ensures { λ r. ⌜ r ≡ nearestRoot (m * 2 ^ 52) ⌝ }
+{
+    let s = guess(f64::from_bits(p));
+    if s < 2.0 {
+        let u = f64::to_bits(s) % 0x10_0000_0000_0000 + 0x10_0000_0000_0000;
+        if is_nearest(m, u) {
+            return u;
+        }
+    }
+    by_digits(m)
+}
+
+// The pattern of a root. t is the pattern of what it is the root of, with 1021 added to the exponent's
+// field: half of the field is the root's, and where it is odd, the digits are doubled first.
+fn aligned_root(t: u64) -> u64
+    ensures { λ r. ⌜ r ≡ alignedRoot t ⌝ }
+{
+    let full = t % 0x10_0000_0000_0000 + 0x10_0000_0000_0000;
+    let r = nearest_root(
+        full << (t / 0x10_0000_0000_0000 % 2),
+        t % 0x20_0000_0000_0000 + 1023 * 0x10_0000_0000_0000,
+    );
+    t / 0x20_0000_0000_0000 * 0x10_0000_0000_0000 + r
 }
 
 // The shift that brings m to 53 binary digits.
@@ -62,18 +116,17 @@ fn full_shift(m: u64) -> u64
     (u64::leading_zeros(m) - 11) as u64
 }
 
-// The pattern of the root of what b is the pattern of. With m brought to 53 digits the exponent is
-// made even, and half of it is the root's.
+// The pattern of the root of what b is the pattern of. A number too small for 53 binary digits is
+// given them, as if the exponent's field went on below 1.
 fn root_bits(b: u64) -> u64
     requires { ⌜ (0 < b) × (b < 2047 * 2 ^ 52) ⌝ }
     ensures { λ r. ⌜ Pattern b r ⌝ }
 {
-    let k = exponent(b);
-    let m = b - k * 0x10_0000_0000_0000;
-    let z = full_shift(m);
-    let u = k + 1022 - z;
-    let r = nearest_root(m << (z + u % 2));
-    u / 2 * 0x10_0000_0000_0000 + r
+    if 0x10_0000_0000_0000 <= b {
+        return aligned_root(b + 1021 * 0x10_0000_0000_0000);
+    }
+    let z = full_shift(b);
+    aligned_root((b << z) + (1021 - z) * 0x10_0000_0000_0000)
 }
 
 // The value nearest to the square root of x. Of zero it is +0.0, also of -0.0. What is negative,

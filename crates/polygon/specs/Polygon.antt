@@ -50,9 +50,13 @@ pointAt ps side i = record { z = heightAt ps i; r = flipped side (cleanOf (numbe
 unfoldable pub alongOf : Point → Point → Float → Float
 alongOf p q z = pick (eq (q .z) (p .z)) (leastOf (p .r) (q .r)) (p .r +₆₄ (z -₆₄ p .z) /₆₄ (q .z -₆₄ p .z) *₆₄ (q .r -₆₄ p .r))
 
+-- z lies beside an edge from one height to another
+abbrev pub besideOf : Float → Float → Float → Bool
+besideOf a b z = lt z (leastOf a b) || lt (greatestOf a b) z
+
 -- the radius of the edge from p to q at z; none beside it
 unfoldable pub edgeAt : Point → Point → Float → Option Float
-edgeAt p q z = pick (lt z (leastOf (p .z) (q .z)) || lt (greatestOf (p .z) (q .z)) z) none (some (alongOf p q z))
+edgeAt p q z = pick (besideOf (p .z) (q .z) z) none (some (alongOf p q z))
 
 -- the lowest at z of the first k edges of n points: edge i goes from point i to the next, the last back to point 0
 unfoldable pub lowestTo : List Float → TurnSide → ℕ → Float → ℕ → Option Float

@@ -8,8 +8,8 @@
 ghost use mathlib.Core.Path.{_≡_};
 ghost use Prim.Native.Nat.{_+_, _*_, _≤_};
 ghost use lib.ListN.{length};
-ghost use Rattle.reach.specs.Low.{lowPaper};
-ghost use Rattle.polygon.specs.Polygon.{heightAt, pointAt, edgeAt, lowestOf, extentOf, extentPaper, lowsFrom, highFrom, Sweeps, pastOf, binsOf, usableTo, polygonGood};
+ghost use Rattle.reach.specs.Low.{lowPaper, lowerOf};
+ghost use Rattle.polygon.specs.Polygon.{heightAt, pointAt, besideOf, edgeAt, lowestOf, extentOf, extentPaper, lowsFrom, highFrom, Sweeps, pastOf, binsOf, usableTo, polygonGood};
 use reach::Low;
 use reach::Swept;
 use refusals::POINT_LIMIT;
@@ -55,11 +55,18 @@ fn point_at(points: &[f64], side: TurnSide, i: usize) -> Point
     Point { z, r }
 }
 
+// z lies beside an edge from one height to another.
+fn is_beside(a: f64, b: f64, z: f64) -> bool
+    ensures { λ r. ⌜ r ≡ besideOf a b z ⌝ }
+{
+    (z < floats::least(a, b)) | (floats::greatest(a, b) < z)
+}
+
 // The radius of the edge from p to q at z, if z is not beside it.
 fn edge_at(p: Point, q: Point, z: f64) -> Low
     ensures { λ r. ⌜ lowPaper r ≡ edgeAt p q z ⌝ }
 {
-    if (z < floats::least(p.z, q.z)) | (floats::greatest(p.z, q.z) < z) {
+    if is_beside(p.z, q.z, z) {
         return Low::Nowhere;
     }
     if q.z == p.z {
@@ -69,7 +76,17 @@ fn edge_at(p: Point, q: Point, z: f64) -> Low
     Low::At(p.r + share * (q.r - p.r))
 }
 
-// The lowest radius at z over all edges.
+// The lower of a start and the edge from point i to point j at z.
+fn lower_at(points: &[f64], side: TurnSide, i: usize, j: usize, z: f64, start: Low) -> Low
+    requires { ⌜ (2 * i + 2 ≤ length (now points)) × (2 * j + 2 ≤ length (now points)) ⌝ }
+    ensures { λ r. ⌜ lowPaper r ≡ lowerOf (lowPaper start) (edgeAt (pointAt (now (points .entry)) side i) (pointAt (now (points .entry)) side j) z) ⌝ }
+{
+    let p = point_at(points, side, i);
+    let q = point_at(points, side, j);
+    reach::lower(start, edge_at(p, q, z))
+}
+
+// The lowest radius at z over all edges. Of an edge that z lies beside only the heights are read.
 pub fn lowest(points: &[f64], side: TurnSide, z: f64) -> Low
     ensures { λ r. ⌜ lowPaper r ≡ lowestOf (now (points .entry)) side z ⌝ }
 {
@@ -78,18 +95,19 @@ pub fn lowest(points: &[f64], side: TurnSide, z: f64) -> Low
         return Low::Nowhere;
     }
     let at = floats::clean(z);
-    let first = point_at(points, side, 0);
     let last = n - 1;
-    let mut p = first;
+    let mut a = height_at(points, 0);
     let mut low = Low::Nowhere;
     let mut i: usize = 0;
     while i < last {
+        let b = height_at(points, i + 1);
+        if !is_beside(a, b, at) {
+            low = lower_at(points, side, i, i + 1, at, low);
+        }
+        a = b;
         i += 1;
-        let q = point_at(points, side, i);
-        low = reach::lower(low, edge_at(p, q, at));
-        p = q;
     }
-    reach::lower(low, edge_at(p, first, at))
+    lower_at(points, side, i, 0, at, low)
 }
 
 // The least and the greatest z.

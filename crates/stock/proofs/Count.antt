@@ -5,12 +5,13 @@ use mathlib.Core.Option.{Option, none, some}
 use Prim.Native.Nat.{ℕ, zero, suc, _+_, _*_, _≤_, _<_}
 use native.Mathlib.Omega.{arith}
 use lib.Dec.{eqb, leb}
-use lib.Ieee.{Float}
+use lib.Ieee.{Float, lt, le}
 use mathlib.Core.List.{List}
 use lib.ListN.{length}
 use borrow.Author.Tests.{leb-true, eqb-true}
 use Rattle.refusals.specs.Paper.{Paper, answers, refuses, demand, onward, onward-answers}
 use Rattle.refusals.specs.Limits.{cellLimit}
+use Rattle.floats.specs.Numbers.{zero64, usable}
 use Rattle.numbers.specs.Whole.{wholeUp}
 use Rattle.numbers.proofs.Wholes.{up-most}
 use Rattle.stock.specs.declared.TurnStockSpec.{TurnStockSpec}
@@ -61,6 +62,25 @@ checked spec n h =
         let b = and-both (not (eqb m 0)) (leb m (spec .«max_cells»)) (d .0) in
         let s : m ≡ n = same-answer (d .1) in
         subst (λ (i : ℕ). Checked spec i) s (record { good = g; some-cells = not-zero m (b .0); few = up-most (quotient (cleanSpec spec)) cellLimit m e; most = leb-true m (spec .«max_cells») (b .1) })
+
+seventh : (a b c d e f g h i : Bool) → (a && b && c && d && e && f && g && h && i) ≡ true → g ≡ true
+seventh a b c d e f g h i t = and-both (a && b && c && d && e && f) g (and-both (a && b && c && d && e && f && g) h (and-both (a && b && c && d && e && f && g && h) i t .0) .0) .1
+
+-- the bore is not below zero
+pub good-bore : (s : TurnStockSpec) → specGood s ≡ true → le zero64 (s .«bore_radius_mm») ≡ true
+unfolding specGood
+good-bore s t =
+    seventh
+    (usable (s .«z_min_mm»))
+    (usable (s .«z_max_mm»))
+    (usable (s .«outer_radius_mm»))
+    (usable (s .«bore_radius_mm»))
+    (usable (s .«cell_mm»))
+    (lt (s .«z_min_mm») (s .«z_max_mm»))
+    (le zero64 (s .«bore_radius_mm»))
+    (lt (s .«bore_radius_mm») (s .«outer_radius_mm»))
+    (lt zero64 (s .«cell_mm»))
+    t
 
 -- ---- a stock that is not refused
 pub stock-is : (spec : TurnStockSpec) (cs : List Float) (n : ℕ) → cellsOf spec ≡ answers n → stockOf spec cs ≡ demand (cellsFit (cleanSpec spec) cs n) 3 (answers n)

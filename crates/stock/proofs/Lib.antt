@@ -5,3 +5,4 @@ pub mod Bins
 pub mod Stored
 pub mod EachFits
 pub mod SameCells
+pub mod Passes

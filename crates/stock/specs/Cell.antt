@@ -55,6 +55,12 @@ pairFits s b =
     le (s .«bore_radius_mm») (b .«lower_mm») && le (b .«lower_mm») (b .«upper_mm») && le (b .«upper_mm») (s .«outer_radius_mm»)
     && not (minusZero (b .«lower_mm»)) && not (minusZero (b .«upper_mm»))
 
+-- the comparisons of both pairs
+unfoldable pub between : TurnStockSpec → TurnCell → Bool
+between s c =
+    le (s .«bore_radius_mm») (c .outer .«lower_mm») && le (c .outer .«lower_mm») (c .outer .«upper_mm») && le (c .outer .«upper_mm») (s .«outer_radius_mm»)
+    && le (s .«bore_radius_mm») (c .inner .«lower_mm») && le (c .inner .«lower_mm») (c .inner .«upper_mm») && le (c .inner .«upper_mm») (s .«outer_radius_mm»)
+
 unfoldable pub cellFits : TurnStockSpec → TurnCell → Bool
 cellFits s c = pairFits s (c .outer) && pairFits s (c .inner)
 

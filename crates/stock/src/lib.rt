@@ -5,10 +5,13 @@
 // bore and outer surface, and cuts only take from it. Cells are lent flat, four numbers a bin.
 ghost use mathlib.Core.Path.{_≡_};
 ghost use Prim.Native.Nat.{_+_, _*_, _≤_};
+ghost use mathlib.Core.Bool.{true};
 ghost use lib.ListN.{length};
+ghost use lib.Ieee.{le};
+ghost use Rattle.floats.specs.Numbers.{zero64, minusZero};
 ghost use Rattle.stock.specs.Spec.{cleanSpec, specGood, cellsOf, countedPaper};
 ghost use Rattle.stock.specs.Bin.{binOf, binFor, binnedPaper};
-ghost use Rattle.stock.specs.Cell.{cellAt, cellFrom, noCell, numberAt, fourOf, cellFits, pairFits, sameCell, fitTo, stockOf, putCell, Filled, freshCell, cellsLike};
+ghost use Rattle.stock.specs.Cell.{cellAt, cellFrom, noCell, numberAt, fourOf, cellFits, pairFits, between, sameCell, fitTo, stockOf, putCell, Filled, freshCell, cellsLike};
 use refusals::CELL_LIMIT;
 use refusals::Refusal;
 
@@ -240,15 +243,50 @@ pub fn cell_fits(s: TurnStockSpec, c: TurnCell) -> bool
     pair_fits(s, c.outer) & pair_fits(s, c.inner)
 }
 
+// The four bounds within bore..outer and ordered, whatever the sign of a zero.
+fn is_between(s: TurnStockSpec, c: TurnCell) -> bool
+    ensures { λ r. ⌜ r ≡ between s c ⌝ }
+{
+    (s.bore_radius_mm <= c.outer.lower_mm)
+        & (c.outer.lower_mm <= c.outer.upper_mm)
+        & (c.outer.upper_mm <= s.outer_radius_mm)
+        & (s.bore_radius_mm <= c.inner.lower_mm)
+        & (c.inner.lower_mm <= c.inner.upper_mm)
+        & (c.inner.upper_mm <= s.outer_radius_mm)
+}
+
+// x, which is not below zero, is -0.0: no other has the sign's bit.
+fn has_sign(x: f64) -> bool
+    requires { ⌜ le zero64 x ≡ true ⌝ }
+    ensures { λ r. ⌜ r ≡ minusZero x ⌝ }
+{
+    0x8000_0000_0000_0000 <= f64::to_bits(x)
+}
+
+// The same as `cell_fits` in a spec whose bore is not below zero: each zero is told by its sign, with
+// no branch but one, so that a pass over many cells takes several at once.
+fn cell_passes(s: TurnStockSpec, c: TurnCell) -> bool
+    requires { ⌜ le zero64 (s .«bore_radius_mm») ≡ true ⌝ }
+    ensures { λ r. ⌜ r ≡ cellFits s c ⌝ }
+{
+    if is_between(s, c) {
+        return !(has_sign(c.outer.lower_mm)
+            | has_sign(c.outer.upper_mm)
+            | has_sign(c.inner.lower_mm)
+            | has_sign(c.inner.upper_mm));
+    }
+    false
+}
+
 // The first n cells fit.
 fn all_fit(s: TurnStockSpec, cells: &[f64], n: usize) -> bool
-    requires { ⌜ 4 * n ≤ length (now cells) ⌝ }
+    requires { ⌜ (le zero64 (s .«bore_radius_mm») ≡ true) × (4 * n ≤ length (now cells)) ⌝ }
     ensures { λ r. ⌜ r ≡ fitTo s (now (cells .entry)) n ⌝ }
 {
     let mut ok = true;
     let mut i: usize = 0;
     while i < n {
-        ok = ok & cell_fits(s, cell_from(cells, 4 * i));
+        ok = ok & cell_passes(s, cell_from(cells, 4 * i));
         i += 1;
     }
     ok

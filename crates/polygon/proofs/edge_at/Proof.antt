@@ -11,8 +11,7 @@ edge-at-spec =
     tie.close
     (tie.spec
     (λ c κs. tt)
+    (λ c. search (picks, ← c .before .is-beside .ensures))
     (λ c κs. tt)
-    (λ c. search (picks, ← c .before .greatest .ensures, ← c .before .before .least .ensures))
-    (λ c κs. tt)
-    (λ c. search (picks, ← c .least2 .ensures, ← c .before .before .before .before .before .greatest .ensures, ← c .before .before .before .before .before .before .least .ensures))
-    (λ c. search (picks, ← c .before .before .before .before .before .before .before .before .before .before .greatest .ensures, ← c .before .before .before .before .before .before .before .before .before .before .before .least .ensures)))
+    (λ c. search (picks, ← c .least .ensures, ← c .before .before .before .before .before .is-beside .ensures))
+    (λ c. search (picks, ← c .before .before .before .before .before .before .before .before .before .before .is-beside .ensures)))

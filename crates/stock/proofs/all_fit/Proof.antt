@@ -19,7 +19,7 @@ unfolding fitTo
 loop-holds c = (search needs, refl)
 
 loop-again : tie.Need-loop-again Inv-loop μ-loop
-loop-again c = (search needs, simp (fit-more, c .cell-fits .ensures, c .before .cell-from .ensures, c .before .before .before .loop .inv .1))
+loop-again c = (search needs, simp (fit-more, c .cell-passes .ensures, c .before .cell-from .ensures, c .before .before .before .loop .inv .1))
 
 returns : tie.Need-returns Inv-loop μ-loop
 returns c =

@@ -6,7 +6,7 @@ use borrow.Author.Tests.{eq-eqb, ne-eqb}
 use Rattle.refusals.specs.Paper.{papers}
 use Rattle.stock.specs.Spec.{countedPaper}
 use Rattle.stock.specs.Cell.{stockOf, cellsFit}
-use Rattle.stock.proofs.Count.{checked}
+use Rattle.stock.proofs.Count.{checked, good-bore}
 use Rattle.stock.proofs.cells_fit.Statement.{statement}
 use Rattle.stock.proofs.cells_fit.Tie as tie
 
@@ -14,6 +14,11 @@ mul-if1 : tie.Need-mul-if1
 mul-if1 c =
     let b = c .before .before .before in
     omega (arith, checked _ _ (sym (b .validate .ensures) ∙ ap countedPaper (c .before .counted2 .given .1)) .few)
+
+all-fit-requires : tie.Need-all-fit-requires
+all-fit-requires c κs =
+    let b = c .before .before .before .before .before in
+    (rw (c .clean-spec .ensures) (good-bore _ (checked _ _ (sym (b .validate .ensures) ∙ ap countedPaper (c .before .before .before .counted2 .given .1)) .good)), search needs)
 
 returns : tie.Need-returns
 unfolding stockOf cellsFit
@@ -47,7 +52,7 @@ cells-fit-spec =
     mul-if1
     returns
     (λ c κs. search needs)
-    (λ c κs. search needs)
+    all-fit-requires
     returns-2
     returns-3
     returns-4)
