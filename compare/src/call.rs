@@ -1,7 +1,7 @@
 //! The inputs of a call of turning.h, and what an accepted call answers.
 
 /// A stock's spec.
-#[derive(Clone, Copy, Debug)]
+#[derive(Clone, Copy, Debug, PartialEq)]
 pub struct Spec {
     pub z_min: f64,
     pub z_max: f64,

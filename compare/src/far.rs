@@ -21,8 +21,8 @@ struct Kind {
 }
 
 const KINDS: [&str; 4] = [
-    "sum normal or no length, every number within 1,000 and no part tiny",
-    "sum normal or no length, other",
+    "sum normal, every number within 1,000, no part tiny (a shop's)",
+    "sum normal, other",
     "sum subnormal",
     "sum vanishes",
 ];
@@ -120,6 +120,18 @@ fn untouched(line: &Line) -> Vec<(usize, [f64; 4])> {
 }
 
 impl Kind {
+    fn merge(&mut self, other: &Kind) {
+        self.lines += other.lines;
+        self.lists += other.lists;
+        self.values += other.values;
+        self.differ += other.differ;
+        self.mm = self.mm.max(other.mm);
+        if other.ulps > self.ulps {
+            self.ulps = other.ulps;
+            self.farthest.clone_from(&other.farthest);
+        }
+    }
+
     fn take(&mut self, line: &Line) {
         let (ours, theirs) = (ruled(line), untouched(line));
         self.lines += 1;
@@ -151,27 +163,60 @@ impl Kind {
     }
 }
 
-/// Prints, for so many lines, how many values differ and by how much.
-pub fn far(count: usize, seed: u64) {
-    let mut rng = Rng::new(seed);
-    let mut kinds: [Kind; 4] = Default::default();
-    let mut left = count;
-    while left > 0 {
-        if let Some(line) = line(&mut rng) {
-            kinds[kind(line.a, line.b, line.rn)].take(&line);
-            left -= 1;
+/// Lines from a seed, and what was seen of them.
+#[derive(Default)]
+pub struct Far {
+    rng: Rng,
+    kinds: [Kind; 4],
+}
+
+impl Far {
+    pub fn new(seed: u64) -> Self {
+        Self {
+            rng: Rng::new(seed),
+            ..Self::default()
         }
     }
-    println!("| rounded squares | lines | lists that differ | values | differ | ulps | mm |");
-    println!("|---|---|---|---|---|---|---|");
-    for (name, k) in KINDS.iter().zip(&kinds) {
+
+    /// One more line.
+    pub fn take(&mut self) {
+        let line = loop {
+            if let Some(line) = line(&mut self.rng) {
+                break line;
+            }
+        };
+        self.kinds[kind(line.a, line.b, line.rn)].take(&line);
+    }
+
+    pub fn merge(&mut self, other: &Far) {
+        for (kind, more) in self.kinds.iter_mut().zip(&other.kinds) {
+            kind.merge(more);
+        }
+    }
+
+    /// How many values differ and by how much.
+    pub fn print(&self) {
         println!(
-            "| {name} | {} | {} | {} | {} | {} | {:e} |",
-            k.lines, k.lists, k.values, k.differ, k.ulps, k.mm
+            "| lines, by the rounded sum of the rounded squares | lines | lists that differ | values | differ | share | by at most, mm | by at most, ulps |"
         );
+        println!("|---|---|---|---|---|---|---|---|");
+        for (name, k) in KINDS.iter().zip(&self.kinds) {
+            let share = 100. * k.differ as f64 / k.values.max(1) as f64;
+            println!(
+                "| {name} | {} | {} | {} | {} | {share:.4} % | {:.1e} | {} |",
+                k.lines, k.lists, k.values, k.differ, k.mm, k.ulps
+            );
+        }
+        println!();
+        for (name, k) in KINDS.iter().zip(&self.kinds).filter(|(_, k)| k.ulps > 0) {
+            println!("- Most ulps, {name}: {}", k.farthest);
+        }
     }
-    println!();
-    for (name, k) in KINDS.iter().zip(&kinds) {
-        println!("farthest, {name}: {}", k.farthest);
-    }
+}
+
+/// Prints, for so many lines, how many values differ and by how much.
+pub fn far(count: usize, seed: u64) {
+    let mut far = Far::new(seed);
+    (0..count).for_each(|_| far.take());
+    far.print();
 }

@@ -1,7 +1,10 @@
 //! The job program over camlib's stock with 01's length, and jobs to hold a job program against it.
 use crate::call::{Answer, Call, Spec, Store};
+use crate::count::Counts;
 use crate::generate::Rng;
 use crate::oracle::{self, ARGUMENT, clean, stock};
+use crate::run::{SHOWN, Source};
+use crate::shrink::{Parts, Shrink, Way, runs, shrink};
 use length::turning::stock::{TurnSide, TurnStock, TurnStockSpec};
 use std::io::Write;
 use std::process::{Command, Stdio};
@@ -324,74 +327,145 @@ fn written(program: &[String], input: &[u8]) -> Vec<u8> {
     child.wait_with_output().unwrap().stdout
 }
 
-/// Runs so many jobs through the program; how many differ.
-pub fn compare(program: &[String], count: usize, seed: u64) -> usize {
-    let mut rng = Rng::new(seed);
-    let (mut differences, mut refused) = (0, [0_usize; 16]);
-    for _ in 0..count {
-        let input = job(&mut rng);
-        let expected = run(&input);
-        let found = written(program, &input);
-        let text = String::from_utf8_lossy(&expected);
-        let number = text
-            .strip_prefix("refused\t")
-            .and_then(|t| t.trim_end().rsplit('\t').next());
-        refused[number.map_or(0, |n| n.parse::<usize>().unwrap())] += 1;
-        if found != expected {
-            differences += 1;
-            if differences <= 3 {
-                println!("job {:?}", String::from_utf8_lossy(&input));
-                println!("expected {text:?}");
-                println!("found {:?}", String::from_utf8_lossy(&found));
-            }
-        }
-    }
-    print!("jobs: {count} run, {} accepted", refused[0]);
-    for (number, times) in refused.iter().enumerate().skip(1).filter(|(_, t)| **t > 0) {
-        print!(", {times} refused with {number}");
-    }
-    println!("\njobs: {differences} differences");
-    differences
+/// Jobs from a seed, through a program.
+pub struct Jobs {
+    program: Vec<String>,
+    rng: Rng,
 }
 
-/// A long job over 512 cells: the Rust's time and the program's, in milliseconds.
+impl Jobs {
+    pub fn new(program: &[String], seed: u64) -> Self {
+        Self {
+            program: program.to_vec(),
+            rng: Rng::new(seed),
+        }
+    }
+}
+
+impl Source for Jobs {
+    fn next(&mut self, counts: &mut Counts) {
+        let input = job(&mut self.rng);
+        let expected = run(&input);
+        let found = written(&self.program, &input);
+        if found != expected && counts.differ() < SHOWN {
+            let differs = |lines: &Lines| written(&self.program, &lines.0) != run(&lines.0);
+            let least = shrink(&Lines(input), differs).0;
+            let [job, expected, found] = [&least, &run(&least), &written(&self.program, &least)]
+                .map(|bytes| String::from_utf8_lossy(bytes).into_owned());
+            println!("job {job:?}\nexpected {expected:?}\nfound {found:?}");
+        }
+        counts.add("job", refusal(&expected), found == expected);
+    }
+}
+
+/// The number of a job's refusal, or 0.
+fn refusal(output: &[u8]) -> u32 {
+    let text = String::from_utf8_lossy(output);
+    let refused = text.strip_prefix("refused\t");
+    let number = refused.and_then(|t| t.trim_end().rsplit('\t').next());
+    number.map_or(0, |n| n.parse().unwrap())
+}
+
+/// A job's bytes, of which lines can be left out.
+#[derive(Clone)]
+struct Lines(Vec<u8>);
+
+impl Shrink for Lines {
+    fn parts(&mut self) -> Parts<'_> {
+        Parts::default()
+    }
+
+    fn ways(&self) -> Vec<Way<Self>> {
+        let count = self.0.split_inclusive(|b| *b == b'\n').count();
+        let without = |(start, size): (usize, usize)| -> Way<Self> {
+            Box::new(move |lines: &mut Lines| {
+                let all = lines.0.split_inclusive(|b| *b == b'\n').enumerate();
+                let kept = all.filter(|(k, _)| !(start..start + size).contains(k));
+                let kept: Vec<u8> = kept.flat_map(|(_, line)| line).copied().collect();
+                let fewer = kept.len() < lines.0.len();
+                lines.0 = kept;
+                fewer
+            })
+        };
+        runs(count).into_iter().map(without).collect()
+    }
+}
+
+/// Runs so many jobs through the program; how many differ.
+pub fn compare(program: &[String], count: usize, seed: u64) -> u64 {
+    let mut jobs = Jobs::new(program, seed);
+    let mut counts = Counts::default();
+    (0..count).for_each(|_| jobs.next(&mut counts));
+    println!("jobs, {count} from seed {seed}\n");
+    counts.print();
+    println!();
+    counts.differ()
+}
+
+/// Whether a job is to have lines of a kind.
+type Wanted = fn(&str) -> bool;
+
+/// A job of so many lines of a kind over 512 cells.
+fn long_job(rng: &mut Rng, lines: usize, wanted: Wanted) -> String {
+    let mut input = String::from("bar\t0\t51200\t30000\t5000\t100\n");
+    let mut made = 0;
+    while made < lines {
+        let line = cut_line(rng, 51200, 30000);
+        let kind = line.split('\t').next().unwrap();
+        if wanted(kind) {
+            // One ring again and again, since the store has room for 64.
+            input += match kind {
+                "ring" => "ring\t0\t5000\t10000\t12000\n",
+                _ => &line,
+            };
+            made += 1;
+        }
+    }
+    input
+}
+
+/// The median of some runs, in milliseconds, and the least and the greatest.
+fn timed(input: &str, f: impl Fn(&[u8]) -> Vec<u8>) -> (Vec<u8>, [f64; 3]) {
+    let mut times = vec![];
+    let mut output = vec![];
+    for _ in 0..JOB_RUNS {
+        let start = Instant::now();
+        output = f(input.as_bytes());
+        times.push(start.elapsed().as_secs_f64() * 1000.);
+    }
+    times.sort_by(f64::total_cmp);
+    let last = JOB_RUNS - 1;
+    (output, [times[last / 2], times[0], times[last]])
+}
+
+const JOB_RUNS: usize = 3;
+
+/// Prints the time of long jobs, the Rust's and the program's.
 pub fn bench(program: &[String], lines: usize) {
     let mut rng = Rng::new(7);
-    for (name, word) in [
-        ("every kind", ""),
-        ("threads and drills", "td"),
-        ("lines", "line"),
-        ("rings", "ring"),
-    ] {
-        let mut input = String::from("bar\t0\t51200\t30000\t5000\t100\n");
-        let mut made = 0;
-        while made < lines {
-            let line = cut_line(&mut rng, 51200, 30000);
-            let kind = line.split('\t').next().unwrap();
-            let wanted = match word {
-                "" => kind != "ring",
-                "td" => kind.starts_with("thread") || kind == "drill",
-                word => kind == word,
-            };
-            if wanted {
-                input += &if kind == "ring" {
-                    "ring\t0\t5000\t10000\t12000\n".into()
-                } else {
-                    line
-                };
-                made += 1;
-            }
-        }
-        let timed = |f: &dyn Fn() -> Vec<u8>| {
-            let start = Instant::now();
-            (f(), start.elapsed().as_secs_f64() * 1000.)
-        };
-        let (expected, rust) = timed(&|| run(input.as_bytes()));
-        let (found, ours) = timed(&|| written(program, input.as_bytes()));
+    let kinds: [(&str, Wanted); 4] = [
+        ("every kind but rings", |kind| kind != "ring"),
+        ("threads and drills", |kind| {
+            kind.starts_with("thread") || kind == "drill"
+        }),
+        ("lines", |kind| kind == "line"),
+        ("rings", |kind| kind == "ring"),
+    ];
+    println!("## Jobs of {lines} lines over 512 cells\n");
+    println!("The median of {JOB_RUNS} runs in ms, and the least and the greatest in brackets.\n");
+    println!("| job | Rust | program | program / Rust |\n|---|---|---|---|");
+    for (name, wanted) in kinds {
+        let input = long_job(&mut rng, lines, wanted);
+        let (expected, rust) = timed(&input, run);
+        let (found, ours) = timed(&input, |input| written(program, input));
         assert!(found == expected, "{name}: the answers differ");
+        let shown =
+            |[median, least, most]: [f64; 3]| format!("{median:.0} ({least:.0}..{most:.0})");
+        let ratio = ours[0] / rust[0];
         println!(
-            "| {lines} lines, {name} | {rust:.0} | {ours:.0} | {:.2} |",
-            ours / rust
+            "| {name} | {} | {} | {ratio:.2} |",
+            shown(rust),
+            shown(ours)
         );
     }
 }

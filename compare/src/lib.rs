@@ -6,6 +6,7 @@
 //! oracle's and the memory afterwards is what the oracle's answer writes, every word of it.
 pub mod bench;
 pub mod call;
+pub mod count;
 pub mod far;
 pub mod generate;
 pub mod jobs;
@@ -14,3 +15,7 @@ pub mod memory;
 pub mod oracle;
 pub mod record;
 pub mod run;
+pub mod sequence;
+pub mod shrink;
+pub mod trap;
+pub mod whole;

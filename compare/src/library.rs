@@ -64,6 +64,17 @@ pub mod c {
     }
 }
 
+/// Whether the calls of a stage are linked.
+pub fn linked(stage: u32) -> bool {
+    match stage {
+        2 => cfg!(feature = "stage2"),
+        3 => cfg!(feature = "stage3"),
+        4 => cfg!(feature = "stage4"),
+        5 => cfg!(feature = "stage5"),
+        _ => cfg!(feature = "stage6"),
+    }
+}
+
 /// The call's number, with the memory lent to it; `None` where its stage is not linked.
 #[rustfmt::skip]
 pub fn run(call: &Call, memory: &mut Memory) -> Option<u32> {

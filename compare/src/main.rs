@@ -1,13 +1,15 @@
-//! compare FAMILY|all [COUNT] [SEED] | far [COUNT] [SEED] | record [COUNT] [SEED] [FAMILY] | bench [WORD]
+//! compare whole [SECONDS] [SEED] [PROGRAM..]
+//! compare FAMILY|all [COUNT] [SEED] | far [COUNT] [SEED] | record [COUNT] [SEED] [FAMILY] | bench [WORD] [PICTURE]
 //! compare jobs [COUNT] [SEED] PROGRAM [WORD..] | job | job_bench PROGRAM [WORD..]
-use compare::generate::FAMILIES;
-use compare::{bench, far, jobs, record, run};
+use compare::generate::{FAMILIES, SEQUENCE};
+use compare::{bench, far, jobs, record, run, whole};
 use std::io::{Read, Write};
 use std::process::ExitCode;
 
 const SEED: u64 = 1;
 
 fn usage() -> ExitCode {
+    eprintln!("compare whole [SECONDS] [SEED] [PROGRAM..]   everything, for so long");
     eprintln!("compare FAMILY [COUNT] [SEED]   compares so many calls; status 1 on a difference");
     eprintln!(
         "compare all [PERCENT] [SEED]    every family that is linked, PERCENT of its default count"
@@ -16,11 +18,14 @@ fn usage() -> ExitCode {
         "compare far [COUNT] [SEED]      the distance of 01's length from the untouched Rust"
     );
     eprintln!("compare record [COUNT] [SEED] [FAMILY]   COUNT lines a family, see record.rs");
-    eprintln!("compare bench [WORD]            times both; only rows with WORD");
+    eprintln!("compare bench [WORD] [PICTURE]  times both; only rows with WORD");
+    eprintln!("compare count ROW SIDE          some goes of a row of the bench, for callgrind");
     eprintln!("compare jobs COUNT SEED PROGRAM..   so many jobs through a job program");
     eprintln!("compare job                     the job on standard input, over the Rust");
     eprintln!("compare job_bench PROGRAM..     times a job program beside the Rust");
-    let names = FAMILIES.map(|(name, stage, count)| format!("{name} (stage{stage}, {count})"));
+    let families = FAMILIES.iter().chain([&SEQUENCE]);
+    let names = families.map(|(name, stage, count)| format!("{name} (stage{stage}, {count})"));
+    let names: Vec<String> = names.collect();
     eprintln!("families: {}", names.join(", "));
     ExitCode::from(2)
 }
@@ -37,17 +42,34 @@ fn main() -> ExitCode {
         return ExitCode::SUCCESS;
     }
     if name == "job_bench" && words.len() > 1 {
-        println!("| job | Rust, ms | ours, ms | ours / Rust |\n|---|---|---|---|");
         jobs::bench(&words[1..], 100_000);
+        return ExitCode::SUCCESS;
+    }
+    if name == "bench" {
+        let picture = bench::bench(words.get(1).map_or("", |w| w));
+        if let Some(file) = words.get(2) {
+            std::fs::write(file, picture).expect("the picture is written");
+        }
         return ExitCode::SUCCESS;
     }
     let number = |at: usize, default: u64| words.get(at).map_or(Ok(default), |w| w.parse());
     let Ok(seed) = number(2, SEED) else {
         return usage();
     };
-    if name == "bench" {
-        bench::bench(words.get(1).map_or("", |w| w));
+    if name == "count" && words.len() == 3 {
+        let (Ok(row), Ok(side)) = (number(1, 0), number(2, 0)) else {
+            return usage();
+        };
+        bench::go(row as usize, side as usize);
         return ExitCode::SUCCESS;
+    }
+    if name == "whole" {
+        let Ok(seconds) = number(1, 600) else {
+            return usage();
+        };
+        let program = words.get(3..).unwrap_or_default();
+        let failed = whole::whole(seconds, seed, program);
+        return ExitCode::from((failed > 0) as u8);
     }
     if name == "jobs" && words.len() > 3 {
         let Ok(count) = number(1, 0) else {
@@ -56,7 +78,8 @@ fn main() -> ExitCode {
         let differences = jobs::compare(&words[3..], count as usize, seed);
         return ExitCode::from((differences > 0) as u8);
     }
-    let family = FAMILIES.iter().find(|(family, ..)| family == name);
+    let mut families = FAMILIES.iter().chain([&SEQUENCE]);
+    let family = families.find(|(family, ..)| family == name);
     let default = match (name.as_str(), family) {
         (_, Some((_, _, count))) => *count as u64,
         ("all", _) => 100,
@@ -82,7 +105,7 @@ fn main() -> ExitCode {
         }
         "all" => {
             let mut differences = 0;
-            for (family, _, default) in FAMILIES {
+            for (family, _, default) in FAMILIES.iter().chain([&SEQUENCE]) {
                 match run::family(family, default / 100 * count, seed) {
                     Some(d) => differences += d,
                     None => println!("{family}: not linked"),

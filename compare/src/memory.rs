@@ -56,6 +56,14 @@ impl Lent {
     pub fn start<T>(&mut self) -> *mut T {
         self.words[GUARD..].as_mut_ptr().cast()
     }
+    /// The words lent.
+    pub fn words(&self) -> &[u64] {
+        &self.words[GUARD..self.words.len() - GUARD]
+    }
+    /// The words lent, read as numbers.
+    pub fn numbers(&self) -> Vec<f64> {
+        self.words().iter().map(|w| f64::from_bits(*w)).collect()
+    }
     /// Takes over the words of a buffer of the same size.
     pub fn copy(&mut self, from: &Lent) {
         self.words.copy_from_slice(&from.words);
@@ -217,6 +225,18 @@ impl Memory {
             }
         }
         Self { lent: m }
+    }
+
+    /// The buffer of that name, where the call is lent one.
+    pub fn buffer(&self, name: &str) -> Option<&Lent> {
+        self.lent.iter().find(|l| l.name == name)
+    }
+
+    /// What it is after a call with the outcome.
+    pub fn after(&self, outcome: &Outcome) -> Self {
+        let mut after = self.clone();
+        after.write(outcome);
+        after
     }
 
     fn named(&mut self, name: &str) -> Option<&mut Lent> {

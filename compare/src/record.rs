@@ -43,6 +43,10 @@ use std::collections::BTreeMap;
 /// Longer lines are left out of a recording, bytes with the newline.
 pub const LONGEST: usize = 8192;
 
+/// So many indices and so many numbers in a list can the replay lend.
+const INDICES: usize = 64;
+const NUMBERS: usize = 2048;
+
 #[derive(Default)]
 struct Line(String);
 
@@ -220,6 +224,26 @@ fn written(line: &mut Line, call: &Call, answer: &Answer) {
     };
 }
 
+/// The replay can lend what the call is lent. What a line gives whole is held by its length.
+fn held(call: &Call) -> bool {
+    let (indices, numbers) = match call {
+        Call::New { cells_len, .. } => (0, *cells_len),
+        Call::Preview { room, .. }
+        | Call::PreviewPolygon { room, .. }
+        | Call::Cut { room, .. }
+        | Call::ChangesTo { room, .. } => (room.indices, room.records),
+        Call::Apply { list, .. } => (list.indices.len(), list.records.len()),
+        Call::ApplyMove { list, store, .. } => {
+            let numbers = list.records.len().max(store.rings.len());
+            (list.indices.len(), numbers)
+        }
+        Call::RemoveRing { store, .. } | Call::Volume { store, .. } => (0, store.rings.len()),
+        Call::FromParts { rings_len, .. } => (0, *rings_len),
+        _ => (0, 0),
+    };
+    indices <= INDICES && numbers <= NUMBERS
+}
+
 /// The call and its outcome as a line.
 pub fn line(call: &Call, outcome: &Outcome) -> String {
     let mut line = Line::default();
@@ -256,7 +280,7 @@ pub fn sample(name: &str, count: usize, seed: u64) -> Option<Vec<String>> {
             continue;
         }
         let text = line(&call, &outcome);
-        if text.len() < LONGEST {
+        if text.len() < LONGEST && held(&call) {
             *times += 1;
             lines.push(text);
         }

@@ -1,78 +1,124 @@
 //! Runs a family: every call of it by the oracle and by the library.
 use crate::call::{Call, Outcome};
-use crate::generate::{self, Rng};
+use crate::count::Counts;
+use crate::generate::{self, FAMILIES, Rng, SEQUENCE};
 use crate::memory::Memory;
+use crate::sequence::Sequences;
+use crate::shrink::shrink;
 use crate::{library, oracle, record};
-use std::collections::BTreeMap;
 
-/// How many differences are printed whole.
-const SHOWN: usize = 5;
+/// How many differences a source prints whole.
+pub const SHOWN: u64 = 5;
 
-/// What was seen of one call's name.
-#[derive(Default)]
-struct Seen {
-    calls: usize,
-    accepted: usize,
-    refused: BTreeMap<u32, usize>,
+/// Makes what is compared, one after the other.
+pub trait Source {
+    /// Makes and compares the next one; counts each call of it.
+    fn next(&mut self, counts: &mut Counts);
 }
 
-/// Runs so many calls of the family and prints what was seen. The number of differences, or `None`
-/// where the library that is linked has not the family.
-pub fn family(name: &str, count: usize, seed: u64) -> Option<usize> {
+/// The calls of a family, from a seed.
+struct Calls {
+    name: String,
+    make: fn(&mut Rng) -> Call,
+    rng: Rng,
+    seed: u64,
+    made: u64,
+    trace: bool,
+}
+
+/// The source of a family's calls; `None` where the library that is linked has not the family.
+pub fn source(name: &str, seed: u64) -> Option<Box<dyn Source>> {
+    let mut families = FAMILIES.iter().chain([&SEQUENCE]);
+    let (_, stage, _) = families.find(|(family, ..)| *family == name)?;
+    if !library::linked(*stage) {
+        return None;
+    }
+    if name == SEQUENCE.0 {
+        return Some(Box::new(Sequences::new(seed)));
+    }
     let make = generate::family(name)?;
-    let mut rng = Rng::new(seed);
-    let mut seen: BTreeMap<&'static str, Seen> = BTreeMap::new();
-    let mut differences = 0;
-    let trace = std::env::var_os("TRACE").is_some();
-    for k in 0..count {
-        let call = make(&mut rng);
+    Some(Box::new(Calls {
+        name: name.into(),
+        make,
+        rng: Rng::new(seed),
+        seed,
+        made: 0,
+        trace: std::env::var_os("TRACE").is_some(),
+    }))
+}
+
+impl Source for Calls {
+    fn next(&mut self, counts: &mut Counts) {
+        let call = (self.make)(&mut self.rng);
         let outcome = oracle::answer(&call);
-        if trace {
+        if self.trace {
             eprintln!("{}", record::line(&call, &outcome));
         }
-        let same = holds(&call, &outcome, differences < SHOWN)?;
-        if !same {
-            differences += 1;
-            if differences <= SHOWN {
-                println!("  call {k} of seed {seed}");
-            }
+        let differs = difference(&call, &outcome);
+        if differs.is_some() && counts.differ() < SHOWN {
+            self.show(&call);
         }
-        let seen = seen.entry(call.name()).or_default();
-        seen.calls += 1;
-        match outcome {
-            Ok(_) => seen.accepted += 1,
-            Err(number) => *seen.refused.entry(number).or_default() += 1,
-        }
+        counts.add(call.name(), number(&outcome), differs.is_none());
+        self.made += 1;
     }
-    for (name, s) in &seen {
-        print!("{name}: {} calls, {} accepted", s.calls, s.accepted);
-        for (number, times) in &s.refused {
-            print!(", {times} refused with {number}");
-        }
-        println!();
-    }
-    println!("{name}: {differences} differences");
-    Some(differences)
 }
 
-/// Whether the library does what the outcome says; `None` where it has not the call.
-pub fn holds(call: &Call, outcome: &Outcome, show: bool) -> Option<bool> {
-    let mut memory = Memory::of(call);
-    let mut wanted = memory.clone();
-    let number = library::run(call, &mut memory)?;
-    let wanted_number = outcome.as_ref().err().copied().unwrap_or(0);
-    wanted.write(outcome);
-    if number == wanted_number && memory == wanted {
-        return Some(true);
+impl Calls {
+    /// Prints where a call that differs stands, and the smallest one that it shrinks to.
+    fn show(&self, call: &Call) {
+        let differs = |call: &Call| difference(call, &oracle::answer(call));
+        let least = shrink(call, |call| differs(call).is_some());
+        let text = differs(&least).unwrap_or_default();
+        let (name, at, seed) = (&self.name, self.made, self.seed);
+        println!(
+            "{name}: call {at} of seed {seed} differs. The smallest found:\n{least:?}\n{text}"
+        );
     }
-    if show {
-        println!("difference: {}", record::line(call, outcome));
-        println!("  answered {number}, wanted {wanted_number}");
-        for (is, want) in memory.lent.iter().zip(&wanted.lent) {
-            for (at, a, b) in is.differences(want).into_iter().take(4) {
-                println!("  {}[{at}] is {a:016X}, wanted {b:016X}", is.name);
-            }
+}
+
+/// The number that an outcome answers.
+pub fn number(outcome: &Outcome) -> u32 {
+    outcome.as_ref().err().copied().unwrap_or(0)
+}
+
+/// What the library does otherwise than the outcome says.
+pub fn difference(call: &Call, outcome: &Outcome) -> Option<String> {
+    let mut memory = Memory::of(call);
+    let wanted = memory.after(outcome);
+    let number = library::run(call, &mut memory).expect("the call is linked");
+    unlike(call, outcome, number, &memory, &wanted)
+}
+
+/// Where the number or the memory after a call are not those wanted.
+pub fn unlike(
+    call: &Call,
+    outcome: &Outcome,
+    answered: u32,
+    memory: &Memory,
+    wanted: &Memory,
+) -> Option<String> {
+    let number = number(outcome);
+    if answered == number && memory == wanted {
+        return None;
+    }
+    let mut text = format!("{}\n", record::line(call, outcome));
+    text += &format!("  answered {answered}, wanted {number}\n");
+    for (is, want) in memory.lent.iter().zip(&wanted.lent) {
+        for (at, a, b) in is.differences(want).into_iter().take(4) {
+            text += &format!("  {}[{at}] is {a:016X}, wanted {b:016X}\n", is.name);
         }
     }
-    Some(false)
+    Some(text)
+}
+
+/// Runs so many of the family and prints what was seen. The number of differences, or `None` where
+/// the library that is linked has not the family.
+pub fn family(name: &str, count: usize, seed: u64) -> Option<u64> {
+    let mut source = source(name, seed)?;
+    let mut counts = Counts::default();
+    (0..count).for_each(|_| source.next(&mut counts));
+    println!("{name}, {count} from seed {seed}\n");
+    counts.print();
+    println!();
+    Some(counts.differ())
 }

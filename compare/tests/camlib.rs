@@ -1,5 +1,5 @@
 //! The oracle's refusals held against camlib's own, and what the generators reach.
-use compare::call::{Call, Spec};
+use compare::call::{Answer, Call, Spec};
 use compare::generate::{FAMILIES, Rng, family};
 use compare::memory::Memory;
 use compare::oracle::stock::{Bar, camlib_spec, camlib_stock, cells, change_to_camlib, to_camlib};
@@ -185,13 +185,18 @@ fn most_in_hand(bar: &Bar, rings: &[[f64; 4]], ring: [f64; 4]) -> usize {
     most
 }
 
-/// 256 pieces in hand are accepted and 257 are not, and both are reached.
+/// 256 pieces in hand are accepted and 257 are not, and both are reached; so are stores of 255 and 256
+/// rings.
 #[test]
 fn the_limit_of_pieces_is_reached() {
     let mut accepted = BTreeSet::new();
     let mut refused = BTreeSet::new();
+    let mut stored = BTreeSet::new();
     for call in calls("rings") {
         let outcome = answer(&call);
+        if let Ok(Answer::Stock(_, rings, _)) = &outcome {
+            stored.insert(rings.len());
+        }
         let Call::RemoveRing {
             spec, store, ring, ..
         } = call
@@ -215,4 +220,6 @@ fn the_limit_of_pieces_is_reached() {
     );
     assert!(accepted.iter().all(|most| *most <= 256));
     assert!(refused.contains(&257), "{refused:?}");
+    assert!(stored.contains(&255), "{stored:?}");
+    assert_eq!(stored.last(), Some(&256));
 }

@@ -7,7 +7,7 @@ use plain::turning::profile::Envelope;
 use plain::turning::stock::TurnStock;
 use std::hint::black_box;
 
-fn store(rings: &[[f64; 4]]) -> Store {
+pub fn store(rings: &[[f64; 4]]) -> Store {
     let mut store = Store {
         rings: rings.as_flattened().to_vec(),
         count: rings.len(),
@@ -17,7 +17,7 @@ fn store(rings: &[[f64; 4]]) -> Store {
 }
 
 /// Rings that lie apart in a row.
-fn row_of_rings(bar: &Bar, count: usize) -> Vec<[f64; 4]> {
+pub fn row_of_rings(bar: &Bar, count: usize) -> Vec<[f64; 4]> {
     let width = bar.spec.z_max / (2 * count + 1) as f64;
     let z = |k: usize| width * (2 * k + 1) as f64;
     (0..count).map(|k| [z(k), z(k) + width, 4., 5.]).collect()

@@ -1,6 +1,7 @@
 //! The rows of the table: numbers, cells, cuts; the rest is in `queries`.
 use super::queries::{envelopes, rings, volumes};
-use super::{Side, Table, library_side, side};
+use super::sides::{length_side, root_side};
+use super::{Table, cleared_side, library_side, side};
 use crate::call::{Call, List, Room, Simple, Spec};
 use crate::generate::Rng;
 use crate::generate::numbers::{parts, radicand};
@@ -22,7 +23,7 @@ pub fn spec(cells: usize, outer: f64, bore: f64) -> Spec {
     }
 }
 
-fn room(n: usize) -> Room {
+pub fn room(n: usize) -> Room {
     Room {
         indices: n,
         records: 8 * n,
@@ -58,7 +59,7 @@ fn numbers(table: &Table) {
                     xs.iter().map(|x| black_box(*x).sqrt()).sum::<f64>()
                 }),
                 None,
-                root_side(xs),
+                root_side(xs.clone()),
             ]
         });
     }
@@ -73,44 +74,10 @@ fn numbers(table: &Table) {
             [
                 side(MANY, move || xs.iter().map(hypot).sum::<f64>()),
                 side(MANY, move || xs.iter().map(ruled).sum::<f64>()),
-                length_side(xs),
+                length_side(xs.clone()),
             ]
         });
     }
-}
-
-#[cfg(feature = "stage2")]
-fn root_side(xs: &[f64]) -> Option<Side<'_>> {
-    side(xs.len(), move || {
-        let mut root = 0.;
-        for x in xs {
-            // SAFETY: the pointer is to one f64.
-            black_box(unsafe { crate::library::c::turning_root(black_box(*x), &mut root) });
-            black_box(root);
-        }
-    })
-}
-
-#[cfg(feature = "stage2")]
-fn length_side(pairs: &[(f64, f64)]) -> Option<Side<'_>> {
-    side(pairs.len(), move || {
-        let mut length = 0.;
-        for (x, y) in pairs {
-            // SAFETY: the pointer is to one f64.
-            black_box(unsafe { crate::library::c::turning_length(black_box(*x), *y, &mut length) });
-            black_box(length);
-        }
-    })
-}
-
-#[cfg(not(feature = "stage2"))]
-fn root_side(_: &[f64]) -> Option<Side<'_>> {
-    None
-}
-
-#[cfg(not(feature = "stage2"))]
-fn length_side(_: &[(f64, f64)]) -> Option<Side<'_>> {
-    None
 }
 
 /// The fit of 4,096 cells, threads, the drill.
@@ -173,6 +140,22 @@ fn cells(table: &Table, bar: &Bar) {
             ]
         });
     }
+    let (z0, z1, radius) = (0., 512., 40.);
+    table.row(
+        "thread_cut, all of 4,096 bins, buffers cleared first",
+        || {
+            [
+                side(1, || stock.thread_cut(black_box(z0), z1, radius)),
+                None,
+                cleared_side(Call::Cut {
+                    spec: bar.spec,
+                    cells: lent(),
+                    cut: Simple::ThreadCut { z0, z1, radius },
+                    room: room(bar.n),
+                }),
+            ]
+        },
+    );
     for (name, tip_z) in [("all", -1.), ("half", 256.)] {
         let (radius, cone) = (8., 3.);
         table.row(&format!("drill, {name} of 4,096 bins"), || {

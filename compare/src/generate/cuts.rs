@@ -64,7 +64,7 @@ fn cut_call(rng: &mut Rng, make: impl Fn(&mut Rng, &Bar) -> Simple) -> Call {
     with_room(rng, call, base.n)
 }
 
-fn thread_numbers(rng: &mut Rng, base: &Bar) -> [f64; 3] {
+pub fn thread_numbers(rng: &mut Rng, base: &Bar) -> [f64; 3] {
     let z0 = z_near(rng, base);
     let z1 = if rng.once_in(10) {
         z0
@@ -89,23 +89,26 @@ pub fn thread_inner(rng: &mut Rng) -> Call {
     })
 }
 
+/// A drill of the bar.
+pub fn drill_cut(rng: &mut Rng, base: &Bar) -> Simple {
+    let radius = r_near(rng, base).abs().max(f64::from_bits(1));
+    let cone = match rng.below(6) {
+        0 => rng.pick(&[0., -0., -1.]),
+        1 => edge(rng),
+        2 => base.spec.cell,
+        3 => rng.between(0., 2. * (base.spec.z_max - base.spec.z_min)),
+        _ => rng.written(0., 8.),
+    };
+    let tip_z = z_near(rng, base);
+    Simple::Drill {
+        tip_z: damaged(rng, tip_z),
+        radius: damaged(rng, radius),
+        cone: damaged(rng, cone),
+    }
+}
+
 pub fn drill(rng: &mut Rng) -> Call {
-    cut_call(rng, |rng, base| {
-        let radius = r_near(rng, base).abs().max(f64::from_bits(1));
-        let cone = match rng.below(6) {
-            0 => rng.pick(&[0., -0., -1.]),
-            1 => edge(rng),
-            2 => base.spec.cell,
-            3 => rng.between(0., 2. * (base.spec.z_max - base.spec.z_min)),
-            _ => rng.written(0., 8.),
-        };
-        let tip_z = z_near(rng, base);
-        Simple::Drill {
-            tip_z: damaged(rng, tip_z),
-            radius: damaged(rng, radius),
-            cone: damaged(rng, cone),
-        }
-    })
+    cut_call(rng, drill_cut)
 }
 
 /// How many segments or points: few as a rule, now and then about the limit.
@@ -119,7 +122,7 @@ fn how_many(rng: &mut Rng, limit: usize) -> usize {
     }
 }
 
-fn side(rng: &mut Rng) -> u32 {
+pub fn side(rng: &mut Rng) -> u32 {
     match rng.below(80) {
         0 => rng.pick(&[2, 3, 0x100, u32::MAX]),
         n => n as u32 % 2,
@@ -149,7 +152,7 @@ fn step(rng: &mut Rng, base: &Bar, p: [f64; 2]) -> [f64; 2] {
 }
 
 /// A path's segments with their sags, about a nose of radius rn.
-fn segments(rng: &mut Rng, base: &Bar, rn: f64) -> Vec<f64> {
+pub fn segments(rng: &mut Rng, base: &Bar, rn: f64) -> Vec<f64> {
     let count = how_many(rng, MOST_SEGMENTS);
     let mut p = [r_near(rng, base), z_near(rng, base)];
     let mut list = vec![];
@@ -198,7 +201,7 @@ fn segments(rng: &mut Rng, base: &Bar, rn: f64) -> Vec<f64> {
 }
 
 /// A list, now and then with a number outside, or one number too many or too few.
-fn damaged_list(rng: &mut Rng, mut list: Vec<f64>) -> Vec<f64> {
+pub fn damaged_list(rng: &mut Rng, mut list: Vec<f64>) -> Vec<f64> {
     let len = list.len();
     match rng.below(60) {
         0 if len > 0 => list[rng.below(len)] = outside(rng),
@@ -214,9 +217,8 @@ fn damaged_list(rng: &mut Rng, mut list: Vec<f64>) -> Vec<f64> {
     list
 }
 
-pub fn nose(rng: &mut Rng) -> Call {
-    let base = base(rng);
-    let cells = good_cells(rng, &base);
+/// A nose's radius.
+pub fn nose_radius(rng: &mut Rng, base: &Bar) -> f64 {
     let rn = match rng.below(12) {
         // On the tiniest bar, a face stands exactly as near to a bin's end as it still counts.
         _ if base.spec.cell < 1e-9 && rng.once_in(2) => base.spec.cell / 2.,
@@ -227,7 +229,13 @@ pub fn nose(rng: &mut Rng) -> Call {
         4 => rng.pick(&[0.2, 0.4, 0.8, 1.2, 5.]),
         _ => rng.written(0., 3.),
     };
-    let rn = rn.min(1e6);
+    rn.min(1e6)
+}
+
+pub fn nose(rng: &mut Rng) -> Call {
+    let base = base(rng);
+    let cells = good_cells(rng, &base);
+    let rn = nose_radius(rng, &base);
     let segments = segments(rng, &base, rn);
     let call = Call::Preview {
         spec: damaged_spec(rng, &base),
@@ -241,7 +249,7 @@ pub fn nose(rng: &mut Rng) -> Call {
 }
 
 /// A rectangle, a turned triangle or trapezium, or points in no shape.
-fn polygon_points(rng: &mut Rng, base: &Bar) -> Vec<f64> {
+pub fn polygon_points(rng: &mut Rng, base: &Bar) -> Vec<f64> {
     let (z0, z1) = (z_near(rng, base), z_near(rng, base));
     let (r0, r1) = (r_near(rng, base), r_near(rng, base) + base.spec.outer);
     let mut points: Vec<[f64; 2]> = match rng.below(5) {
@@ -279,15 +287,20 @@ fn polygon_points(rng: &mut Rng, base: &Bar) -> Vec<f64> {
     flat.map(|x| x.clamp(-1e6, 1e6)).collect()
 }
 
+/// How far a polygon may stand out.
+pub fn polygon_excess(rng: &mut Rng) -> f64 {
+    match rng.below(4) {
+        0 => rng.between(0., 2.),
+        1 => rng.pick(&[0.5, 0.01, 1e6, 5e-324]),
+        _ => rng.pick(&[0., -0.]),
+    }
+}
+
 pub fn polygon(rng: &mut Rng) -> Call {
     let base = base(rng);
     let cells = good_cells(rng, &base);
     let points = polygon_points(rng, &base);
-    let excess = match rng.below(4) {
-        0 => rng.between(0., 2.),
-        1 => rng.pick(&[0.5, 0.01, 1e6, 5e-324]),
-        _ => rng.pick(&[0., -0.]),
-    };
+    let excess = polygon_excess(rng);
     let call = Call::PreviewPolygon {
         spec: damaged_spec(rng, &base),
         cells: damaged_cells(rng, &base, &cells),

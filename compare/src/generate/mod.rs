@@ -6,11 +6,13 @@ pub mod cuts;
 pub mod envelope;
 pub mod numbers;
 pub mod rings;
+pub mod sequence;
 pub mod stock;
 
 use crate::call::Call;
 
 /// Numbers that look random, the same for the same seed (splitmix64).
+#[derive(Default)]
 pub struct Rng(u64);
 
 impl Rng {
@@ -73,7 +75,7 @@ pub fn family(name: &str) -> Option<fn(&mut Rng) -> Call> {
     })
 }
 
-/// Every family, the stage of turning.h it came with, and how many calls are made by default.
+/// Every family of single calls, the stage of turning.h it came with, and how many calls are made by default.
 pub const FAMILIES: [(&str, u32, usize); 16] = [
     ("root", 2, 20_000_000),
     ("length", 2, 20_000_000),
@@ -92,3 +94,6 @@ pub const FAMILIES: [(&str, u32, usize); 16] = [
     ("envelope_at", 6, 200_000),
     ("envelope", 6, 400_000),
 ];
+
+/// Sequences of calls on one stock.
+pub const SEQUENCE: (&str, u32, usize) = ("sequence", 6, 20_000);

@@ -4,13 +4,14 @@ use super::cuts::{damaged_changes, generation, some_changes};
 use super::numbers::{any, edge, outside};
 use super::stock::{base, damaged_cells, damaged_spec, good_cells, r_near, z_near};
 use crate::call::{Answer, Call, Store};
+use crate::oracle::rings::stored;
 use crate::oracle::stock::{Bar, fresh};
 use crate::oracle::{MOST_RINGS, answer};
 
 type Ring = [f64; 4];
 
 /// A ring on the bar, as a rule not empty.
-fn ring(rng: &mut Rng, base: &Bar) -> Ring {
+pub fn ring(rng: &mut Rng, base: &Bar) -> Ring {
     let (z, w) = (z_near(rng, base), z_near(rng, base));
     let (r, q) = (r_near(rng, base), r_near(rng, base));
     [z.min(w), z.max(w), r.min(q), r.max(q)]
@@ -59,7 +60,7 @@ fn comb(rng: &mut Rng, base: &Bar, squares: usize, more: usize) -> Vec<Ring> {
 }
 
 /// A comb whose pieces in hand come to about 256, and the ring over the whole bar.
-fn about_the_limit(rng: &mut Rng, base: &Bar) -> (Vec<Ring>, Ring) {
+pub fn about_the_limit(rng: &mut Rng, base: &Bar) -> (Vec<Ring>, Ring) {
     let goal = 252 + rng.below(8);
     let squares = (goal - 1) / 3 - rng.below(4);
     let more = goal - 1 - 3 * squares;
@@ -70,6 +71,14 @@ fn about_the_limit(rng: &mut Rng, base: &Bar) -> (Vec<Ring>, Ring) {
 /// What a rebuild stores of the rings, as far as it takes them.
 fn disjoint(base: &Bar, given: Vec<Ring>) -> Vec<Ring> {
     let mut given = given;
+    let store = Store {
+        rings: given.as_flattened().to_vec(),
+        count: given.len(),
+    };
+    if stored(base, &store).is_ok() {
+        // Rings that can be stored as they are, are.
+        return given;
+    }
     loop {
         let call = Call::FromParts {
             spec: base.spec,
@@ -86,7 +95,7 @@ fn disjoint(base: &Bar, given: Vec<Ring>) -> Vec<Ring> {
 }
 
 /// So many rings that touch and do not overlap.
-fn side_by_side(base: &Bar, count: usize) -> Vec<Ring> {
+pub fn side_by_side(base: &Bar, count: usize) -> Vec<Ring> {
     let width = 1. / count as f64;
     let slat = |k: usize| at(base, [width * k as f64, width * (k + 1) as f64, 0.1, 0.6]);
     (0..count).map(slat).collect()
@@ -96,32 +105,57 @@ fn side_by_side(base: &Bar, count: usize) -> Vec<Ring> {
 fn stored_and_next(rng: &mut Rng, base: &Bar) -> (Vec<Ring>, Ring) {
     let next = ring(rng, base);
     match rng.below(24) {
-        0 => {
-            let (rings, whole) = about_the_limit(rng, base);
-            (disjoint(base, rings), whole)
-        }
+        0 => comb_stored(rng, base),
         1 => {
             // A store that is full, or has nearly no room left.
             let count = 250 + rng.below(7);
-            let rings = disjoint(base, side_by_side(base, count));
-            let covered = rings.first().copied().unwrap_or(next);
+            let (rings, covered) = row_stored(base, count, next);
             (rings, rng.pick(&[covered, next]))
         }
-        _ => {
-            let count = rng.pick(&[0, 0, 1, 1, 2, 3, 4, 6, 10]);
-            let rings = (0..count)
-                .map(|_| ring(rng, base))
-                .filter(nonempty)
-                .collect();
-            let rings = disjoint(base, rings);
-            let covered = rings.first().copied().unwrap_or(next);
-            let next = if rng.once_in(10) { covered } else { next };
-            (rings, next)
-        }
+        _ => few_stored(rng, base, next),
     }
 }
 
-fn nonempty(ring: &Ring) -> bool {
+/// Stored rings at a limit, and one more that comes to it or passes it.
+pub fn limit_stored(rng: &mut Rng, base: &Bar) -> (Vec<Ring>, Ring) {
+    if rng.once_in(2) {
+        return comb_stored(rng, base);
+    }
+    let next = ring(rng, base);
+    let count = rng.pick(&[250, 253, 254, 255, 255, 256, 256]);
+    let (rings, covered) = row_stored(base, count, next);
+    // Beside the row, so that it is one ring more.
+    let apart = at(base, [0., 1., 0.7, 0.8]);
+    (rings, rng.pick(&[covered, apart, next]))
+}
+
+/// A comb that cuts the ring over the whole bar into about 256 pieces in hand, and that ring.
+fn comb_stored(rng: &mut Rng, base: &Bar) -> (Vec<Ring>, Ring) {
+    let (rings, whole) = about_the_limit(rng, base);
+    (disjoint(base, rings), whole)
+}
+
+/// So many rings side by side, and one that they cover; where there is none, the next.
+fn row_stored(base: &Bar, count: usize, next: Ring) -> (Vec<Ring>, Ring) {
+    let rings = disjoint(base, side_by_side(base, count));
+    let covered = rings.first().copied().unwrap_or(next);
+    (rings, covered)
+}
+
+/// No ring or a few, and the next one, which may be covered.
+pub fn few_stored(rng: &mut Rng, base: &Bar, next: Ring) -> (Vec<Ring>, Ring) {
+    let count = rng.pick(&[0, 0, 1, 1, 2, 3, 4, 6, 10]);
+    let rings = (0..count)
+        .map(|_| ring(rng, base))
+        .filter(nonempty)
+        .collect();
+    let rings = disjoint(base, rings);
+    let covered = rings.first().copied().unwrap_or(next);
+    let next = if rng.once_in(10) { covered } else { next };
+    (rings, next)
+}
+
+pub fn nonempty(ring: &Ring) -> bool {
     ring[0] < ring[1] && ring[2] < ring[3]
 }
 
@@ -182,7 +216,7 @@ fn added(base: &Bar, rings: &[Ring], next: &[Ring]) -> usize {
 }
 
 /// Any finite edge in the place of one.
-fn far_edge(rng: &mut Rng, ring: &mut Ring) {
+pub fn far_edge(rng: &mut Rng, ring: &mut Ring) {
     let k = rng.below(4);
     ring[k] = match rng.below(4) {
         0 => rng.pick(&[1e300, -1e300, f64::MAX, f64::MIN]),
@@ -213,7 +247,7 @@ pub fn remove_ring(rng: &mut Rng) -> Call {
 }
 
 /// The rings of a move or of parts, now and then damaged.
-fn damaged_rings(rng: &mut Rng, mut rings: Vec<Ring>) -> Vec<f64> {
+pub fn damaged_rings(rng: &mut Rng, mut rings: Vec<Ring>) -> Vec<f64> {
     if !rings.is_empty() {
         let k = rng.below(rings.len());
         let ring = &mut rings[k];
@@ -278,10 +312,10 @@ pub fn from_parts(rng: &mut Rng) -> Call {
         _ => (0..rng.below(9)).map(|_| ring(rng, &base)).collect(),
     };
     given.retain(nonempty);
-    let stored = added(&base, &[], &given);
+    let kept = added(&base, &[], &given);
     let room = match rng.below(6) {
-        0 => stored,
-        1 => stored.saturating_sub(1),
+        0 => kept,
+        1 => kept.saturating_sub(1),
         2 => rng.pick(&[0, 64, 300]),
         _ => MOST_RINGS,
     };

@@ -9,7 +9,7 @@ pub mod cuts;
 mod envelope;
 mod numbers;
 mod queries;
-mod rings;
+pub mod rings;
 pub mod stock;
 
 use crate::call::{Answer, Call, Outcome};

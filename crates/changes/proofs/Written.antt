@@ -17,7 +17,7 @@ use Rattle.stock.specs.Cell.{stockOf}
 use Rattle.records.specs.Change.{roomOf, changesFrom}
 use Rattle.changes.specs.declared.Applied.{Applied}
 use Rattle.changes.specs.declared.Applied.the-variants as applied
-use Rattle.changes.specs.Commit.{passAll, firstRefusal, putAll, putHeld, Committed, commitIn, applyOf, Applies}
+use Rattle.changes.specs.Commit.{passAll, firstRefusal, putAll, putHeld, Committed, commitIn, commitHeld, applyOf, Applies}
 
 -- ---- the rule of a commit on checked cells
 module _ (s : TurnStockSpec) (n : ℕ) (cs : List Float) (gen : ℕ) (l : List TurnChange) where
@@ -44,6 +44,9 @@ module _ (is : List ℕ) (xs : List Float) (k : ℕ) (h : k ≤ roomOf (length i
   pub put-held : (cs : List Float) → putHeld cs is xs k ≡ putAll cs (changesFrom is xs k)
   put-held cs = ap (λ (j : ℕ). putAll cs (changesFrom is xs j)) all-held
 
+  commit-held : (s : TurnStockSpec) (n : ℕ) (cs : List Float) (gen : ℕ) → commitIn s n cs gen (changesFrom is xs k) ≡ commitHeld s n cs gen is xs k
+  commit-held s n cs gen = ap (λ (j : ℕ). commitIn s n cs gen (changesFrom is xs j)) (sym all-held)
+
 -- ---- the rule of a commit of the lent lists
 module _ (spec : TurnStockSpec) (cs : List Float) (gen : ℕ) (is : List ℕ) (xs : List Float) (k : ℕ) where
   pub apply-refused : (r : ℕ) → stockOf spec cs ≡ refuses r → applyOf spec cs gen is xs k ≡ refuses r
@@ -54,9 +57,9 @@ module _ (spec : TurnStockSpec) (cs : List Float) (gen : ℕ) (is : List ℕ) (x
   unfolding applyOf
   apply-short n e h = simp (papers, e, lt-leb k (roomOf (length is) (length xs)) h)
 
-  pub apply-is : (n : ℕ) → stockOf spec cs ≡ answers n → k ≤ roomOf (length is) (length xs) → applyOf spec cs gen is xs k ≡ commitIn (cleanSpec spec) n cs gen (changesFrom is xs k)
+  pub apply-is : (n : ℕ) → stockOf spec cs ≡ answers n → k ≤ roomOf (length is) (length xs) → applyOf spec cs gen is xs k ≡ commitHeld (cleanSpec spec) n cs gen is xs k
   unfolding applyOf
-  apply-is n e h = simp (papers, e, le-leb k (roomOf (length is) (length xs)) h)
+  apply-is n e h = simp (papers, e, le-leb k (roomOf (length is) (length xs)) h) (commit-held is xs k h (cleanSpec spec) n cs gen)
 
 -- ---- what is answered and left
 

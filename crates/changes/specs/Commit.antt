@@ -84,6 +84,10 @@ commitIn s n cs gen l =
     demand (ltb gen lastGeneration) 12
     (answers (record { cells = putAll cs l; generation = gen + 1 })))
 
+-- the same of the first k changes of the lent lists, as many as they hold
+abbrev pub commitHeld : TurnStockSpec → ℕ → List Float → ℕ → List ℕ → List Float → ℕ → Paper Committed
+commitHeld s n cs gen is xs k = commitIn s n cs gen (changesFrom is xs (min k (roomOf (length is) (length xs))))
+
 -- a commit of a list of changes: 1, 2, 3, then 7, 8 or 9, 12
 unfoldable pub commitOf : TurnStockSpec → List Float → ℕ → List TurnChange → Paper Committed
 commitOf spec cs gen l = onward (stockOf spec cs) (λ n. commitIn (cleanSpec spec) n cs gen l)

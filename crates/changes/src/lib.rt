@@ -7,7 +7,7 @@ ghost use mathlib.Core.Path.{_≡_};
 ghost use Prim.Native.Nat.{_+_, _*_, _≤_, _<_, min};
 ghost use lib.ListN.{length};
 ghost use Rattle.records.specs.Change.{changeFrom, changesFrom, changesTo, roomOf, Listing, settled, Proposed};
-ghost use Rattle.changes.specs.Commit.{onlyRemoves, appliesTo, passes, passingPaper, eachPasses, rises, firstRefusal, putHeld, applyOf, Applies, commitIn};
+ghost use Rattle.changes.specs.Commit.{onlyRemoves, appliesTo, passes, passingPaper, eachPasses, rises, firstRefusal, putHeld, commitHeld, applyOf, Applies};
 ghost use Rattle.changes.specs.Difference.{otherCell, differenceOf};
 use records::Previewed;
 use refusals::LAST_GENERATION;
@@ -154,14 +154,16 @@ pub fn put_after(cells: &mut [f64], indices: &[usize], numbers: &[f64], k: usize
     let held = held_of(indices.len(), numbers.len(), k);
     let mut i: usize = 0;
     while i < held {
-        let change = change_at(indices, numbers, i);
-        stock::put_cell(cells, change.index, change.after);
+        let index = indices[i];
+        let after = stock::cell_at(numbers, 2 * i + 1);
+        stock::put_cell(cells, index, after);
         i += 1;
     }
 }
 
-// A commit on a stock whose cells are checked, of changes that the lists hold.
-fn commit(
+// A commit on n cells that are not asked again, of the first changes that the lists hold, k at most.
+// `apply` is this after its check; a caller whose preview was accepted has had the same check.
+pub fn commit(
     s: TurnStockSpec,
     n: usize,
     cells: &mut [f64],
@@ -170,8 +172,7 @@ fn commit(
     numbers: &[f64],
     k: usize,
 ) -> Applied
-    requires { ⌜ k ≤ roomOf (length (now indices)) (length (now numbers)) ⌝ }
-    ensures { λ r. ⌜ Applies (commitIn s n (now (cells .entry)) generation (changesFrom (now (indices .entry)) (now (numbers .entry)) k)) r (now (cells .entry)) (now (cells .exit)) ⌝ }
+    ensures { λ r. ⌜ Applies (commitHeld s n (now (cells .entry)) generation (now (indices .entry)) (now (numbers .entry)) k) r (now (cells .entry)) (now (cells .exit)) ⌝ }
 {
     let found = first_refusal(s, n, cells, indices, numbers, k);
     if let Passing::Refused(r) = found {

@@ -7,3 +7,4 @@ pub mod EachBin
 pub mod Spans
 pub mod Singles
 mod Drills
+mod Left

@@ -44,6 +44,10 @@ sourceReach s (source.Rows side) values there i = reachFrom side (rowAt values t
 abbrev pub sourceAct : TurnStockSpec → Source → List Float → List Bool → Act
 sourceAct s src values there = record { side = sourceSide src; at = sourceReach s src values there }
 
+-- the cut leaves this cell, whatever bin it is of
+abbrev pub Leaves : Source → TurnCell → Type 0
+Leaves src c = (s : TurnStockSpec) (values : List Float) (there : List Bool) (i : ℕ) → cutCell (sourceSide src) c (sourceReach s src values there i) ≡ c
+
 -- in the bins from first to before last what a reach says, the others passed over
 unfoldable pub spanReach : ℕ → ℕ → (ℕ → Reached) → ℕ → Reached
 spanReach first last reach i = pick (leb first i) (pick (ltb i last) (reach i) passed) passed

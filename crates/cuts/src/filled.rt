@@ -10,7 +10,7 @@ ghost use Rattle.records.specs.Change.{roomOf, Proposed};
 ghost use Rattle.nose.specs.Nose.{noseAct};
 ghost use Rattle.polygon.specs.Polygon.{polygonAct};
 ghost use Rattle.cuts.specs.Cut.{isArc, cutAct};
-ghost use Rattle.cuts.specs.Rows.{Graded};
+ghost use Rattle.cuts.specs.Rows.{Graded, Room, Empty, rowAt};
 ghost use Rattle.cuts.specs.Source.{threadAct, drillAct, SameTo};
 ghost use Rattle.cuts.specs.Preview.{proposed};
 use crate::Cut;
@@ -27,6 +27,43 @@ use stock::TurnStockSpec;
 // Two places a bin.
 const PLACES: usize = 8192;
 
+// A stock of so few bins has shorter rows, since rows are cleared for each cut.
+const FEW_BINS: usize = 512;
+
+const FEW_PLACES: usize = 1024;
+
+// A nose along segments, with empty rows for its bins.
+fn nose_over(
+    s: TurnStockSpec,
+    n: usize,
+    side: TurnSide,
+    rn: f64,
+    segments: &[f64],
+    cells: &[f64],
+    indices: &mut [usize],
+    numbers: &mut [f64],
+    values: &mut [f64],
+    there: &mut [bool],
+) -> Previewed
+    requires { ⌜ Graded s n × ((i : ℕ) → i < n → SameTo (now cells) i) × Room n (now values) (now there) × Empty 0 n (rowAt (now values) (now there)) ⌝ }
+    ensures { λ r. ⌜ Proposed (proposed (noseAct s side rn (now (segments .entry))) (now (cells .entry)) (roomOf (length (now (indices .entry))) (length (now (numbers .entry)))) n) r (now (indices .entry)) (now (indices .exit)) (now (numbers .entry)) (now (numbers .exit)) ⌝ }
+{
+    let radius = floats::clean(rn);
+    let bins = along::fill(s, n, side, radius, segments, values, there);
+    list::list(
+        s,
+        Source::Rows(side),
+        values,
+        there,
+        cells,
+        bins.from,
+        bins.to,
+        n,
+        indices,
+        numbers,
+    )
+}
+
 // A nose along segments.
 pub fn nose(
     s: TurnStockSpec,
@@ -41,21 +78,35 @@ pub fn nose(
     requires { ⌜ Graded s n × ((i : ℕ) → i < n → SameTo (now cells) i) ⌝ }
     ensures { λ r. ⌜ Proposed (proposed (noseAct s side rn (now (segments .entry))) (now (cells .entry)) (roomOf (length (now (indices .entry))) (length (now (numbers .entry)))) n) r (now (indices .entry)) (now (indices .exit)) (now (numbers .entry)) (now (numbers .exit)) ⌝ }
 {
+    if n <= FEW_BINS {
+        let mut values = [0.0f64; FEW_PLACES];
+        let mut there = [false; FEW_PLACES];
+        return nose_over(
+            s,
+            n,
+            side,
+            rn,
+            segments,
+            cells,
+            indices,
+            numbers,
+            &mut values,
+            &mut there,
+        );
+    }
     let mut values = [0.0f64; PLACES];
     let mut there = [false; PLACES];
-    let radius = floats::clean(rn);
-    let bins = along::fill(s, n, side, radius, segments, &mut values, &mut there);
-    list::list(
+    nose_over(
         s,
-        Source::Rows(side),
-        &values,
-        &there,
-        cells,
-        bins.from,
-        bins.to,
         n,
+        side,
+        rn,
+        segments,
+        cells,
         indices,
         numbers,
+        &mut values,
+        &mut there,
     )
 }
 

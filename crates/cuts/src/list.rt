@@ -9,6 +9,7 @@ ghost use Rattle.records.specs.Change.{changeAt, changeOf, changesTo, roomOf, L
 ghost use Rattle.cuts.specs.Source.{sourceSide, sourceReach, sourceAct, spanAct, cutChange, SameTo};
 ghost use Rattle.cuts.specs.Rows.{rowAt};
 ghost use Rattle.cuts.specs.Preview.{proposed};
+use crate::idle;
 use crate::rows;
 use crate::single;
 use reach::Low;
@@ -101,12 +102,15 @@ fn count_bin(
     requires { ⌜ (i ≤ cellLimit) × (k ≤ cellLimit) × SameTo (now cells) i ⌝ }
     ensures { λ r. ⌜ r ≡ k + length (changeAt (actCell (sourceAct s source (now (values .entry)) (now (there .entry)))) (now (cells .entry)) i) ⌝ }
 {
+    let before = stock::cell_at(cells, i);
+    if idle::leaves(source, before) {
+        return k;
+    }
     let reached = reach_at(s, source, values, there, i);
     let low = reach::low_of(reached);
     let Low::At(_) = low else {
         return k;
     };
-    let before = stock::cell_at(cells, i);
     let after = reach::cut_cell(side_of(source), before, reached);
     if stock::same_cell(before, after) {
         return k;
@@ -177,7 +181,7 @@ fn put_inner(
 }
 
 // The change of bin i, written behind k others where the cut makes one; how many there are then. A
-// bin that the cut passes over is left at once.
+// bin that the cut leaves or passes over is left at once.
 fn write_bin(
     s: TurnStockSpec,
     source: Source,
@@ -192,12 +196,15 @@ fn write_bin(
     requires { ⌜ (i ≤ cellLimit) × SameTo (now cells) i ⌝ }
     ensures { λ r. ⌜ Listed k r (changeOf (actCell (sourceAct s source (now (values .entry)) (now (there .entry)))) (now (cells .entry)) i) (now (indices .entry)) (now (indices .exit)) (now (numbers .entry)) (now (numbers .exit)) ⌝ }
 {
+    let before = stock::cell_at(cells, i);
+    if idle::leaves(source, before) {
+        return k;
+    }
     let reached = write_reach(s, source, values, there, i);
     let low = reach::low_of(reached);
     let Low::At(_) = low else {
         return k;
     };
-    let before = stock::cell_at(cells, i);
     let side = side_of(source);
     match side {
         TurnSide::Outer => put_outer(before, reached, i, indices, numbers, k),

@@ -34,14 +34,14 @@
 --   records   list_change (listed-once)
 --   polygon   swept_in (swept-once)
 --   cuts      preview_cut, preview, preview_polygon, thread_cut, thread_cut_inner, drill (Proposals.once of records)
---   changes   apply (applied-once), changes_to (Proposals.once of records)
---   slices    apply, read_changes (Once of slices)
+--   changes   apply, commit (applied-once), changes_to (Proposals.once of records)
+--   slices    apply, read_changes, preview_cut, preview, preview_polygon, changes_to (Once of slices), apply_move (Once.moved-once of moves)
 --   rings     remove_ring (removed-once), remove_rings (Once.stored-once of moves)
 --   moves     apply_move (Once.moved-once of moves), from_parts (Once.stored-once of moves)
 --   envelope  held::Envelope: new (new-once), order (order-once), within (within-once, of the numbers), radius_at (radius-at-once), radius_range (radius-range-once)
 --   spelled   cell_line, ring_line, gen_line, refused_line (wrote-once)
 --   answer    answer_line (wrote-once)
---   job_lines carry_out (Carrying.once of job_lines)
+--   job_lines carry_out (Carrying.once of job_lines; its two lists by the equations of `Lists`)
 --   job_run   take_part (taken-once), output_line (wrote-once)
 --
 -- The calls of the C boundary: proofs/Once of turning.

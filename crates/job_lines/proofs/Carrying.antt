@@ -1,11 +1,11 @@
 -- What a line answers and leaves, by what its rule says. Assumes nothing.
 use mathlib.Core.Path.{_≡_, refl, sym, ap, _∙_, subst}
 use mathlib.Core.Bool.{Bool, true, false}
-use mathlib.Core.List.{List, _++_}
+use mathlib.Core.List.{List, [], _++_}
 use Prim.Native.Nat.{ℕ, _*_, _/_, _<_, _≤_, min}
 use native.Mathlib.Omega.{arith}
 use borrow.Author.Tests.{le-leb, lt-leb, leb-true, leb-false, lt-ltb, le-ltb, eq-eqb, ne-eqb}
-use lib.Dec.{leb}
+use lib.Dec.{leb, ltb, eqb}
 use lib.ListN.{length, take, drop, take-append-drop}
 use lib.Seq.{length-take-le, take-all}
 use lib.Ieee.{Float}
@@ -16,6 +16,7 @@ use Rattle.refusals.specs.Paper.{Paper, answers, refuses, onward, papers, onwar
 use Rattle.refusals.specs.Lent.{over}
 use Rattle.refusals.proofs.OneToOne.{one-to-one}
 use Rattle.stock.specs.declared.TurnStockSpec.{TurnStockSpec}
+use Rattle.stock.specs.declared.TurnChange.{TurnChange}
 use Rattle.stock.specs.declared.Counted.{Counted}
 use Rattle.stock.specs.declared.Counted.the-variants as counted
 use Rattle.stock.specs.Spec.{cleanSpec, cellsOf, countedPaper}
@@ -23,8 +24,10 @@ use Rattle.stock.specs.Cell.{newCells, freshCell, cellsLike, Filled}
 use Rattle.stock.proofs.Cells.{length-like}
 use Rattle.stock.proofs.Count.{no-answer, same-answer}
 use Rattle.stock.proofs.Fresh.{new-is}
-use Rattle.floats.specs.Pick.{picks}
+use Rattle.floats.specs.Pick.{pick, picks}
+use Rattle.records.specs.Change.{numbersOf, writtenOf}
 use Rattle.cuts.specs.declared.Cut.{Cut}
+use Rattle.cuts.specs.Preview.{previewCut}
 use Rattle.changes.specs.declared.Applied.{Applied}
 use Rattle.changes.specs.declared.Applied.the-variants as applied
 use Rattle.changes.specs.Commit.{Committed, Applies}
@@ -39,7 +42,7 @@ use Rattle.words.specs.Kind.{lineOf}
 use Rattle.job_lines.specs.declared.Carried.{Carried}
 use Rattle.job_lines.specs.declared.Job.{Job}
 use Rattle.job_lines.specs.declared.Carried.the-variants as carried
-use Rattle.job_lines.specs.Job.{Stand, stand, lineLimit, madeCut, barLine, cutLine, ringLine, firstLine, laterLine, jobLine, carriedPaper, Carries, CarriesCells, CarriesRings}
+use Rattle.job_lines.specs.Job.{Stand, stand, lineLimit, madeCut, barLine, cutLine, ringLine, firstLine, laterLine, jobLine, lineChanges, jobChanges, carriedPaper, Carries, CarriesCells, CarriesRings, Lists}
 
 -- refused: all stays
 pub refused : (p : Paper Stand) (r : Refusal) (cs rs : List Float) → p ≡ refuses (numberOf r) → Carries p (carried.Refused r) cs cs rs rs
@@ -104,24 +107,34 @@ commit-went (answers k) g cs cs' w =
     ∙ ap (λ (xs : List Float). answers (record { cells = xs; generation = g })) (sym (w .cells))
 commit-went (refuses n) g cs cs' w = absurd (no-answer n g (sym (w .answer)))
 
-module _ (j : Job) (cut : Cut) (cs : List Float) (e : ℕ) (b : e ≡ min (4 * j .cells) (length cs)) (a : Applied) (part' : List Float) (w : Applies (madeCut (j .spec) (take e cs) (j .generation) cut) a (take e cs) part') where
-  of-job : Applies (madeCut (j .spec) (take (4 * j .cells) cs) (j .generation) cut) a (take e cs) part'
-  of-job = subst (λ (xs : List Float). Applies (madeCut (j .spec) xs (j .generation) cut) a (take e cs) part') (ap (λ (k : ℕ). take k cs) b ∙ front (j .cells) cs) w
+module _ (j : Job) (cut : Cut) (room : ℕ) (cs : List Float) (e : ℕ) (b : e ≡ min (4 * j .cells) (length cs)) (a : Applied) (part' : List Float) (w : Applies (madeCut (j .spec) (take e cs) (j .generation) cut room) a (take e cs) part') where
+  of-job : Applies (madeCut (j .spec) (take (4 * j .cells) cs) (j .generation) cut room) a (take e cs) part'
+  of-job = subst (λ (xs : List Float). Applies (madeCut (j .spec) xs (j .generation) cut room) a (take e cs) part') (ap (λ (k : ℕ). take k cs) b ∙ front (j .cells) cs) w
 
-  pub cut-refused : (r : Refusal) → a ≡ applied.Refused r → CarriesCells (cutLine j cut cs) (carried.Refused r) cs (part' ++ drop e cs)
+  pub cut-refused : (r : Refusal) → a ≡ applied.Refused r → CarriesCells (cutLine j cut room cs) (carried.Refused r) cs (part' ++ drop e cs)
   unfolding cutLine
   cut-refused r q rs =
-      let k = commit-refused _ r _ _ (subst (λ (x : Applied). Applies (madeCut (j .spec) (take (4 * j .cells) cs) (j .generation) cut) x (take e cs) part') q of-job) in
+      let k = commit-refused _ r _ _ (subst (λ (x : Applied). Applies (madeCut (j .spec) (take (4 * j .cells) cs) (j .generation) cut room) x (take e cs) part') q of-job) in
       let s : part' ++ drop e cs ≡ cs = ap (λ (xs : List Float). xs ++ drop e cs) (k .1) ∙ take-append-drop e cs in
       rw s (refused _ r cs rs (simp (papers, k .0)))
 
   pub cut-went : (g : ℕ) → a ≡ applied.Generation g → length part' ≡ length (take e cs)
-      → CarriesCells (cutLine j cut cs) (carried.Onward (record { spec = j .spec; cells = j .cells; rings = j .rings; generation = g })) cs (part' ++ drop e cs)
+      → CarriesCells (cutLine j cut room cs) (carried.Onward (record { spec = j .spec; cells = j .cells; rings = j .rings; generation = g })) cs (part' ++ drop e cs)
   unfolding cutLine over
   cut-went g q l rs =
-      let k = commit-went _ g _ _ (subst (λ (x : Applied). Applies (madeCut (j .spec) (take (4 * j .cells) cs) (j .generation) cut) x (take e cs) part') q of-job) in
+      let k = commit-went _ g _ _ (subst (λ (x : Applied). Applies (madeCut (j .spec) (take (4 * j .cells) cs) (j .generation) cut room) x (take e cs) part') q of-job) in
       let z : length part' ≡ e = l ∙ length-take-le e cs (omega arith) in
       went _ _ cs _ rs rs (simp (papers, k, z))
+
+-- the lists of the job's own cells
+pub lists-of : (j : Job) (cut : Cut) (room : ℕ) (cs : List Float) (e : ℕ) → e ≡ min (4 * j .cells) (length cs) → (is is' : List ℕ) (xs xs' : List Float)
+    → Lists (writtenOf (previewCut (j .spec) (take e cs) cut room)) is is' xs xs' → Lists (writtenOf (previewCut (j .spec) (take (4 * j .cells) cs) cut room)) is is' xs xs'
+lists-of j cut room cs e b is is' xs xs' w = subst (λ (ys : List Float). Lists (writtenOf (previewCut (j .spec) ys cut room)) is is' xs xs') (ap (λ (k : ℕ). take k cs) b ∙ front (j .cells) cs) w
+
+-- no changes: the lists stay
+pub unlisted : (l : List TurnChange) (is : List ℕ) (xs : List Float) → l ≡ [] → Lists l is is xs xs
+unfolding over numbersOf
+unlisted l is xs e = rw e (record { indices = refl; numbers = refl })
 
 -- ---- a ring
 
@@ -168,31 +181,51 @@ pub first-bar : (l : Line) (spec : TurnStockSpec) (cs cs' : List Float) (r : Car
 unfolding firstLine
 first-bar l spec cs cs' r e w rs = rw e (w rs)
 
-pub later-cut : (j : Job) (l : Line) (cut : Cut) (cs cs' rs : List Float) (r : Carried) → l ≡ line.Cutting cut → CarriesCells (cutLine j cut cs) r cs cs' → Carries (laterLine j l cs rs) r cs cs' rs rs
+pub later-cut : (j : Job) (l : Line) (cut : Cut) (room : ℕ) (cs cs' rs : List Float) (r : Carried) → l ≡ line.Cutting cut → CarriesCells (cutLine j cut room cs) r cs cs' → Carries (laterLine j l room cs rs) r cs cs' rs rs
 unfolding laterLine
-later-cut j l cut cs cs' rs r e w = rw e (w rs)
+later-cut j l cut room cs cs' rs r e w = rw e (w rs)
 
-pub later-ring : (j : Job) (l : Line) (q : Ring) (cs rs rs' : List Float) (r : Carried) → l ≡ line.Removing q → CarriesRings (ringLine j q) r rs rs' → Carries (laterLine j l cs rs) r cs cs rs rs'
+pub later-ring : (j : Job) (l : Line) (q : Ring) (room : ℕ) (cs rs rs' : List Float) (r : Carried) → l ≡ line.Removing q → CarriesRings (ringLine j q) r rs rs' → Carries (laterLine j l room cs rs) r cs cs rs rs'
 unfolding laterLine
-later-ring j l q cs rs rs' r e w = rw e (w cs)
+later-ring j l q room cs rs rs' r e w = rw e (w cs)
+
+-- its changes
+pub later-lists : (j : Job) (l : Line) (cut : Cut) (room : ℕ) (cs : List Float) (is is' : List ℕ) (xs xs' : List Float) → l ≡ line.Cutting cut → Lists (writtenOf (previewCut (j .spec) (take (4 * j .cells) cs) cut room)) is is' xs xs' → Lists (lineChanges j l room cs) is is' xs xs'
+unfolding lineChanges
+later-lists j l cut room cs is is' xs xs' e w = rw e w
 
 -- a rule that comes to another has its outcome
 pub same-outcome : (p q : Paper Stand) (r : Carried) (cs cs' rs rs' : List Float) → p ≡ q → Carries q r cs cs' rs rs' → Carries p r cs cs' rs rs'
 same-outcome p q r cs cs' rs rs' e w = rw e w
 
 -- ---- the bytes of a line
-module _ (j : Job) (s : List ℕ) (cs rs : List Float) where
-  pub line-long : lineLimit ≤ length s → jobLine j s cs rs ≡ refuses 15
+module _ (j : Job) (s : List ℕ) (room : ℕ) (cs rs : List Float) where
+  pub line-long : lineLimit ≤ length s → jobLine j s room cs rs ≡ refuses 15
   unfolding jobLine
   line-long h = simp (papers, le-ltb (length s) lineLimit h)
 
-  pub line-first : (l : Line) → length s < lineLimit → l ≡ lineOf s → j .cells ≡ 0 → jobLine j s cs rs ≡ firstLine l cs rs
+  pub line-first : (l : Line) → length s < lineLimit → l ≡ lineOf s → j .cells ≡ 0 → jobLine j s room cs rs ≡ firstLine l cs rs
   unfolding jobLine
   line-first l h e z = rw e (simp (papers, picks, lt-ltb (length s) lineLimit h, eq-eqb (j .cells) 0 z))
 
-  pub line-later : (l : Line) → length s < lineLimit → l ≡ lineOf s → (j .cells ≡ 0 → ⊥) → jobLine j s cs rs ≡ laterLine j l cs rs
+  pub line-later : (l : Line) → length s < lineLimit → l ≡ lineOf s → (j .cells ≡ 0 → ⊥) → jobLine j s room cs rs ≡ laterLine j l room cs rs
   unfolding jobLine
   line-later l h e z = rw e (simp (papers, picks, lt-ltb (length s) lineLimit h, ne-eqb (j .cells) 0 z))
+
+module _ (j : Job) (s : List ℕ) (room : ℕ) (cs : List Float) where
+  pub changes-long : lineLimit ≤ length s → jobChanges j s room cs ≡ []
+  unfolding jobChanges
+  changes-long h = simp (picks, le-ltb (length s) lineLimit h)
+
+  pub changes-first : length s < lineLimit → j .cells ≡ 0 → jobChanges j s room cs ≡ []
+  unfolding jobChanges
+  changes-first h z = simp (picks, lt-ltb (length s) lineLimit h, eq-eqb (j .cells) 0 z)
+
+  pub changes-later : (l : Line) → length s < lineLimit → l ≡ lineOf s → (j .cells ≡ 0 → ⊥) → (is is' : List ℕ) (xs xs' : List Float) → Lists (lineChanges j l room cs) is is' xs xs' → Lists (jobChanges j s room cs) is is' xs xs'
+  unfolding jobChanges
+  changes-later l h e z is is' xs xs' w =
+      let q : pick (ltb (length s) lineLimit) (pick (eqb (j .cells) 0) [] (lineChanges j (lineOf s) room cs)) [] ≡ lineChanges j l room cs = simp (picks, lt-ltb (length s) lineLimit h, ne-eqb (j .cells) 0 z) (ap (λ (x : Line). lineChanges j x room cs) (sym e)) in
+      rw q w
 
 -- ---- two outcomes that meet the promise are the same
 same-carried : (r r' : Carried) → carriedPaper r ≡ carriedPaper r' → r ≡ r'
@@ -203,3 +236,6 @@ same-carried (carried.Refused c) (carried.Refused d) e = ap carried.Refused (one
 
 pub once : (p : Paper Stand) (r r' : Carried) (cs cs₁ cs₂ rs rs₁ rs₂ : List Float) → Carries p r cs cs₁ rs rs₁ → Carries p r' cs cs₂ rs rs₂ → (r ≡ r') × (cs₁ ≡ cs₂) × (rs₁ ≡ rs₂)
 once p r r' cs cs₁ cs₂ rs rs₁ rs₂ a b = (same-carried r r' (a .answer ∙ sym (b .answer)), a .cells ∙ sym (b .cells), a .rings ∙ sym (b .rings))
+
+pub lists-once : (l : List TurnChange) (is is₁ is₂ : List ℕ) (xs xs₁ xs₂ : List Float) → Lists l is is₁ xs xs₁ → Lists l is is₂ xs xs₂ → (is₁ ≡ is₂) × (xs₁ ≡ xs₂)
+lists-once l is is₁ is₂ xs xs₁ xs₂ a b = (a .indices ∙ sym (b .indices), a .numbers ∙ sym (b .numbers))

@@ -1,11 +1,11 @@
--- A cut previewed into lists with room for a change of every cell, and committed from them. Assumes nothing.
-use mathlib.Core.Path.{_≡_, sym, ap, _∙_, subst}
+-- A cut previewed into lent lists, and committed from them. Assumes nothing.
+use mathlib.Core.Path.{_≡_, refl, sym, ap, _∙_, subst}
 use mathlib.Core.Bool.{Bool, true, false, not}
 use mathlib.Core.List.{List}
-use Prim.Native.Nat.{ℕ}
+use Prim.Native.Nat.{ℕ, _/_, _≤_, min}
 use native.Mathlib.Omega.{arith}
 use borrow.Author.Tests.{le-leb}
-use lib.ListN.{length, replicate, length-replicate}
+use lib.ListN.{length}
 use lib.Ieee.{Float}
 use Rattle.refusals.specs.declared.Refusal.{Refusal}
 use Rattle.refusals.specs.Number.{numberOf}
@@ -14,33 +14,41 @@ use Rattle.stock.specs.declared.TurnStockSpec.{TurnStockSpec}
 use Rattle.stock.specs.declared.TurnChange.{TurnChange}
 use Rattle.stock.specs.Spec.{cleanSpec}
 use Rattle.stock.specs.Cell.{stockOf}
-use Rattle.stock.proofs.Count.{no-answer}
+use Rattle.stock.proofs.Count.{no-answer, stock-length}
 use Rattle.reach.specs.Reach.{actCell}
 use Rattle.records.specs.declared.Previewed.{Previewed}
 use Rattle.records.specs.declared.Previewed.the-variants.{Changes, Refused}
-use Rattle.records.specs.Change.{changesTo, roomOf, settled, Proposed, countOf}
+use Rattle.records.specs.Change.{changesTo, changesFrom, roomOf, settled, Proposed, countOf, writtenOf}
 use Rattle.cuts.specs.declared.Cut.{Cut}
 use Rattle.cuts.specs.Cut.{cleanCut, cutGood, isArc, cutAct}
 use Rattle.cuts.specs.Preview.{previewCut}
 use Rattle.changes.specs.declared.Applied.{Applied}
 use Rattle.changes.specs.declared.Applied.the-variants as applied
-use Rattle.changes.specs.Commit.{commitOf, applyOf, Applies}
-use Rattle.changes.proofs.Proposal.{wrote, lent-is}
-use Rattle.changes.proofs.Written.{left, same-outcome}
-use Rattle.words.specs.Kind.{maxCells}
-use Rattle.job_lines.specs.Job.{madeCut}
-
--- fresh lists have room for a change of every cell
-fresh-room : (x : ℕ) (y : Float) → roomOf (length (replicate 512 x)) (length (replicate 4096 y)) ≡ maxCells
-fresh-room x y =
-    let a = length-replicate 512 x in
-    let b = length-replicate 4096 y in
-    omega arith
+use Rattle.changes.specs.Commit.{commitOf, commitHeld, applyOf, Applies}
+use Rattle.changes.proofs.Proposal.{wrote, room-kept, lent-is}
+use Rattle.changes.proofs.Written.{apply-is, left, same-outcome, same-spec}
+use Rattle.job_lines.specs.Job.{madeCut, Lists}
 
 -- a proposal that is refused
 counted-none : (p : Paper (List TurnChange)) (n : ℕ) → refuses n ≡ countOf p → p ≡ refuses n
 counted-none (answers l) n e = absurd (no-answer n (length l) e)
 counted-none (refuses m) n e = cc
+
+-- a count that was answered: there is a stock, and the lists hold as many changes
+record Counted (q : Paper ℕ) (k : ℕ) (is' : List ℕ) (xs' : List Float) : Type 0 where
+  cells : ℕ
+  stock : q ≡ answers cells
+  room : k ≤ roomOf (length is') (length xs')
+
+counted : (q : Paper ℕ) (t u : Bool) (f : ℕ → List TurnChange) (k : ℕ) (is is' : List ℕ) (xs xs' : List Float)
+    → Proposed (onward q (λ n. demand t 13 (demand u 5 (settled (roomOf (length is) (length xs)) (f n))))) (Changes k) is is' xs xs' → Counted q k is' xs'
+unfolding demand onward
+counted (refuses n) t u f k is is' xs xs' w = absurd (no-answer n k (sym (w .answer)))
+counted (answers n) false u f k is is' xs xs' w = absurd (no-answer 13 k (sym (w .answer)))
+counted (answers n) true false f k is is' xs xs' w = absurd (no-answer 5 k (sym (w .answer)))
+counted (answers n) true true f k is is' xs xs' w =
+    let v = wrote (f n) k is is' xs xs' w in
+    record { cells = n; stock = refl; room = rw (v .count, v .indices, v .numbers) (room-kept (f n) is xs (v .room)) }
 
 module _ (spec : TurnStockSpec) (cs : List Float) (gen : ℕ) (cut : Cut) where
   none-made : (room : ℕ) (r : Refusal) (is is' : List ℕ) (xs xs' : List Float) → Proposed (previewCut spec cs cut room) (Refused r) is is' xs xs' → onward (previewCut spec cs cut room) (λ l. commitOf spec cs gen l) ≡ refuses (numberOf r)
@@ -67,21 +75,34 @@ module _ (spec : TurnStockSpec) (cs : List Float) (gen : ℕ) (cut : Cut) where
   unfolding previewCut
   all-made k is is' xs xs' p = asked (stockOf spec cs) (not (isArc (cleanCut cut))) (cutGood (cleanCut cut)) (λ n. changesTo (actCell (cutAct (cleanSpec spec) (cleanCut cut))) cs n) k is is' xs xs' p
 
-  pub made-none : (x : ℕ) (y : Float) (previewed : Previewed) (r : Refusal) (is' : List ℕ) (xs' : List Float)
-      → Proposed (previewCut spec cs cut (roomOf (length (replicate 512 x)) (length (replicate 4096 y)))) previewed (replicate 512 x) is' (replicate 4096 y) xs'
-      → previewed ≡ Refused r → Applies (madeCut spec cs gen cut) (applied.Refused r) cs cs
-  unfolding madeCut
-  made-none x y previewed r is' xs' p e =
-      left _ r cs
-      (ap (λ (room : ℕ). onward (previewCut spec cs cut room) (λ l. commitOf spec cs gen l)) (sym (fresh-room x y))
-      ∙ none-made _ r _ is' _ xs' (subst (λ (d : Previewed). Proposed (previewCut spec cs cut (roomOf (length (replicate 512 x)) (length (replicate 4096 y)))) d (replicate 512 x) is' (replicate 4096 y) xs') e p))
+  -- the preview asked for the stock, and wrote what the lists hold: so the commit is the whole one
+  same-commit : (k : ℕ) (is is' : List ℕ) (xs xs' : List Float) → Proposed (previewCut spec cs cut (roomOf (length is) (length xs))) (Changes k) is is' xs xs'
+      → commitHeld (cleanSpec spec) (length cs / 4) cs gen is' xs' k ≡ applyOf spec cs gen is' xs' k
+  unfolding previewCut
+  same-commit k is is' xs xs' p =
+      let a = counted (stockOf spec cs) (not (isArc (cleanCut cut))) (cutGood (cleanCut cut)) (λ n. changesTo (actCell (cutAct (cleanSpec spec) (cleanCut cut))) cs n) k is is' xs xs' p in
+      let e : length cs / 4 ≡ a .cells = omega (arith, stock-length spec cs (a .cells) (a .stock)) in
+      ap (λ (n : ℕ). commitHeld (cleanSpec spec) n cs gen is' xs' k) e ∙ sym (apply-is spec cs gen is' xs' k (a .cells) (a .stock) (a .room))
 
-  pub made-all : (x : ℕ) (y : Float) (previewed : Previewed) (k : ℕ) (is' : List ℕ) (xs' : List Float) (r : Applied) (cs' : List Float)
-      → Proposed (previewCut spec cs cut (roomOf (length (replicate 512 x)) (length (replicate 4096 y)))) previewed (replicate 512 x) is' (replicate 4096 y) xs'
-      → previewed ≡ Changes k → Applies (applyOf spec cs gen is' xs' k) r cs cs' → Applies (madeCut spec cs gen cut) r cs cs'
+  pub made-none : (previewed : Previewed) (r : Refusal) (is is' : List ℕ) (xs xs' : List Float)
+      → Proposed (previewCut spec cs cut (roomOf (length is) (length xs))) previewed is is' xs xs'
+      → previewed ≡ Refused r → Applies (madeCut spec cs gen cut (roomOf (length is) (length xs))) (applied.Refused r) cs cs
   unfolding madeCut
-  made-all x y previewed k is' xs' r cs' p e a =
-      same-outcome _ _ r cs cs'
-      (ap (λ (room : ℕ). onward (previewCut spec cs cut room) (λ l. commitOf spec cs gen l)) (sym (fresh-room x y))
-      ∙ sym (all-made k _ is' _ xs' (subst (λ (d : Previewed). Proposed (previewCut spec cs cut (roomOf (length (replicate 512 x)) (length (replicate 4096 y)))) d (replicate 512 x) is' (replicate 4096 y) xs') e p)))
-      a
+  made-none previewed r is is' xs xs' p e = left _ r cs (none-made _ r is is' xs xs' (subst (λ (d : Previewed). Proposed (previewCut spec cs cut (roomOf (length is) (length xs))) d is is' xs xs') e p))
+
+  pub made-all : (previewed : Previewed) (k : ℕ) (is is' : List ℕ) (xs xs' : List Float) (s : TurnStockSpec) (r : Applied) (cs' : List Float)
+      → Proposed (previewCut spec cs cut (roomOf (length is) (length xs))) previewed is is' xs xs'
+      → previewed ≡ Changes k → s ≡ cleanSpec spec → Applies (commitHeld s (length cs / 4) cs gen is' xs' k) r cs cs' → Applies (madeCut spec cs gen cut (roomOf (length is) (length xs))) r cs cs'
+  unfolding madeCut
+  made-all previewed k is is' xs xs' s r cs' p e q a =
+      let w = subst (λ (d : Previewed). Proposed (previewCut spec cs cut (roomOf (length is) (length xs))) d is is' xs xs') e p in
+      same-outcome _ _ r cs cs' (sym (all-made k is is' xs xs' w) ∙ sym (same-commit k is is' xs xs' w))
+      (same-spec s (cleanSpec spec) (length cs / 4) cs gen (changesFrom is' xs' (min k (roomOf (length is') (length xs')))) r cs cs' q a)
+
+-- the lists after the preview
+pub made-lists : (p : Paper (List TurnChange)) (r : Previewed) (is is' : List ℕ) (xs xs' : List Float) → Proposed p r is is' xs xs' → Lists (writtenOf p) is is' xs xs'
+made-lists p r is is' xs xs' w = record { indices = w .indices; numbers = w .numbers }
+
+-- the preview of a cut that is another by name
+pub same-cut : (spec : TurnStockSpec) (cs : List Float) (room : ℕ) (c d : Cut) → c ≡ d → previewCut spec cs c room ≡ previewCut spec cs d room
+same-cut spec cs room c d e = rw e

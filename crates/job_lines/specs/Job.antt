@@ -1,7 +1,7 @@
 -- What a line does to a job. Assumes nothing.
 use Prim.Native.Nat.{ℕ, _*_}
 use mathlib.Core.Path.{_≡_}
-use mathlib.Core.List.{List}
+use mathlib.Core.List.{List, []}
 use lib.Dec.{eqb, leb, ltb}
 use lib.ListN.{length, take}
 use lib.Ieee.{Float}
@@ -10,8 +10,10 @@ use Rattle.refusals.specs.Paper.{Paper, answers, refuses, demand, onward}
 use Rattle.refusals.specs.Lent.{over}
 use Rattle.floats.specs.Pick.{pick}
 use Rattle.stock.specs.declared.TurnStockSpec.{TurnStockSpec}
+use Rattle.stock.specs.declared.TurnChange.{TurnChange}
 use Rattle.stock.specs.Spec.{cleanSpec, cellsOf}
 use Rattle.stock.specs.Cell.{freshCell, cellsLike}
+use Rattle.records.specs.Change.{indicesOf, numbersOf, roomOf, writtenOf}
 use Rattle.cuts.specs.declared.Cut.{Cut}
 use Rattle.cuts.specs.Preview.{previewCut}
 use Rattle.changes.specs.Commit.{Committed, commitOf}
@@ -28,6 +30,14 @@ use Rattle.job_lines.specs.declared.Carried.the-variants as carried
 -- 128 bytes at most, with the newline
 abbrev pub lineLimit : ℕ
 lineLimit = 128
+
+-- room for a change of every cell
+abbrev pub fullRoom : ℕ
+fullRoom = maxCells
+
+-- two lists with that room
+abbrev pub Full : List ℕ → List Float → Type 0
+Full is xs = roomOf (length is) (length xs) ≡ fullRoom
 
 -- a job, and the lent numbers of its cells and its rings
 pub record Stand : Type 0 where
@@ -47,17 +57,17 @@ barLine spec cs rs =
     demand (leb (4 * n) (length cs)) 3
     (answers (stand (record { spec = spec; cells = n; rings = 0; generation = 0 }) (over (cellsLike (freshCell (cleanSpec spec)) n) cs) rs)))
 
--- a cut: its preview, with room for a change of every cell, and their commit
-unfoldable pub madeCut : TurnStockSpec → List Float → ℕ → Cut → Paper Committed
-madeCut spec cs gen cut = onward (previewCut spec cs cut maxCells) (λ l. commitOf spec cs gen l)
+-- a cut: its preview, with room for so many changes, and their commit
+unfoldable pub madeCut : TurnStockSpec → List Float → ℕ → Cut → ℕ → Paper Committed
+madeCut spec cs gen cut room = onward (previewCut spec cs cut room) (λ l. commitOf spec cs gen l)
 
 -- the job's cells, which stand first in the lent ones
 abbrev pub cellsOfJob : Job → List Float → List Float
 cellsOfJob j cs = take (4 * j .cells) cs
 
-unfoldable pub cutLine : Job → Cut → List Float → List Float → Paper Stand
-cutLine j cut cs rs =
-    onward (madeCut (j .spec) (cellsOfJob j cs) (j .generation) cut) (λ k.
+unfoldable pub cutLine : Job → Cut → ℕ → List Float → List Float → Paper Stand
+cutLine j cut room cs rs =
+    onward (madeCut (j .spec) (cellsOfJob j cs) (j .generation) cut room) (λ k.
     answers (stand (record { spec = j .spec; cells = j .cells; rings = j .rings; generation = k .generation }) (over (k .cells) cs) rs))
 
 -- a ring: one more removed from the stock
@@ -77,18 +87,29 @@ firstLine Arc cs rs = refuses 15
 firstLine Bad cs rs = refuses 15
 
 -- an arc is 13, a second bar 15
-unfoldable pub laterLine : Job → Line → List Float → List Float → Paper Stand
-laterLine j (Bar spec) cs rs = refuses 15
-laterLine j (Cutting cut) cs rs = cutLine j cut cs rs
-laterLine j (Removing q) cs rs = ringLine j q cs rs
-laterLine j Arc cs rs = refuses 13
-laterLine j Bad cs rs = refuses 15
+unfoldable pub laterLine : Job → Line → ℕ → List Float → List Float → Paper Stand
+laterLine j (Bar spec) room cs rs = refuses 15
+laterLine j (Cutting cut) room cs rs = cutLine j cut room cs rs
+laterLine j (Removing q) room cs rs = ringLine j q cs rs
+laterLine j Arc room cs rs = refuses 13
+laterLine j Bad room cs rs = refuses 15
 
 -- the bytes of a line without its newline: 15 where it is too long, then by its place
-unfoldable pub jobLine : Job → List ℕ → List Float → List Float → Paper Stand
-jobLine j s cs rs =
+unfoldable pub jobLine : Job → List ℕ → ℕ → List Float → List Float → Paper Stand
+jobLine j s room cs rs =
     demand (ltb (length s) lineLimit) 15
-    (pick (eqb (j .cells) 0) (firstLine (lineOf s) cs rs) (laterLine j (lineOf s) cs rs))
+    (pick (eqb (j .cells) 0) (firstLine (lineOf s) cs rs) (laterLine j (lineOf s) room cs rs))
+
+-- ---- the changes that a line writes into lists that are lent for them: those that a later cut's preview accepts
+unfoldable pub lineChanges : Job → Line → ℕ → List Float → List TurnChange
+lineChanges j (Bar spec) room cs = []
+lineChanges j (Cutting cut) room cs = writtenOf (previewCut (j .spec) (cellsOfJob j cs) cut room)
+lineChanges j (Removing q) room cs = []
+lineChanges j Arc room cs = []
+lineChanges j Bad room cs = []
+
+unfoldable pub jobChanges : Job → List ℕ → ℕ → List Float → List TurnChange
+jobChanges j s room cs = pick (ltb (length s) lineLimit) (pick (eqb (j .cells) 0) [] (lineChanges j (lineOf s) room cs)) []
 
 -- ---- what the call answers, case by case, and what the lent numbers hold afterwards
 
@@ -121,3 +142,8 @@ CarriesCells p r cs cs' = (rs : List Float) → Carries (p rs) r cs cs' rs rs
 -- and of one that leaves the cells
 abbrev pub CarriesRings : (List Float → List Float → Paper Stand) → Carried → List Float → List Float → Type 0
 CarriesRings p r rs rs' = (cs : List Float) → Carries (p cs rs) r cs cs rs rs'
+
+-- the lent lists with changes over their fronts
+pub record Lists (l : List TurnChange) (is is' : List ℕ) (xs xs' : List Float) : Type 0 where
+  pub indices : is' ≡ over (indicesOf l) is
+  pub numbers : xs' ≡ over (numbersOf l) xs

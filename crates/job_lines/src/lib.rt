@@ -2,11 +2,15 @@
 // caller makes.
 //
 // Between two lines a job is a spec, its counts and its generation by value, and its cells and rings
-// in lent memory. A line that is refused leaves all of them.
+// in lent memory. A line that is refused leaves all of them. Two lists are lent beside them for the
+// changes of a cut, from its preview to its commit.
 ghost use mathlib.Core.Path.{_≡_};
 ghost use Prim.Native.Nat.{_*_, min};
+ghost use lib.ListN.{length};
+ghost use Rattle.records.specs.Change.{roomOf, writtenOf, Proposed};
+ghost use Rattle.cuts.specs.Preview.{previewCut};
 ghost use Rattle.changes.specs.Commit.{Applies};
-ghost use Rattle.job_lines.specs.Job.{madeCut, barLine, cutLine, ringLine, firstLine, laterLine, jobLine, Carries, CarriesCells, CarriesRings};
+ghost use Rattle.job_lines.specs.Job.{madeCut, barLine, cutLine, ringLine, firstLine, laterLine, jobLine, lineChanges, jobChanges, cellsOfJob, Carries, CarriesCells, CarriesRings, Lists};
 use changes::Applied;
 use cuts::Cut;
 use records::Previewed;
@@ -16,13 +20,14 @@ use rings::Ring;
 use stock::Counted;
 use stock::TurnStockSpec;
 use words::Line;
-use words::MAX_CELLS;
 
 // A job line has so many bytes at most, with its newline.
 pub const LINE_LIMIT: usize = 128;
 
-// Eight numbers for the change of every cell.
-const NUMBERS: usize = 4096;
+// Lent lists of these lengths have room for a change of every cell, with eight numbers each.
+pub const INDICES: usize = 512;
+
+pub const NUMBERS: usize = 4096;
 
 // A job between two lines. Before its bar it has no cells.
 pub struct Job {
@@ -38,16 +43,62 @@ pub enum Carried {
     Refused(Refusal),
 }
 
-// A cut previewed and committed, with room for a change of every cell.
-fn make_cut(spec: TurnStockSpec, cells: &mut [f64], generation: u64, cut: Cut) -> Applied
-    ensures { λ r. ⌜ Applies (madeCut spec (now (cells .entry)) generation cut) r (now (cells .entry)) (now (cells .exit)) ⌝ }
+// The preview of a cut, by the call of its kind.
+fn preview_of(
+    spec: TurnStockSpec,
+    cells: &[f64],
+    cut: Cut,
+    indices: &mut [usize],
+    numbers: &mut [f64],
+) -> Previewed
+    ensures { λ r. ⌜ Proposed (previewCut spec (now (cells .entry)) cut (roomOf (length (now (indices .entry))) (length (now (numbers .entry))))) r (now (indices .entry)) (now (indices .exit)) (now (numbers .entry)) (now (numbers .exit)) ⌝ }
 {
-    let mut indices = [0usize; MAX_CELLS];
-    let mut numbers = [0.0f64; NUMBERS];
-    let previewed = cuts::preview_cut(spec, cells, cut, &mut indices, &mut numbers);
+    match cut {
+        Cut::Thread { z0, z1, radius } => {
+            cuts::thread_cut(spec, cells, z0, z1, radius, indices, numbers)
+        }
+        Cut::ThreadInner { z0, z1, radius } => {
+            cuts::thread_cut_inner(spec, cells, z0, z1, radius, indices, numbers)
+        }
+        Cut::Drill {
+            tip_z,
+            radius,
+            cone,
+        } => cuts::drill(spec, cells, tip_z, radius, cone, indices, numbers),
+        Cut::Line {
+            side: _,
+            rn: _,
+            sag: _,
+            a_r: _,
+            a_z: _,
+            b_r: _,
+            b_z: _,
+        } => cuts::preview_cut(spec, cells, cut, indices, numbers),
+        Cut::Arc => cuts::preview_cut(spec, cells, cut, indices, numbers),
+    }
+}
+
+// A cut previewed into the lent lists, and committed from them. A preview that is accepted has asked
+// all that `apply` asks before its commit.
+fn make_cut(
+    spec: TurnStockSpec,
+    cells: &mut [f64],
+    generation: u64,
+    cut: Cut,
+    indices: &mut [usize],
+    numbers: &mut [f64],
+) -> Applied
+    ensures { λ r. ⌜ Applies (madeCut spec (now (cells .entry)) generation cut (roomOf (length (now (indices .entry))) (length (now (numbers .entry))))) r (now (cells .entry)) (now (cells .exit)) ⌝ }
+    ensures { λ r. ⌜ Lists (writtenOf (previewCut spec (now (cells .entry)) cut (roomOf (length (now (indices .entry))) (length (now (numbers .entry)))))) (now (indices .entry)) (now (indices .exit)) (now (numbers .entry)) (now (numbers .exit)) ⌝ }
+{
+    let previewed = preview_of(spec, cells, cut, indices, numbers);
     match previewed {
         Previewed::Refused(r) => Applied::Refused(r),
-        Previewed::Changes(k) => changes::apply(spec, cells, generation, &indices, &numbers, k),
+        Previewed::Changes(k) => {
+            let s = stock::clean_spec(spec);
+            let n = cells.len() / 4;
+            changes::commit(s, n, cells, generation, indices, numbers, k)
+        }
     }
 }
 
@@ -82,12 +133,26 @@ fn take_bar(spec: TurnStockSpec, cells: &mut [f64]) -> Carried
 }
 
 // A cut of the job's cells.
-fn take_cut(job: Job, cells: &mut [f64], cut: Cut) -> Carried
-    ensures { λ r. ⌜ CarriesCells (cutLine job cut (now (cells .entry))) r (now (cells .entry)) (now (cells .exit)) ⌝ }
+fn take_cut(
+    job: Job,
+    cells: &mut [f64],
+    cut: Cut,
+    indices: &mut [usize],
+    numbers: &mut [f64],
+) -> Carried
+    ensures { λ r. ⌜ CarriesCells (cutLine job cut (roomOf (length (now (indices .entry))) (length (now (numbers .entry)))) (now (cells .entry))) r (now (cells .entry)) (now (cells .exit)) ⌝ }
+    ensures { λ r. ⌜ Lists (writtenOf (previewCut (job .spec) (cellsOfJob job (now (cells .entry))) cut (roomOf (length (now (indices .entry))) (length (now (numbers .entry)))))) (now (indices .entry)) (now (indices .exit)) (now (numbers .entry)) (now (numbers .exit)) ⌝ }
 {
     let spec = job.spec;
     let end = places(job.cells, cells.len());
-    let applied = make_cut(spec, &mut cells[..end], job.generation, cut);
+    let applied = make_cut(
+        spec,
+        &mut cells[..end],
+        job.generation,
+        cut,
+        indices,
+        numbers,
+    );
     match applied {
         Applied::Refused(r) => Carried::Refused(r),
         Applied::Generation(generation) => Carried::Onward(Job {
@@ -130,11 +195,19 @@ fn first_line(line: Line, cells: &mut [f64]) -> Carried
 }
 
 // A later line, which is none.
-fn later_line(job: Job, line: Line, cells: &mut [f64], rings: &mut [f64]) -> Carried
-    ensures { λ r. ⌜ Carries (laterLine job line (now (cells .entry)) (now (rings .entry))) r (now (cells .entry)) (now (cells .exit)) (now (rings .entry)) (now (rings .exit)) ⌝ }
+fn later_line(
+    job: Job,
+    line: Line,
+    cells: &mut [f64],
+    rings: &mut [f64],
+    indices: &mut [usize],
+    numbers: &mut [f64],
+) -> Carried
+    ensures { λ r. ⌜ Carries (laterLine job line (roomOf (length (now (indices .entry))) (length (now (numbers .entry)))) (now (cells .entry)) (now (rings .entry))) r (now (cells .entry)) (now (cells .exit)) (now (rings .entry)) (now (rings .exit)) ⌝ }
+    ensures { λ r. ⌜ Lists (lineChanges job line (roomOf (length (now (indices .entry))) (length (now (numbers .entry)))) (now (cells .entry))) (now (indices .entry)) (now (indices .exit)) (now (numbers .entry)) (now (numbers .exit)) ⌝ }
 {
     match line {
-        Line::Cutting(cut) => take_cut(job, cells, cut),
+        Line::Cutting(cut) => take_cut(job, cells, cut, indices, numbers),
         Line::Removing(ring) => take_ring(job, rings, ring),
         Line::Arc => Carried::Refused(Refusal::Arc),
         Line::Bar(_) => Carried::Refused(Refusal::LineMalformed),
@@ -142,9 +215,18 @@ fn later_line(job: Job, line: Line, cells: &mut [f64], rings: &mut [f64]) -> Car
     }
 }
 
-// A line without its newline, carried out; 15, 13, or what its call refuses.
-pub fn carry_out(job: Job, line: &[u8], cells: &mut [f64], rings: &mut [f64]) -> Carried
-    ensures { λ r. ⌜ Carries (jobLine job (now (line .entry)) (now (cells .entry)) (now (rings .entry))) r (now (cells .entry)) (now (cells .exit)) (now (rings .entry)) (now (rings .exit)) ⌝ }
+// A line without its newline, carried out; 15, 13, or what its call refuses. The lists are left with the
+// changes that a cut proposed over their fronts.
+pub fn carry_out(
+    job: Job,
+    line: &[u8],
+    cells: &mut [f64],
+    rings: &mut [f64],
+    indices: &mut [usize],
+    numbers: &mut [f64],
+) -> Carried
+    ensures { λ r. ⌜ Carries (jobLine job (now (line .entry)) (roomOf (length (now (indices .entry))) (length (now (numbers .entry)))) (now (cells .entry)) (now (rings .entry))) r (now (cells .entry)) (now (cells .exit)) (now (rings .entry)) (now (rings .exit)) ⌝ }
+    ensures { λ r. ⌜ Lists (jobChanges job (now (line .entry)) (roomOf (length (now (indices .entry))) (length (now (numbers .entry)))) (now (cells .entry))) (now (indices .entry)) (now (indices .exit)) (now (numbers .entry)) (now (numbers .exit)) ⌝ }
 {
     if LINE_LIMIT <= line.len() {
         return Carried::Refused(Refusal::LineMalformed);
@@ -153,5 +235,5 @@ pub fn carry_out(job: Job, line: &[u8], cells: &mut [f64], rings: &mut [f64]) ->
     if job.cells == 0 {
         return first_line(read, cells);
     }
-    later_line(job, read, cells, rings)
+    later_line(job, read, cells, rings, indices, numbers)
 }

@@ -15,7 +15,7 @@ use Rattle.job_lines.specs.declared.Job.{Job}
 use Rattle.job_lines.specs.declared.Carried.{Carried}
 use Rattle.job_lines.specs.declared.Carried.the-variants as carried
 use Rattle.job_lines.proofs.Carrying.{same-number}
-use Rattle.job_lines.specs.Job.{Stand, jobLine, Carries}
+use Rattle.job_lines.specs.Job.{Stand, fullRoom, jobLine, Carries}
 use Rattle.answer.specs.Answer.{answerOf}
 use Rattle.job_run.specs.declared.Run.{Run}
 use Rattle.job_run.specs.Run.{State, state, next, refusedWith, refusing, answered, onLine, onLong, hold, roomOf, byteOn, finishOf, outputOf}
@@ -38,9 +38,9 @@ carried-went (answers s) r j cs cs' rs rs' w =
     ∙ ap (λ (x : List Float). state (record { job = s .job; lines = next r; refused = 0 }) x rs') (w .cells)
     ∙ ap (λ (x : List Float). state (record { job = s .job; lines = next r; refused = 0 }) (s .cells) x) (w .rings)
 
-module _ (r : Run) (s : List ℕ) (cs cs' rs rs' : List Float) (d : Carried) (w : Carries (jobLine (r .job) s cs rs) d cs cs' rs rs') where
-  told : (x : Carried) → d ≡ x → Carries (jobLine (r .job) s cs rs) x cs cs' rs rs'
-  told x e = subst (λ (y : Carried). Carries (jobLine (r .job) s cs rs) y cs cs' rs rs') e w
+module _ (r : Run) (s : List ℕ) (room : ℕ) (full : room ≡ fullRoom) (cs cs' rs rs' : List Float) (d : Carried) (w : Carries (jobLine (r .job) s room cs rs) d cs cs' rs rs') where
+  told : (x : Carried) → d ≡ x → Carries (jobLine (r .job) s fullRoom cs rs) x cs cs' rs rs'
+  told x e = subst (λ (y : Carried). Carries (jobLine (r .job) s fullRoom cs rs) y cs cs' rs rs') e (subst (λ (n : ℕ). Carries (jobLine (r .job) s n cs rs) d cs cs' rs rs') full w)
 
   pub line-refused : (c : Refusal) (q : Run) → d ≡ carried.Refused c → q ≡ refusing r c → state q cs' rs' ≡ onLine (state r cs rs) s
   unfolding onLine

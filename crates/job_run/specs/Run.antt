@@ -11,7 +11,7 @@ use Rattle.refusals.specs.Number.{numberOf}
 use Rattle.refusals.specs.Paper.{Paper, answers, refuses}
 use Rattle.floats.specs.Pick.{pick}
 use Rattle.floats.specs.Numbers.{zero64}
-use Rattle.job_lines.specs.Job.{Stand, lineLimit, jobLine}
+use Rattle.job_lines.specs.Job.{Stand, lineLimit, fullRoom, jobLine}
 use Rattle.answer.specs.Answer.{answerOf}
 use Rattle.job_run.specs.declared.Run.{Run}
 use Rattle.job_run.specs.File.{overPieces, piecesOf}
@@ -52,9 +52,9 @@ unfoldable pub answered : State → Paper Stand → State
 answered st (answers s) = state (record { job = s .job; lines = next (st .run); refused = 0 }) (s .cells) (s .rings)
 answered st (refuses n) = state (refusedWith (st .run) n) (st .cells) (st .rings)
 
--- the next line carried out
+-- the next line carried out, with room for a change of every cell
 unfoldable pub onLine : State → List ℕ → State
-onLine st s = answered st (jobLine (st .run .job) s (st .cells) (st .rings))
+onLine st s = answered st (jobLine (st .run .job) s fullRoom (st .cells) (st .rings))
 
 -- a line that is too long, or that the input's end cuts off, and an input with no line
 abbrev pub onLong : State → State

@@ -6,12 +6,14 @@ ghost use mathlib.Core.Path.{_≡_};
 ghost use mathlib.Core.List.{[], foldl};
 ghost use Prim.Native.Nat.{_-_, _*_, _≤_, min};
 ghost use lib.ListN.{length, take, getD};
-ghost use Rattle.job_lines.specs.Job.{lineLimit};
+ghost use Rattle.job_lines.specs.Job.{lineLimit, Full};
 ghost use Rattle.spelled.specs.Wrote.{Wrote};
 ghost use Rattle.job_run.specs.Run.{state, freshRun, refusing, onLine, hold, byteOn, finishOf, outputOf};
 use job_lines::Carried;
+use job_lines::INDICES;
 use job_lines::Job;
 use job_lines::LINE_LIMIT;
+use job_lines::NUMBERS;
 use refusals::Refusal;
 use stock::TurnStockSpec;
 
@@ -64,12 +66,20 @@ fn refuse(run: Run, refusal: Refusal) -> Run
     }
 }
 
-// The next line carried out.
-fn on_line(run: Run, cells: &mut [f64], rings: &mut [f64], line: &[u8]) -> Run
+// The next line carried out, with two lists for the changes of a cut.
+fn on_line(
+    run: Run,
+    cells: &mut [f64],
+    rings: &mut [f64],
+    line: &[u8],
+    indices: &mut [usize],
+    numbers: &mut [f64],
+) -> Run
+    requires { ⌜ Full (now indices) (now numbers) ⌝ }
     ensures { λ r. ⌜ state r (now (cells .exit)) (now (rings .exit)) ≡ onLine (state run (now (cells .entry)) (now (rings .entry))) (now (line .entry)) ⌝ }
 {
     let job = run.job;
-    let carried = job_lines::carry_out(job, line, cells, rings);
+    let carried = job_lines::carry_out(job, line, cells, rings, indices, numbers);
     match carried {
         Carried::Refused(r) => refuse(run, r),
         Carried::Onward(next) => Run {
@@ -109,14 +119,17 @@ fn take_byte(
     line: &mut [u8],
     len: usize,
     byte: u8,
+    indices: &mut [usize],
+    numbers: &mut [f64],
 ) -> Taken
+    requires { ⌜ Full (now indices) (now numbers) ⌝ }
     ensures { λ r. ⌜ hold (state (r .run) (now (cells .exit)) (now (rings .exit))) (now (line .exit)) (r .len) ≡ byteOn (hold (state run (now (cells .entry)) (now (rings .entry))) (now (line .entry)) len) byte ⌝ }
 {
     if run.refused != 0 {
         return Taken { run, len };
     }
     if byte == 10 {
-        let after = on_line(run, cells, rings, held(line, len));
+        let after = on_line(run, cells, rings, held(line, len), indices, numbers);
         return Taken { run: after, len: 0 };
     }
     if len < room(line.len()) {
@@ -129,7 +142,8 @@ fn take_byte(
     }
 }
 
-// Some bytes more. The unfinished line is the first len bytes of `line`.
+// Some bytes more. The unfinished line is the first len bytes of `line`. The lists for the changes of
+// a cut are made once for all of these bytes.
 pub fn take_part(
     run: Run,
     cells: &mut [f64],
@@ -140,11 +154,22 @@ pub fn take_part(
 ) -> Taken
     ensures { λ r. ⌜ hold (state (r .run) (now (cells .exit)) (now (rings .exit))) (now (line .exit)) (r .len) ≡ foldl byteOn (hold (state run (now (cells .entry)) (now (rings .entry))) (now (line .entry)) len) (now (bytes .entry)) ⌝ }
 {
+    let mut indices = [0usize; INDICES];
+    let mut numbers = [0.0f64; NUMBERS];
     let mut k = run;
     let mut n = len;
     let mut i: usize = 0;
     while i < bytes.len() {
-        let t = take_byte(k, cells, rings, line, n, bytes[i]);
+        let t = take_byte(
+            k,
+            cells,
+            rings,
+            line,
+            n,
+            bytes[i],
+            &mut indices,
+            &mut numbers,
+        );
         k = t.run;
         n = t.len;
         i += 1;

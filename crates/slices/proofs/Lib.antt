@@ -4,3 +4,7 @@ pub mod Again
 pub mod Once
 pub mod Reading
 pub mod Shown
+pub mod Rooms
+pub mod Arrays
+pub mod Decided
+pub mod Agree

@@ -3,12 +3,13 @@
 --     none-left        nothing is left from i: then i is no index
 --     offset-fits      where record i of n begins, at 72 bytes a record, fits a usize
 --     holds, fails     a test's truth value, from what it decides
+--     fell, held       what a test says whose negation was taken, or was not
 use mathlib.Core.Path.{_≡_, refl, sym, _∙_, ap, subst}
 use Prim.Native.Nat.{ℕ, zero, suc, _+_, _<_, _^_, _*_}
 use native.Mathlib.Nat.{zero-lt-suc, not-suc-le-zero, le-of-suc-le-suc}
 use native.Mathlib.Numerals.{add-one}
 use native.Mathlib.Omega.{arith}
-use mathlib.Core.Bool.{Bool, true, false}
+use mathlib.Core.Bool.{Bool, true, false, not}
 use mathlib.Core.List.{List, [], _∷_}
 use lib.Dec.{T}
 use lib.ListN.{length, getD, drop}
@@ -26,6 +27,15 @@ holds false a = absurd a
 pub fails : (t : Bool) → (T t → ⊥) → t ≡ false
 fails true f = absurd (f tt)
 fails false _ = refl
+
+-- how the test of an answer comes out
+pub fell : (a t : Bool) → a ≡ t → T (not a) → t ≡ false
+fell true t e h = absurd h
+fell false t e h = sym e
+
+pub held : (a t : Bool) → a ≡ t → T (not (not a)) → t ≡ true
+held true t e h = sym e
+held false t e h = absurd h
 
 pub offset-fits : (n i : ℕ) → i < n → n * 72 < 2 ^ 63 → i * 72 < 2 ^ 64
 offset-fits n i l g = omega (arith, l, g)

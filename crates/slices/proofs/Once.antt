@@ -10,11 +10,14 @@ use Rattle.refusals.specs.Lent.{over}
 use Rattle.refusals.proofs.OneToOne.{one-to-one}
 use Rattle.stock.specs.declared.TurnChange.{TurnChange}
 use Rattle.stock.proofs.Count.{same-answer}
+use Rattle.records.specs.declared.Previewed.{Previewed}
 use Rattle.records.specs.Change.{changesFrom}
+use Rattle.records.proofs.Proposals.{same-previewed}
 use Rattle.changes.specs.declared.Applied.{Applied}
 use Rattle.changes.specs.declared.Applied.the-variants as applied
 use Rattle.changes.specs.Commit.{Committed, appliedPaper, Applies}
 use Rattle.slices.specs.Read.{Reads}
+use Rattle.slices.specs.Proposal.{Written}
 
 -- ---- a commit
 same-applied : (r r' : Applied) → appliedPaper r ≡ appliedPaper r' → r ≡ r'
@@ -32,3 +35,7 @@ pub read-once : (is : List ℕ) (xs : List Float) (k r r' : ℕ) (l l₁ l₂ : 
 read-once is xs k r r' l l₁ l₂ a b =
     let e : r ≡ r' = a .count ∙ sym (b .count) in
     (e, a .records ∙ ap (λ (m : ℕ). over (changesFrom is xs m) l) e ∙ sym (b .records))
+
+-- ---- records after a proposal: the answer, and the records
+pub written-once : (p : Paper (List TurnChange)) (r r' : Previewed) (l l₁ l₂ : List TurnChange) → Written p r l l₁ → Written p r' l l₂ → (r ≡ r') × (l₁ ≡ l₂)
+written-once p r r' l l₁ l₂ a b = (same-previewed r r' (a .answer ∙ sym (b .answer)), a .records ∙ sym (b .records))

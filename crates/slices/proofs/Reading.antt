@@ -18,6 +18,10 @@ held-records a b k n = omega arith
 pub held-room : (a b k n : ℕ) → heldOf a b k n ≤ roomOf a b
 held-room a b k n = omega arith
 
+-- all that are asked for, where there is room for them
+pub held-all : (a b k n : ℕ) → k ≤ roomOf a b → k ≤ n → heldOf a b k n ≡ k
+held-all a b k n h g = omega arith
+
 pub held-asked : (a b k n : ℕ) → heldOf a b k n ≤ k
 held-asked a b k n = omega arith
 

@@ -11,10 +11,8 @@ use Rattle.records.specs.declared.Previewed.the-variants.{Changes}
 use Rattle.records.specs.Change.{roomOf, indicesOf, numbersOf, changesFrom, settled, Proposed}
 use Rattle.records.proofs.ReadBack.{read-back}
 use Rattle.changes.proofs.Proposal.{wrote, room-kept}
-use Rattle.slices.specs.Read.{heldOf, Reads}
-
-all-held : (a b k n : ℕ) → k ≤ roomOf a b → k ≤ n → heldOf a b k n ≡ k
-all-held a b k n h g = omega arith
+use Rattle.slices.specs.Read.{Reads}
+use Rattle.slices.proofs.Reading.{held-all}
 
 module _ (l : List TurnChange) (k : ℕ) (is is' : List ℕ) (xs xs' : List Float) (p : Proposed (settled (roomOf (length is) (length xs)) l) (Changes k) is is' xs xs') where
   back : changesFrom is' xs' k ≡ l
@@ -34,5 +32,5 @@ module _ (l : List TurnChange) (k : ℕ) (is is' : List ℕ) (xs xs' : List Floa
   -- where there are records enough, they hold the changes over the front, and the rest as it was
   pub shown : (r : ℕ) (cs cs' : List TurnChange) → k ≤ length cs → Reads is' xs' k r cs cs' → (r ≡ k) × (cs' ≡ over l cs)
   shown r cs cs' g q =
-      let e : r ≡ k = q .count ∙ all-held (length is') (length xs') k (length cs) room g in
+      let e : r ≡ k = q .count ∙ held-all (length is') (length xs') k (length cs) room g in
       (e, q .records ∙ ap (λ (m : ℕ). over (changesFrom is' xs' m) cs) e ∙ ap (λ (x : List TurnChange). over x cs) back)

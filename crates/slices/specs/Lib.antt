@@ -1,2 +1,4 @@
 pub mod Decide
 pub mod Read
+pub mod Proposal
+pub mod Move

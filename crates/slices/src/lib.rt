@@ -1,9 +1,10 @@
-// The change list as a lent slice of records, behind a thin commit.
+// The change list as a lent slice of records: commit and move, the previews and the difference.
 //
-// Each record is handed by value to a check of one change. The whole list is decided before a cell
-// is written: its indices rise, and each change in turn leaves a cell that fits, names a bin that
-// holds its before-cell, and only removes material. What a preview wrote into flat lists is read
-// into records the same way, one by one.
+// A commit hands each record by value to a check of one change. The whole list is decided before a
+// cell is written: its indices rise, and each change in turn leaves a cell that fits, names a bin that
+// holds its before-cell, and only removes material. A move decides its list the same way, and then
+// takes its rings. A preview lists its changes in flat lists of its own, with room for every cell, and
+// what they hold is read into the lent records one by one.
 ghost use mathlib.Core.Path.{_≡_};
 ghost use Prim.Native.Nat.{_<_, min};
 ghost use lib.ListN.{length};
@@ -11,15 +12,28 @@ ghost use Rattle.refusals.specs.Paper.{onward};
 ghost use Rattle.stock.specs.Cell.{putCell};
 ghost use Rattle.records.specs.Change.{roomOf, changeFrom};
 ghost use Rattle.changes.specs.Commit.{passes, passingPaper, commitOf, generationOf, appliedPaper, putAll, Applies};
+ghost use Rattle.cuts.specs.Preview.{previewCut, previewNose, previewPolygon};
+ghost use Rattle.changes.specs.Difference.{differenceOf};
+ghost use Rattle.moves.specs.Move.{Moves};
 ghost use Rattle.slices.specs.Read.{heldOf, Reads};
+ghost use Rattle.slices.specs.Move.{moveListOf};
+ghost use Rattle.slices.specs.Proposal.{proposalOf, Written};
 ghost use Rattle.slices.specs.Decide.{Begun, Stepped, Concludes, isAccepted};
 use changes::Applied;
 use changes::Passing;
+use cuts::Cut;
+use moves::Moved;
+use proposal::Proposal;
+use records::Previewed;
 use refusals::LAST_GENERATION;
 use refusals::Refusal;
 use stock::Counted;
 use stock::TurnChange;
+use stock::TurnSide;
 use stock::TurnStockSpec;
+
+mod moving;
+mod proposal;
 
 // How far a list of changes is decided: against n cells of a clean spec, with the last index seen,
 // if any.
@@ -184,6 +198,28 @@ pub fn apply(
     answer
 }
 
+// Commit the changes and take the rings `removed`: the count of rings and the generation afterwards;
+// 1, 2, 3, 4, 10, 7, then change by change 8 before 9, 12, 11.
+pub fn apply_move(
+    spec: TurnStockSpec,
+    cells: &mut [f64],
+    rings: &mut [f64],
+    count: usize,
+    generation: u64,
+    changes: &[TurnChange],
+    removed: &[f64],
+) -> Moved
+    ensures { λ r. ⌜ Moves (moveListOf spec (now (cells .entry)) (now (rings .entry)) count generation (now (changes .entry)) (now (removed .entry))) r (now (cells .entry)) (now (cells .exit)) (now (rings .entry)) (now (rings .exit)) ⌝ }
+{
+    let decided = decide(spec, cells, 0, changes);
+    let answer = moving::store(spec, cells, rings, count, generation, decided, removed);
+    if !moving::is_stored(answer) {
+        return answer;
+    }
+    put_all(cells, changes);
+    answer
+}
+
 fn lesser(a: usize, b: usize) -> usize
     ensures { λ r. ⌜ r ≡ min a b ⌝ }
 {
@@ -231,4 +267,87 @@ pub fn read_changes(
         i += 1;
     }
     held
+}
+
+// The changes of a proposal, as records: listed in flat lists with room for a change a cell, then
+// read from there.
+fn propose(
+    spec: TurnStockSpec,
+    cells: &[f64],
+    what: Proposal,
+    beside: &[f64],
+    changes: &mut [TurnChange],
+) -> Previewed
+    ensures { λ r. ⌜ Written (proposalOf spec (now (cells .entry)) what (now (beside .entry)) (length (now (changes .entry)))) r (now (changes .entry)) (now (changes .exit)) ⌝ }
+{
+    let mut indices = [0usize; 4096];
+    let mut numbers = [0.0f64; 32768];
+    let answer = proposal::list(
+        spec,
+        cells,
+        what,
+        beside,
+        changes.len(),
+        &mut indices,
+        &mut numbers,
+    );
+    let k = proposal::count_of(answer);
+    read_changes(&indices, &numbers, k, changes);
+    answer
+}
+
+// The changes of a single cut, as records; 1, 2, 3, 13, 5, 6.
+pub fn preview_cut(
+    spec: TurnStockSpec,
+    cells: &[f64],
+    cut: Cut,
+    changes: &mut [TurnChange],
+) -> Previewed
+    ensures { λ r. ⌜ Written (previewCut spec (now (cells .entry)) cut (length (now (changes .entry)))) r (now (changes .entry)) (now (changes .exit)) ⌝ }
+{
+    let what = proposal::single(cut);
+    propose(spec, cells, what, cells, changes)
+}
+
+// A nose of radius rn, swept along segments, as records; 1, 2, 3, 5, 6.
+pub fn preview(
+    spec: TurnStockSpec,
+    cells: &[f64],
+    side: TurnSide,
+    rn: f64,
+    segments: &[f64],
+    changes: &mut [TurnChange],
+) -> Previewed
+    ensures { λ r. ⌜ Written (previewNose spec (now (cells .entry)) side rn (now (segments .entry)) (length (now (changes .entry)))) r (now (changes .entry)) (now (changes .exit)) ⌝ }
+{
+    let what = proposal::nose(side, rn);
+    propose(spec, cells, what, segments, changes)
+}
+
+// A convex polygon, as records; 1, 2, 3, 5, 6.
+pub fn preview_polygon(
+    spec: TurnStockSpec,
+    cells: &[f64],
+    side: TurnSide,
+    excess: f64,
+    points: &[f64],
+    changes: &mut [TurnChange],
+) -> Previewed
+    ensures { λ r. ⌜ Written (previewPolygon spec (now (cells .entry)) side excess (now (points .entry)) (length (now (changes .entry)))) r (now (changes .entry)) (now (changes .exit)) ⌝ }
+{
+    let what = proposal::polygon(side, excess);
+    propose(spec, cells, what, points, changes)
+}
+
+// The changes that turn one stock into another of the same spec, as records; 1, 2, 3, 6.
+pub fn changes_to(
+    spec: TurnStockSpec,
+    cells: &[f64],
+    after: &[f64],
+    changes: &mut [TurnChange],
+) -> Previewed
+    ensures { λ r. ⌜ Written (differenceOf spec (now (cells .entry)) (now (after .entry)) (length (now (changes .entry)))) r (now (changes .entry)) (now (changes .exit)) ⌝ }
+{
+    let what = proposal::difference();
+    propose(spec, cells, what, after, changes)
 }

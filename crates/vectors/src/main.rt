@@ -3,7 +3,7 @@
 //
 // A line has the call's name, its inputs, `=`, and the number that it answers, followed where that
 // is 0 by what it wrote. Fields are parted by single spaces. An f64 is the 16 digits of its bits,
-// everything else is decimal. The recorded calls are `compare record 20 2026`, with the answers of
+// everything else is decimal. The recorded calls are `compare record 160 2026`, with the answers of
 // the Rust.
 mod lists;
 mod plain;

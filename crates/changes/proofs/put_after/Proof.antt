@@ -22,11 +22,11 @@ loop-holds c = (search needs, search needs, refl)
 
 loop-again : tie.Need-loop-again Inv-loop μ-loop
 loop-again c =
-    let b = c .before .before .before .before .before .before in
+    let b = c .before .before .before .before .before .before .before in
     let s = b .before .before .before .before .before in (
       omega arith,
       b .loop .inv .1,
-      c .before .before .put-cell .ensures ∙ (simp (c .before .before .before .before .change-at .ensures, b .loop .inv .2)) ∙ sym (put-next (s .args .cells .now) (s .args .indices .now) (s .args .numbers .now) (b .loop .i)),
+      c .before .before .put-cell .ensures ∙ (simp (c .before .before .before .before .cell-at .ensures, b .loop .inv .2)) ∙ sym (put-next (s .args .cells .now) (s .args .indices .now) (s .args .numbers .now) (b .loop .i)),
     )
 
 same-length : tie.Need-same-length Inv-loop μ-loop
@@ -48,6 +48,10 @@ put-after-spec =
     μ-loop
     (λ c κs. search needs)
     loop-holds
+    (λ c. omega arith)
+    (λ c. omega arith)
+    (λ c. omega arith)
+    (λ c. omega arith)
     (λ c κs. search needs)
     (λ c κs. search needs)
     (λ c. search needs)

@@ -1,72 +1,74 @@
 -- `job_lines::later_line` meets its contract. Assumes nothing.
 use mathlib.Core.Path.{ap}
+use borrow.Author.Needs.{needs}
+use lib.ListN.{length}
 use Rattle.words.specs.declared.Line.{Line}
 use Rattle.refusals.specs.declared.Refusal.the-variants.{Arc, LineMalformed}
-use Rattle.job_lines.specs.Job.{laterLine}
-use Rattle.job_lines.proofs.Carrying.{later-cut, later-ring, refused}
-use borrow.Author.Needs.{needs}
+use Rattle.records.specs.Change.{roomOf}
+use Rattle.job_lines.specs.Job.{laterLine, lineChanges}
+use Rattle.job_lines.proofs.Carrying.{later-cut, later-lists, later-ring, refused, unlisted}
 use Rattle.job_lines.proofs.later_line.Statement.{statement}
 use Rattle.job_lines.proofs.later_line.Tie as tie
 
-enum-known-line : tie.Need-enum-known-line
-enum-known-line c = search needs
-
-take-cut-requires : tie.Need-take-cut-requires
-take-cut-requires c κs = search needs
-
-enum-known-line-2 : tie.Need-enum-known-line-2
-enum-known-line-2 c = search needs
-
-take-ring-requires : tie.Need-take-ring-requires
-take-ring-requires c κs = search needs
-
-enum-told : tie.Need-enum-told
-enum-told c = search needs
-
-enum-told-2 : tie.Need-enum-told-2
-enum-told-2 c = search needs
-
-enum-told-3 : tie.Need-enum-told-3
-enum-told-3 c = search needs
-
-same-length : tie.Need-same-length
-same-length c = search needs
-
 returns : tie.Need-returns
-returns c = later-cut _ _ _ _ _ _ _ (c .before .before .before .before .before .line .given .1) (c .before .before .take-cut .ensures)
-
-same-length-2 : tie.Need-same-length-2
-same-length-2 c = search needs
+returns c =
+    let d = c .before .before .before .before .before .before in
+    let l = d .before .before .before .before .before in
+    (later-cut _ _ _ _ _ _ _ _ (l .line .given .1) (d .take-cut .ensures .0), later-lists _ _ _ _ _ _ _ _ _ (l .line .given .1) (d .take-cut .ensures .1))
 
 returns-2 : tie.Need-returns-2
-returns-2 c = later-ring _ _ _ _ _ _ _ (c .before .before .before .before .before .line2 .given .1) (c .before .before .take-ring .ensures)
+unfolding lineChanges
+returns-2 c =
+    let a = c .before .before .before .before .before .before .before .before .before .before .before .args in
+    let l = c .before .before .before .before .before in
+    let room = roomOf (length (a .indices .now)) (length (a .numbers .now)) in (
+      later-ring _ _ _ _ _ _ _ _ (l .line2 .given .1) (c .before .before .take-ring .ensures),
+      unlisted _ _ _ (ap (λ (x : Line). lineChanges (a .job) x room (a .cells .now)) (l .line2 .given .1)),
+    )
 
 returns-3 : tie.Need-returns-3
-unfolding laterLine
-returns-3 c = let a = c .before .before .before .before .args in refused _ Arc _ _ (ap (λ (l : Line). laterLine (a .job) l (a .cells .now) (a .rings .now)) (c .enum-told .given .1))
+unfolding laterLine lineChanges
+returns-3 c =
+    let a = c .before .before .before .before .before .before .args in
+    let room = roomOf (length (a .indices .now)) (length (a .numbers .now)) in (
+      refused _ Arc _ _ (ap (λ (l : Line). laterLine (a .job) l room (a .cells .now) (a .rings .now)) (c .enum-told .given .1)),
+      unlisted _ _ _ (ap (λ (l : Line). lineChanges (a .job) l room (a .cells .now)) (c .enum-told .given .1)),
+    )
 
 returns-4 : tie.Need-returns-4
-unfolding laterLine
-returns-4 c = let a = c .before .before .before .before .args in refused _ LineMalformed _ _ (ap (λ (l : Line). laterLine (a .job) l (a .cells .now) (a .rings .now)) (c .enum-told2 .given .1))
+unfolding laterLine lineChanges
+returns-4 c =
+    let a = c .before .before .before .before .before .before .args in
+    let room = roomOf (length (a .indices .now)) (length (a .numbers .now)) in (
+      refused _ LineMalformed _ _ (ap (λ (l : Line). laterLine (a .job) l room (a .cells .now) (a .rings .now)) (c .enum-told2 .given .1)),
+      unlisted _ _ _ (ap (λ (l : Line). lineChanges (a .job) l room (a .cells .now)) (c .enum-told2 .given .1)),
+    )
 
 returns-5 : tie.Need-returns-5
-unfolding laterLine
-returns-5 c = let a = c .before .before .before .before .args in refused _ LineMalformed _ _ (ap (λ (l : Line). laterLine (a .job) l (a .cells .now) (a .rings .now)) (c .enum-told3 .given .1))
+unfolding laterLine lineChanges
+returns-5 c =
+    let a = c .before .before .before .before .before .before .args in
+    let room = roomOf (length (a .indices .now)) (length (a .numbers .now)) in (
+      refused _ LineMalformed _ _ (ap (λ (l : Line). laterLine (a .job) l room (a .cells .now) (a .rings .now)) (c .enum-told3 .given .1)),
+      unlisted _ _ _ (ap (λ (l : Line). lineChanges (a .job) l room (a .cells .now)) (c .enum-told3 .given .1)),
+    )
 
 pub later-line-spec : {M : Type 1} → statement M
 later-line-spec =
     tie.close
     (tie.spec
-    enum-known-line
-    take-cut-requires
-    enum-known-line-2
-    take-ring-requires
-    enum-told
-    enum-told-2
-    enum-told-3
-    same-length
+    (λ c. search needs)
+    (λ c κs. search needs)
+    (λ c. search needs)
+    (λ c κs. search needs)
+    (λ c. search needs)
+    (λ c. search needs)
+    (λ c. search needs)
+    (λ c. search needs)
+    (λ c. search needs)
+    (λ c. search needs)
     returns
-    same-length-2
+    (λ c. search needs)
     returns-2
     returns-3
     returns-4

@@ -2,7 +2,7 @@
 -- Assumes nothing.
 use mathlib.Core.Path.{_≡_, refl, sym, ap, subst}
 use Prim.Native.Nat.{ℕ, _<_, _^_}
-use mathlib.Core.Bool.{Bool, true, false, not}
+use mathlib.Core.Bool.{Bool, true}
 use mathlib.Core.List.{List, [], _∷_}
 use lib.Dec.{T as Holds}
 use lib.Ieee.{Float}
@@ -54,6 +54,7 @@ use Rattle.changes.proofs.Applied as R
 use Rattle.changes.proofs.Applied.Laws as R′
 use Rattle.slices.specs.Decide.{isAccepted}
 use Rattle.slices.proofs.Outcome.{written, refused}
+use Rattle.slices.proofs.Lists.{fell, held}
 use Rattle.slices.proofs.Again.{LentAgain, lends-again, comes-back, SharedAgain, lends-shared, shared-back}
 use Rattle.slices.proofs.decide as d
 use Rattle.slices.proofs.decide.Symbol as d-def
@@ -95,15 +96,6 @@ ref = tyRef erased imm (pointee (f64 .written))
 
 abbrev mref : Ty
 mref = tyRef erased mut (pointee (f64 .written))
-
--- how the test of the answer comes out
-fell : (a t : Bool) → a ≡ t → Holds (not a) → t ≡ false
-fell true t e h = absurd h
-fell false t e h = sym e
-
-held : (a t : Bool) → a ≡ t → Holds (not (not a)) → t ≡ true
-held true t e h = sym e
-held false t e h = absurd h
 
 module _ {M : Type 1} (𝓤 : URA M) (H : Heap 𝓤) (A : Atoms 𝓤) (mem : Memory → SProp 𝓤) (run : Routine → Fun 𝓤) where
   -- the contracts that the proof cites

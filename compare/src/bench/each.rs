@@ -1,0 +1,106 @@
+//! The table of every public call, with its instructions.
+use super::sides;
+use super::time::{Sides, compare_counted_goes, times};
+use std::process::Command;
+
+/// A call, what it is given, and its sides.
+type Row = (
+    &'static str,
+    &'static str,
+    usize,
+    fn(usize) -> Sides<'static>,
+);
+
+#[rustfmt::skip]
+const EACH: [Row; 24] = [
+    ("root", "1,024 of shop size", 1024, sides::root),
+    ("length", "1,024 of shop size", 1024, sides::length),
+    ("validate", "4,096 bins", 4096, sides::validate),
+    ("bin", "4,096 bins", 4096, sides::bin),
+    ("new", "4,096 bins", 4096, sides::new),
+    ("preview", "1 segment over 4,096 bins", 4096, sides::preview_bins),
+    ("preview", "16 segments over 1,024 bins", 16, sides::preview_segments),
+    ("preview_polygon", "4 points over 4,096 bins", 4096, sides::polygon_bins),
+    ("thread_cut", "4,096 bins", 4096, sides::thread_cut),
+    ("thread_cut_inner", "4,096 bins", 4096, sides::thread_cut_inner),
+    ("drill", "4,096 bins", 4096, sides::drill),
+    ("apply", "4,096 changes of 4,096 bins", 4096, sides::apply),
+    ("changes_to", "2,048 of 4,096 bins differ", 4096, sides::changes_to),
+    ("remove_ring", "64 stored, one apart", 64, sides::remove_ring),
+    ("remove_ring", "64 stored, one empty after clipping", 64, sides::remove_nothing),
+    ("apply_move", "64 stored, 3 apart", 64, sides::apply_move),
+    ("from_parts", "64 rings apart, 8 bins", 64, sides::from_parts),
+    ("volume", "4,096 bins, no ring", 4096, sides::volume_bins),
+    ("volume", "64 bins, 64 rings", 64, sides::volume_rings),
+    ("envelope_at", "4,096 bins", 4096, sides::envelope_at),
+    ("envelope_order", "1,024 points that rise", 1024, sides::envelope_order),
+    ("within", "1,024 points that rise", 1024, sides::within),
+    ("radius_at", "1,024 points that rise", 1024, sides::radius_at),
+    ("radius_range", "1,024 points that rise", 1024, sides::radius_range),
+];
+
+/// The names of the calls that the table has.
+pub fn names() -> impl Iterator<Item = &'static str> {
+    EACH.into_iter().map(|(name, ..)| name)
+}
+
+/// Prints the rows whose names have the word.
+pub fn each(word: &str) {
+    println!("## Every public call\n");
+    println!(
+        "| call | with | Rust | Rust with 01's length | library | library / Rust | instructions, Rust | instructions, library | library / Rust |"
+    );
+    println!("|---|---|---|---|---|---|---|---|---|");
+    for (k, (name, with, size, make)) in EACH.into_iter().enumerate() {
+        if !name.contains(word) {
+            continue;
+        }
+        eprintln!("{name}, {with}");
+        let times = times(make(size));
+        let shown = times.map(|t| t.map_or(String::new(), |t| t.shown()));
+        let medians = times.map(|t| t.map(|t| t.median));
+        let counts = [0, 1, 2].map(|side| times[side].and_then(|_| counted(k, side)));
+        let beside = counts[1].or(counts[0]);
+        let whole = |n: Option<f64>| n.map_or(String::new(), |n| format!("{n:.0}"));
+        println!(
+            "| {name} | {with} | {} | {} | {} | {} | {} | {} | {} |",
+            shown[0],
+            shown[1],
+            shown[2],
+            super::ratio(medians),
+            whole(beside),
+            whole(counts[2]),
+            super::ratio(counts)
+        );
+    }
+    println!();
+}
+
+/// How many goes callgrind counts.
+const GOES: usize = 3;
+
+/// Runs so many goes of a side of a row, for callgrind to count.
+pub fn go(row: usize, side: usize) {
+    let (.., size, make) = EACH[row];
+    let mut side = make(size)[side].take().expect("the row has the side");
+    // Once before, so that nothing is done for the first time.
+    compare_counted_goes(&mut side, 1);
+    let calls = compare_counted_goes(&mut side, GOES);
+    println!("{}", calls + calls / GOES);
+}
+
+/// The instructions of one call by callgrind; none where there is no valgrind.
+fn counted(row: usize, side: usize) -> Option<f64> {
+    let out = Command::new("valgrind")
+        .args(["--tool=callgrind", "--callgrind-out-file=/dev/null"])
+        .arg("--toggle-collect=compare_counted_goes")
+        .arg(std::env::current_exe().ok()?)
+        .args(["count", &row.to_string(), &side.to_string()])
+        .output()
+        .ok()?;
+    let calls: f64 = String::from_utf8_lossy(&out.stdout).trim().parse().ok()?;
+    let said = String::from_utf8_lossy(&out.stderr).into_owned();
+    let line = said.lines().find(|l| l.contains("Collected :"))?;
+    let count: f64 = line.split_whitespace().last()?.parse().ok()?;
+    Some(count / calls)
+}

@@ -1,0 +1,144 @@
+//! One part of a call is not as it should be.
+use crate::call::{Call, List, Room, Spec, Store};
+
+/// `at` counts from the start, and past the end from the start again.
+#[derive(Clone, Debug)]
+pub enum Damage {
+    Spec(Spec),
+    /// A number of a cell.
+    Cell {
+        at: usize,
+        value: f64,
+    },
+    /// So many numbers of cells are lent.
+    Cells(usize),
+    Room(Room),
+    /// A number of a record.
+    Record {
+        at: usize,
+        value: f64,
+    },
+    Index {
+        at: usize,
+        value: usize,
+    },
+    /// A change list is said to have so many changes.
+    Changes(usize),
+    /// A number of a stored ring.
+    Stored {
+        at: usize,
+        value: f64,
+    },
+    /// A store is said to have so many rings.
+    Count(usize),
+    /// So many numbers of rings are lent.
+    Rings(usize),
+    Generation(u64),
+}
+
+fn put<T>(list: &mut [T], at: usize, value: T) {
+    if !list.is_empty() {
+        let at = at % list.len();
+        list[at] = value;
+    }
+}
+
+/// The parts of a call that damage may befall.
+#[derive(Default)]
+struct Parts<'a> {
+    spec: Option<&'a mut Spec>,
+    cells: Option<&'a mut Vec<f64>>,
+    room: Option<&'a mut Room>,
+    list: Option<&'a mut List>,
+    store: Option<&'a mut Store>,
+    rings_len: Option<&'a mut usize>,
+    generation: Option<&'a mut u64>,
+}
+
+#[rustfmt::skip]
+fn parts(call: &mut Call) -> Parts<'_> {
+    let none = Parts::default();
+    match call {
+        Call::Preview { spec, cells, room, .. }
+        | Call::PreviewPolygon { spec, cells, room, .. }
+        | Call::Cut { spec, cells, room, .. }
+        | Call::ChangesTo { spec, cells, room, .. } => {
+            Parts { spec: Some(spec), cells: Some(cells), room: Some(room), ..none }
+        }
+        Call::Apply { spec, cells, generation, list } => Parts {
+            spec: Some(spec), cells: Some(cells), list: Some(list), generation: Some(generation), ..none
+        },
+        Call::RemoveRing { spec, store, generation, .. } => {
+            Parts { spec: Some(spec), store: Some(store), generation: Some(generation), ..none }
+        }
+        Call::ApplyMove { spec, cells, store, generation, list, .. } => Parts {
+            spec: Some(spec), cells: Some(cells), list: Some(list), store: Some(store),
+            generation: Some(generation), ..none
+        },
+        Call::FromParts { spec, cells, rings_len, .. } => {
+            Parts { spec: Some(spec), cells: Some(cells), rings_len: Some(rings_len), ..none }
+        }
+        Call::Volume { spec, cells, store } => {
+            Parts { spec: Some(spec), cells: Some(cells), store: Some(store), ..none }
+        }
+        Call::EnvelopeAt { spec, cells, .. } => {
+            Parts { spec: Some(spec), cells: Some(cells), ..none }
+        }
+        _ => none,
+    }
+}
+
+impl Damage {
+    /// Befalls the call, where it has such a part.
+    pub fn befall(&self, call: &mut Call) {
+        let mut parts = parts(call);
+        match self.clone() {
+            Damage::Spec(value) => parts.spec.into_iter().for_each(|s| *s = value),
+            Damage::Cell { at, value } => {
+                let cells = parts.cells.into_iter();
+                cells.for_each(|c| put(c, at, value));
+            }
+            Damage::Cells(len) => parts.cells.into_iter().for_each(|c| c.resize(len, 1.)),
+            Damage::Room(value) => parts.room.into_iter().for_each(|r| *r = value),
+            Damage::Record { at, value } => {
+                let list = parts.list.into_iter();
+                list.for_each(|l| put(&mut l.records, at, value));
+            }
+            Damage::Index { at, value } => {
+                let list = parts.list.into_iter();
+                list.for_each(|l| put(&mut l.indices, at, value));
+            }
+            Damage::Changes(value) => parts.list.into_iter().for_each(|l| l.changes = value),
+            Damage::Stored { at, value } => {
+                let store = parts.store.into_iter();
+                store.for_each(|s| put(&mut s.rings, at, value));
+            }
+            Damage::Count(value) => parts.store.into_iter().for_each(|s| s.count = value),
+            Damage::Rings(len) => {
+                let store = parts.store.into_iter();
+                store.for_each(|s| s.rings.resize(len, 0.));
+                parts.rings_len.iter_mut().for_each(|l| **l = len);
+            }
+            Damage::Generation(value) => {
+                parts.generation.into_iter().for_each(|g| *g = value);
+            }
+        }
+    }
+
+    /// Its numbers, to be made simpler.
+    pub fn numbers(&mut self) -> Vec<&mut f64> {
+        match self {
+            Damage::Cell { value, .. }
+            | Damage::Record { value, .. }
+            | Damage::Stored { value, .. } => vec![value],
+            Damage::Spec(s) => vec![
+                &mut s.z_min,
+                &mut s.z_max,
+                &mut s.outer,
+                &mut s.bore,
+                &mut s.cell,
+            ],
+            _ => vec![],
+        }
+    }
+}

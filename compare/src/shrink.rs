@@ -1,0 +1,305 @@
+//! Makes a call or a sequence smaller as long as it still shows a difference.
+use crate::call::{Call, List, Simple, Spec, Store};
+use crate::oracle::MOST_CELLS;
+
+/// A change that makes it smaller; false where there is nothing to change.
+pub type Way<T> = Box<dyn Fn(&mut T) -> bool>;
+
+/// How often one more is tried.
+const TRIES: usize = 20_000;
+
+/// Something that can be made smaller.
+pub trait Shrink: Clone + 'static {
+    /// All that it is made of.
+    fn parts(&mut self) -> Parts<'_>;
+
+    /// The ways to make it smaller, the great steps first. A way that no longer fits does nothing.
+    fn ways(&self) -> Vec<Way<Self>> {
+        ways_of_parts(self)
+    }
+}
+
+/// The smallest found that still fails.
+pub fn shrink<T: Shrink>(start: &T, fails: impl Fn(&T) -> bool) -> T {
+    let mut least = start.clone();
+    let mut tries = 0;
+    loop {
+        let mut smaller = false;
+        for way in least.ways() {
+            let mut next = least.clone();
+            if tries < TRIES && way(&mut next) {
+                tries += 1;
+                if fails(&next) {
+                    (least, smaller) = (next, true);
+                }
+            }
+        }
+        if !smaller {
+            return least;
+        }
+    }
+}
+
+/// What a call or a sequence is made of, to be changed.
+#[derive(Default)]
+pub struct Parts<'a> {
+    pub spec: Option<&'a mut Spec>,
+    /// Lists with 4 numbers for each bin.
+    pub cells: Vec<&'a mut Vec<f64>>,
+    /// Lists from which items can be left out.
+    pub items: Vec<Items<'a>>,
+    /// Single numbers.
+    pub numbers: Vec<&'a mut f64>,
+    pub generation: Option<&'a mut u64>,
+}
+
+/// A list and what an item of it is.
+pub enum Items<'a> {
+    /// So many numbers each.
+    Flat(&'a mut Vec<f64>, usize),
+    Store(&'a mut Store),
+    Changes(&'a mut List),
+}
+
+impl<'a> Items<'a> {
+    fn len(&self) -> usize {
+        match self {
+            Items::Flat(list, size) => list.len() / size,
+            Items::Store(store) => store.rings.len() / 4,
+            Items::Changes(list) => list.indices.len().min(list.records.len() / 8),
+        }
+    }
+
+    /// Leaves out items; false where there are not so many.
+    fn leave_out(&mut self, start: usize, count: usize) -> bool {
+        let end = start + count;
+        if end > self.len() {
+            return false;
+        }
+        match self {
+            Items::Flat(list, size) => drop(list.drain(start * *size..end * *size)),
+            Items::Store(store) => {
+                store.rings.drain(4 * start..4 * end);
+                store.count -= store.count.min(end) - store.count.min(start);
+            }
+            Items::Changes(list) => {
+                list.indices.drain(start..end);
+                list.records.drain(8 * start..8 * end);
+                list.changes -= list.changes.min(end) - list.changes.min(start);
+            }
+        }
+        true
+    }
+
+    fn numbers(self) -> &'a mut Vec<f64> {
+        match self {
+            Items::Flat(list, _) => list,
+            Items::Store(store) => &mut store.rings,
+            Items::Changes(list) => &mut list.records,
+        }
+    }
+}
+
+/// Runs of a list's items: the whole, its halves, and so on down to single ones.
+pub fn runs(len: usize) -> Vec<(usize, usize)> {
+    let mut runs = vec![];
+    let mut size = len;
+    while size > 0 {
+        runs.extend((0..len).step_by(size).map(|start| (start, size)));
+        size /= 2;
+    }
+    runs
+}
+
+/// The ways that change one of the parts.
+pub fn ways_of_parts<T: Shrink>(whole: &T) -> Vec<Way<T>> {
+    let mut copy = whole.clone();
+    let parts = copy.parts();
+    let mut ways: Vec<Way<T>> = vec![];
+    for (k, items) in parts.items.iter().enumerate() {
+        for (start, count) in runs(items.len()) {
+            ways.push(Box::new(move |t: &mut T| {
+                let mut parts = t.parts();
+                let items = parts.items.get_mut(k);
+                items.is_some_and(|items| items.leave_out(start, count))
+            }));
+        }
+    }
+    for way in 0..4 {
+        ways.push(Box::new(move |t: &mut T| fewer_bins(t.parts(), way)));
+    }
+    ways.push(Box::new(|t: &mut T| plain_bar(t.parts())));
+    ways.push(Box::new(|t: &mut T| {
+        let generation = t.parts().generation;
+        generation.is_some_and(|g| std::mem::take(g) > 0)
+    }));
+    for k in 0..all_numbers(parts).len() {
+        for way in 0..SIMPLER {
+            ways.push(Box::new(move |t: &mut T| {
+                let mut numbers = all_numbers(t.parts());
+                let number = numbers.get_mut(k);
+                number.is_some_and(|x| simplify(x, way))
+            }));
+        }
+    }
+    ways
+}
+
+/// A bar of the first or the last bins: half of them, or all but one.
+fn fewer_bins(parts: Parts, way: usize) -> bool {
+    let (Some(spec), Some(first)) = (parts.spec, parts.cells.first()) else {
+        return false;
+    };
+    let len = first.len();
+    let kept = if way < 2 {
+        len / 8
+    } else {
+        (len / 4).saturating_sub(1)
+    };
+    if kept == 0 || 4 * kept == len || parts.cells.iter().any(|c| c.len() != len) {
+        return false;
+    }
+    let last = way % 2 == 1;
+    if last {
+        spec.z_min += (len / 4 - kept) as f64 * spec.cell;
+    } else {
+        spec.z_max = spec.z_min + kept as f64 * spec.cell;
+    }
+    for cells in parts.cells {
+        match last {
+            true => drop(cells.drain(..len - 4 * kept)),
+            false => cells.truncate(4 * kept),
+        }
+    }
+    true
+}
+
+/// A bar of as many bins from 0 on, each 1 long.
+fn plain_bar(parts: Parts) -> bool {
+    let (Some(spec), Some(cells)) = (parts.spec, parts.cells.first()) else {
+        return false;
+    };
+    let plain = Spec {
+        z_min: 0.,
+        z_max: (cells.len() / 4) as f64,
+        cell: 1.,
+        max_cells: MOST_CELLS,
+        ..*spec
+    };
+    let new = *spec != plain;
+    *spec = plain;
+    new
+}
+
+fn all_numbers(parts: Parts<'_>) -> Vec<&mut f64> {
+    let mut numbers = parts.numbers;
+    if let Some(s) = parts.spec {
+        numbers.extend([
+            &mut s.z_min,
+            &mut s.z_max,
+            &mut s.outer,
+            &mut s.bore,
+            &mut s.cell,
+        ]);
+    }
+    let items = parts.items.into_iter().map(Items::numbers);
+    numbers.extend(items.chain(parts.cells).flatten());
+    numbers
+}
+
+/// How many ways there are to make a number simpler.
+const SIMPLER: usize = 5;
+
+/// Makes a number simpler by one of the ways; false where it is not.
+fn simplify(x: &mut f64, way: usize) -> bool {
+    let rounded = |unit: f64| (*x * unit).round() / unit;
+    let next = [0., 1., x.trunc(), rounded(10.), rounded(1000.)][way];
+    let simpler = rank(next) < rank(*x);
+    if simpler {
+        *x = next;
+    }
+    simpler
+}
+
+/// How plain a number is: 0, 1, whole, in tenths, in thousandths, any other.
+fn rank(x: f64) -> usize {
+    let whole = |unit: f64| (x * unit).round() / unit == x;
+    if x.to_bits() == 0 {
+        0
+    } else if x == 0. || !x.is_finite() {
+        5
+    } else if x == 1. {
+        1
+    } else {
+        [1., 10., 1000.]
+            .iter()
+            .position(|u| whole(*u))
+            .map_or(5, |k| k + 2)
+    }
+}
+
+/// The numbers of a thread or a drill.
+pub fn simple_numbers(cut: &mut Simple) -> Vec<&mut f64> {
+    match cut {
+        Simple::ThreadCut { z0, z1, radius } => vec![z0, z1, radius],
+        Simple::ThreadCutInner { z0, z1, radius } => vec![z0, z1, radius],
+        Simple::Drill {
+            tip_z,
+            radius,
+            cone,
+        } => vec![tip_z, radius, cone],
+    }
+}
+
+#[rustfmt::skip]
+impl Shrink for Call {
+    fn parts(&mut self) -> Parts<'_> {
+        let none = Parts::default();
+        match self {
+            Call::Root { x } => Parts { numbers: vec![x], ..none },
+            Call::Length { x, y } => Parts { numbers: vec![x, y], ..none },
+            Call::Validate { spec } | Call::Bin { spec, .. } | Call::New { spec, .. } => {
+                Parts { spec: Some(spec), ..none }
+            }
+            Call::Preview { spec, cells, rn, segments, .. } => Parts {
+                spec: Some(spec), cells: vec![cells], items: vec![Items::Flat(segments, 5)], numbers: vec![rn], ..none
+            },
+            Call::PreviewPolygon { spec, cells, excess, points, .. } => Parts {
+                spec: Some(spec), cells: vec![cells], items: vec![Items::Flat(points, 2)], numbers: vec![excess], ..none
+            },
+            Call::Cut { spec, cells, cut, .. } => Parts {
+                spec: Some(spec), cells: vec![cells], numbers: simple_numbers(cut), ..none
+            },
+            Call::Apply { spec, cells, generation, list } => Parts {
+                spec: Some(spec), cells: vec![cells], items: vec![Items::Changes(list)], generation: Some(generation), ..none
+            },
+            Call::ChangesTo { spec, cells, after, .. } => Parts {
+                spec: Some(spec), cells: vec![cells, after], ..none
+            },
+            Call::RemoveRing { spec, store, generation, ring } => Parts {
+                spec: Some(spec), items: vec![Items::Store(store)], numbers: ring.iter_mut().collect(),
+                generation: Some(generation), ..none
+            },
+            Call::ApplyMove { spec, cells, store, generation, list, removed } => Parts {
+                spec: Some(spec), cells: vec![cells], generation: Some(generation),
+                items: vec![Items::Store(store), Items::Changes(list), Items::Flat(removed, 4)], ..none
+            },
+            Call::FromParts { spec, cells, given, .. } => Parts {
+                spec: Some(spec), cells: vec![cells], items: vec![Items::Flat(given, 4)], ..none
+            },
+            Call::Volume { spec, cells, store } => Parts {
+                spec: Some(spec), cells: vec![cells], items: vec![Items::Store(store)], ..none
+            },
+            Call::EnvelopeAt { spec, cells, z } => Parts {
+                spec: Some(spec), cells: vec![cells], numbers: vec![z], ..none
+            },
+            Call::EnvelopeOrder { points } => Parts { items: vec![Items::Flat(points, 2)], ..none },
+            Call::RadiusAt { points, u } => Parts {
+                items: vec![Items::Flat(points, 2)], numbers: vec![u], ..none
+            },
+            Call::Within { points, lo, hi } | Call::RadiusRange { points, lo, hi } => Parts {
+                items: vec![Items::Flat(points, 2)], numbers: vec![lo, hi], ..none
+            },
+        }
+    }
+}

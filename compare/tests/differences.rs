@@ -1,0 +1,555 @@
+//! Each intended difference of docs/DIFFERENCES.md on the smallest input that shows it: what camlib
+//! does, and what the library does. Without the library, the oracle stands in for it.
+use compare::call::{Answer, Call, Change, List, Outcome, Room, Simple, Spec, Store};
+use compare::jobs;
+use compare::oracle::answer;
+use compare::oracle::stock::{camlib_spec, to_camlib};
+use plain::motion::{Curve, Plane};
+use plain::turning::profile::Envelope;
+use plain::turning::stock::{TurnChange, TurnSide, TurnStock};
+use std::panic::{AssertUnwindSafe, catch_unwind};
+
+/// One bin, z 0..1, radii 0..10.
+const BAR: Spec = Spec {
+    z_min: 0.,
+    z_max: 1.,
+    outer: 10.,
+    bore: 0.,
+    cell: 1.,
+    max_cells: 4096,
+};
+const CELL: [f64; 4] = [10., 10., 0., 0.];
+const ROOM: Room = Room {
+    indices: 1,
+    records: 8,
+};
+const MINUS: u64 = 1 << 63;
+
+/// What the library does; it must be what the oracle says.
+fn here(call: Call) -> Outcome {
+    let outcome = answer(&call);
+    #[cfg(feature = "stage6")]
+    if let Some(text) = compare::run::difference(&call, &outcome) {
+        panic!("{text}");
+    }
+    outcome
+}
+
+fn camlib(spec: Spec) -> TurnStock {
+    TurnStock::new(camlib_spec(&spec)).unwrap()
+}
+
+fn line(a: [f64; 2], b: [f64; 2]) -> Curve {
+    Curve::Line {
+        start: [a[0], 0., a[1]],
+        end: [b[0], 0., b[1]],
+    }
+}
+
+fn nose(spec: Spec, rn: f64, a: [f64; 2], b: [f64; 2]) -> Outcome {
+    here(Call::Preview {
+        spec,
+        cells: CELL.to_vec(),
+        side: 0,
+        rn,
+        segments: vec![a[0], a[1], b[0], b[1], 0.],
+        room: ROOM,
+    })
+}
+
+/// The outer bounds of a bar of one bin after a nose line: camlib's and the library's.
+fn outer_after(spec: Spec, rn: f64, a: [f64; 2], b: [f64; 2]) -> [[f64; 2]; 2] {
+    let theirs = camlib(spec).preview(&line(a, b), rn, TurnSide::Outer, 0.);
+    let theirs = theirs.unwrap();
+    let theirs = theirs.first().map_or([10., 10.], |c| {
+        [c.after.outer.lower_mm, c.after.outer.upper_mm]
+    });
+    let ours = match nose(spec, rn, a, b) {
+        Ok(Answer::Changes(list)) => list.first().map_or(CELL, |c| c.after),
+        other => panic!("{other:?}"),
+    };
+    [theirs, [ours[0], ours[1]]]
+}
+
+fn cut(cut: Simple) -> Outcome {
+    here(Call::Cut {
+        spec: BAR,
+        cells: CELL.to_vec(),
+        cut,
+        room: ROOM,
+    })
+}
+
+fn thread(z0: f64, z1: f64, radius: f64) -> Outcome {
+    cut(Simple::ThreadCut { z0, z1, radius })
+}
+
+fn apply(generation: u64, list: List) -> Outcome {
+    here(Call::Apply {
+        spec: BAR,
+        cells: CELL.to_vec(),
+        generation,
+        list,
+    })
+}
+
+fn list(before: [f64; 4], after: [f64; 4]) -> List {
+    List {
+        indices: vec![0],
+        records: [before, after].as_flattened().to_vec(),
+        changes: 1,
+    }
+}
+
+fn remove_ring(rings: &[[f64; 4]], rings_len: usize, ring: [f64; 4]) -> Outcome {
+    let mut store = Store {
+        rings: rings.as_flattened().to_vec(),
+        count: rings.len(),
+    };
+    store.rings.resize(rings_len, 0.);
+    here(Call::RemoveRing {
+        spec: BAR,
+        store,
+        generation: 0,
+        ring,
+    })
+}
+
+fn panics(f: impl FnOnce()) -> bool {
+    catch_unwind(AssertUnwindSafe(f)).is_err()
+}
+
+fn near(x: f64, y: f64) -> bool {
+    x.to_bits().abs_diff(y.to_bits()) <= 1
+}
+
+fn no_change() -> Outcome {
+    Ok(Answer::Changes(vec![]))
+}
+
+/// Here the nearest to the exact length, the square being exact; `hypot` may be one beside it.
+#[test]
+fn a_length() {
+    let length = here(Call::Length { x: 17., y: 27. });
+    assert_eq!(length, Ok(Answer::Number(31.906112267087632)));
+    assert!(near(17_f64.hypot(27.), 31.906112267087632));
+}
+
+/// A nose line over it: the low bound may differ in its last bit.
+#[test]
+fn a_nose_line() {
+    let [theirs, ours] = outer_after(BAR, 2., [0., -16.], [17., 11.]);
+    assert_eq!(ours, [7.710658350586102, 8.34028798021573]);
+    assert!(near(theirs[0], ours[0]) && near(theirs[1], ours[1]));
+}
+
+/// So short that its squares vanish: no side here, and nothing clears the bin between its ends.
+#[test]
+fn a_segment_whose_squares_vanish() {
+    let ulp = f64::from_bits(1);
+    let spec = Spec {
+        z_min: ulp,
+        z_max: 2. * ulp,
+        cell: ulp,
+        ..BAR
+    };
+    let [theirs, ours] = outer_after(spec, 0., [0., 0.], [0., 3. * ulp]);
+    assert_eq!(theirs, [0., 0.]);
+    assert_eq!(ours, [0., 10.]);
+}
+
+/// Squares that are subnormal: the quotients by the rounded root are 1.22 long.
+#[test]
+fn a_segment_whose_squares_are_subnormal() {
+    let [theirs, ours] = outer_after(BAR, 5., [9., 0.], [9., 2.72e-162]);
+    assert_eq!(theirs[0], 4.);
+    assert_eq!(ours[0], 2.881477239421253);
+}
+
+#[test]
+fn the_number_of_cells() {
+    let infinite = Spec {
+        cell: f64::from_bits(1),
+        max_cells: usize::MAX,
+        ..BAR
+    };
+    assert_eq!(camlib_spec(&infinite).validate(), Ok(usize::MAX));
+    assert_eq!(here(Call::Validate { spec: infinite }), Err(2));
+    let many = Spec {
+        z_max: 4097.,
+        max_cells: 4097,
+        ..BAR
+    };
+    assert_eq!(camlib_spec(&many).validate(), Ok(4097));
+    assert_eq!(here(Call::Validate { spec: many }), Err(2));
+}
+
+/// camlib has a bin for every index.
+#[test]
+fn a_bin_past_the_last() {
+    assert_eq!(camlib(BAR).bin(1), [1., 1.]);
+    assert_eq!(here(Call::Bin { spec: BAR, i: 1 }), Err(9));
+}
+
+/// camlib's stock has cells of its own; here any lent cells are checked by each call.
+#[test]
+fn cells_that_do_not_fit() {
+    let cells = vec![11., 11., 0., 0.];
+    let z = 0.;
+    assert_eq!(
+        here(Call::EnvelopeAt {
+            spec: BAR,
+            cells,
+            z
+        }),
+        Err(3)
+    );
+}
+
+/// camlib takes stocks with other cells, up to the shorter.
+#[test]
+fn a_difference_of_other_lengths() {
+    let longer = Spec { z_max: 2., ..BAR };
+    assert_eq!(camlib(BAR).changes_to(&camlib(longer)), []);
+    let call = Call::ChangesTo {
+        spec: BAR,
+        cells: CELL.to_vec(),
+        after: [CELL, CELL].as_flattened().to_vec(),
+        room: ROOM,
+    };
+    assert_eq!(here(call), Err(3));
+}
+
+#[test]
+fn minus_zero_in_a_spec() {
+    let spec = Spec { bore: -0., ..BAR };
+    assert_eq!(camlib(spec).cells()[0].inner.lower_mm.to_bits(), MINUS);
+    let Ok(Answer::Cells(cells)) = here(Call::New { spec, cells_len: 4 }) else {
+        panic!()
+    };
+    assert_eq!(cells[0][2].to_bits(), 0);
+}
+
+#[test]
+fn minus_zero_in_cells() {
+    let cell = [10., 10., -0., 0.];
+    let theirs = TurnStock::from_parts(camlib_spec(&BAR), vec![to_camlib(&cell)], vec![]);
+    assert!(theirs.is_ok());
+    let call = Call::EnvelopeAt {
+        spec: BAR,
+        cells: cell.to_vec(),
+        z: 0.,
+    };
+    assert_eq!(here(call), Err(3));
+}
+
+#[test]
+fn minus_zero_in_a_stored_ring() {
+    let ring = [-0., 1., 1., 2.];
+    let mut stock = camlib(BAR);
+    stock.remove_ring([-1., 1.], [1., 2.]);
+    assert_eq!(stock.rings(), [ring]);
+    assert_eq!(remove_ring(&[ring], 8, [0., 1., 3., 4.]), Err(4));
+}
+
+#[test]
+fn minus_zero_in_a_change() {
+    let after = [10., 10., -0., 0.];
+    let mut stock = camlib(BAR);
+    let change = TurnChange {
+        index: 0,
+        before: to_camlib(&CELL),
+        after: to_camlib(&after),
+    };
+    assert_eq!(stock.apply(&[change]), Ok(()));
+    assert_eq!(stock.cells()[0].inner.lower_mm.to_bits(), MINUS);
+    assert_eq!(apply(0, list(CELL, after)), Err(8));
+}
+
+#[test]
+fn a_number_over_a_million() {
+    assert_eq!(camlib(BAR).thread_cut(0., 1., 1_000_001.), []);
+    assert_eq!(thread(0., 1., 1_000_000.), no_change());
+    assert_eq!(thread(0., 1., 1_000_001.), Err(5));
+}
+
+#[test]
+fn no_number_and_infinity() {
+    assert_eq!(camlib(BAR).thread_cut(f64::NAN, 1., 10.), []);
+    assert_eq!(thread(f64::NAN, 1., 10.), Err(5));
+    assert_eq!(camlib(BAR).thread_cut(f64::INFINITY, 1., 10.), []);
+    assert_eq!(thread(f64::INFINITY, 1., 10.), Err(5));
+}
+
+#[test]
+fn a_thread_of_negative_radius() {
+    assert_eq!(camlib(BAR).thread_cut(0., 1., -1.).len(), 1);
+    assert_eq!(thread(0., 1., -1.), Err(5));
+}
+
+#[test]
+fn a_drill_of_radius_0() {
+    assert_eq!(camlib(BAR).drill(0., 0., 0.), []);
+    let (tip_z, radius, cone) = (0., 0., 0.);
+    let drill = Simple::Drill {
+        tip_z,
+        radius,
+        cone,
+    };
+    assert_eq!(cut(drill), Err(5));
+}
+
+#[test]
+fn a_drill_of_negative_radius_with_a_point() {
+    assert!(panics(|| drop(camlib(BAR).drill(0., -1., 1.))));
+    let (tip_z, radius, cone) = (0., -1., 1.);
+    let drill = Simple::Drill {
+        tip_z,
+        radius,
+        cone,
+    };
+    assert_eq!(cut(drill), Err(5));
+}
+
+fn polygon(points: &[[f64; 2]], excess: f64) -> Outcome {
+    here(Call::PreviewPolygon {
+        spec: BAR,
+        cells: CELL.to_vec(),
+        side: 0,
+        excess,
+        points: points.as_flattened().to_vec(),
+        room: ROOM,
+    })
+}
+
+#[test]
+fn a_negative_excess() {
+    let points = [[0., 4.], [1., 4.]];
+    let theirs = camlib(BAR).preview_polygon(&points, TurnSide::Outer, -1.);
+    assert_eq!(theirs[0].after.outer.upper_mm, 3.);
+    assert_eq!(polygon(&points, -1.), Err(5));
+}
+
+#[test]
+fn more_than_64_points() {
+    let points = [[0., 20.]; 65];
+    let theirs = camlib(BAR).preview_polygon(&points, TurnSide::Outer, 0.);
+    assert_eq!(theirs, []);
+    assert_eq!(polygon(&points[1..], 0.), no_change());
+    assert_eq!(polygon(&points, 0.), Err(5));
+}
+
+/// camlib's own arcs have up to 4,096 segments.
+#[test]
+fn more_than_64_segments() {
+    let with = |count: usize| {
+        here(Call::Preview {
+            spec: BAR,
+            cells: CELL.to_vec(),
+            side: 0,
+            rn: 0.,
+            segments: [20., 0., 20., 1., 0.].repeat(count),
+            room: ROOM,
+        })
+    };
+    assert_eq!(with(64), no_change());
+    assert_eq!(with(65), Err(5));
+}
+
+/// No C call takes an arc; the job program refuses its line.
+#[test]
+fn an_arc() {
+    let arc = Curve::Arc {
+        start: [5., 0., 0.],
+        end: [5., 0., 1.],
+        center: [5., 0., 0.5],
+        plane: Plane::Xz,
+        sweep_rad: 3.,
+    };
+    let theirs = camlib(BAR).preview(&arc, 1., TurnSide::Outer, 0.1);
+    assert_eq!(theirs.unwrap().len(), 1);
+    let job = b"bar\t0\t1000\t10000\t0\t1000\narc\n";
+    assert_eq!(jobs::run(job), b"refused\t2\t13\n");
+}
+
+/// camlib makes a list as long as it needs.
+#[test]
+fn more_changes_than_room() {
+    assert_eq!(camlib(BAR).thread_cut(0., 1., 5.).len(), 1);
+    let none = Room {
+        indices: 1,
+        records: 7,
+    };
+    let call = Call::Cut {
+        spec: BAR,
+        cells: CELL.to_vec(),
+        cut: Simple::ThreadCut {
+            z0: 0.,
+            z1: 1.,
+            radius: 5.,
+        },
+        room: none,
+    };
+    assert_eq!(here(call), Err(6));
+}
+
+/// More changes than are lent; camlib's list has its length.
+#[test]
+fn a_count_beyond_the_list() {
+    let mut list = list(CELL, CELL);
+    list.changes = 2;
+    assert_eq!(apply(0, list), Err(6));
+}
+
+/// camlib's generation is its own, and nobody counts to its end.
+#[test]
+fn the_last_generation() {
+    let unchanged = |generation| Ok(Answer::Stock(vec![CELL], vec![], generation));
+    assert_eq!(apply(u64::MAX - 1, List::default()), unchanged(u64::MAX));
+    assert_eq!(apply(u64::MAX, List::default()), Err(12));
+}
+
+/// For camlib an edge that is no number is no edge.
+#[test]
+fn a_ring_that_is_not_finite() {
+    let mut stock = camlib(BAR);
+    stock.remove_ring([f64::NAN, 1.], [1., 2.]);
+    assert_eq!(stock.rings(), [[0., 1., 1., 2.]]);
+    assert_eq!(remove_ring(&[], 4, [f64::NAN, 1., 1., 2.]), Err(10));
+    let mut stock = camlib(BAR);
+    stock.remove_ring([f64::NEG_INFINITY, 1.], [1., 2.]);
+    assert_eq!(stock.rings(), [[0., 1., 1., 2.]]);
+    assert_eq!(
+        remove_ring(&[], 4, [f64::NEG_INFINITY, 1., 1., 2.]),
+        Err(10)
+    );
+}
+
+/// camlib's rings are its own and lie apart; here the stored ones are lent and checked.
+#[test]
+fn stored_rings_that_overlap() {
+    let ring = [0., 1., 1., 2.];
+    assert_eq!(remove_ring(&[ring, ring], 12, ring), Err(4));
+}
+
+/// Rings side by side: the store is full at 256.
+#[test]
+fn the_257th_ring() {
+    let ring = |k: usize| [k as f64 / 512., (k + 1) as f64 / 512., 1., 2.];
+    let rings: Vec<[f64; 4]> = (0..256).map(ring).collect();
+    let next = ring(256);
+    let cells = vec![to_camlib(&CELL)];
+    let stock = TurnStock::from_parts(camlib_spec(&BAR), cells, rings.clone());
+    let mut stock = stock.unwrap();
+    stock.remove_ring([next[0], next[1]], [1., 2.]);
+    assert_eq!(stock.rings().len(), 257);
+    assert_eq!(remove_ring(&rings, 2000, next), Err(11));
+    let stored = remove_ring(&rings[1..], 2000, next);
+    assert!(matches!(stored, Ok(Answer::Stock(_, rings, 1)) if rings.len() == 256));
+}
+
+/// 85 squares in a row and a slat cut a ring over all into 257 pieces in hand, though the bands that
+/// follow leave 87 of them.
+#[test]
+fn the_257th_piece() {
+    let store = |squares: usize, slats: usize| {
+        let at = |k: usize| k as f64 / 256.;
+        let column = |k: usize, r0: f64, r1: f64| [at(2 * k + 1), at(2 * k + 2), r0, r1];
+        let mut rings: Vec<[f64; 4]> = (0..squares).map(|k| column(k, 4., 5.)).collect();
+        rings.extend((squares..squares + slats).map(|k| column(k, 0., 10.)));
+        let end = at(2 * squares + 1);
+        rings.extend([[0., end, 0., 4.], [0., end, 5., 10.]]);
+        rings
+    };
+    let whole = [0., 1., 0., 10.];
+    assert!(remove_ring(&store(85, 0), 2000, whole).is_ok());
+    let rings = store(85, 1);
+    let cells = vec![to_camlib(&CELL)];
+    let stock = TurnStock::from_parts(camlib_spec(&BAR), cells, rings.clone());
+    let mut stock = stock.unwrap();
+    stock.remove_ring([0., 1.], [0., 10.]);
+    assert_eq!(stock.rings().len(), rings.len() + 87);
+    assert_eq!(remove_ring(&rings, 2000, whole), Err(11));
+}
+
+/// A move whose third ring is refused writes nothing; camlib refuses no ring after its changes.
+#[test]
+fn a_move_is_refused_whole() {
+    let call = Call::ApplyMove {
+        spec: BAR,
+        cells: CELL.to_vec(),
+        store: Store {
+            rings: vec![0.; 8],
+            count: 0,
+        },
+        generation: 0,
+        list: list(CELL, [5., 10., 0., 0.]),
+        removed: vec![0., 1., 1., 2., 0., 1., 3., 4., 0., 1., 5., 6.],
+    };
+    assert_eq!(here(call), Err(11));
+}
+
+#[test]
+fn envelope_points_outside_the_domain() {
+    let order = |numbers: Vec<f64>| here(Call::EnvelopeOrder { points: numbers });
+    drop(Envelope::new(vec![[f64::NAN, 1.]]));
+    assert_eq!(order(vec![f64::NAN, 1.]), Err(14));
+    drop(Envelope::new(vec![[1_000_001., 1.]]));
+    assert_eq!(order(vec![1_000_001., 1.]), Err(14));
+    let points = vec![[0., 1.]; 1025];
+    assert_eq!(Envelope::new(points.clone()).radius_at(0.), Some(1.));
+    assert_eq!(order(points.as_flattened().to_vec()), Err(14));
+    assert_eq!(
+        order(points[1..].as_flattened().to_vec()),
+        Ok(Answer::Order(1))
+    );
+}
+
+/// lo > hi: camlib panics on three points or more that rise.
+#[test]
+fn a_range_turned_about() {
+    let points = vec![[0., 1.], [1., 1.], [2., 1.]];
+    let envelope = Envelope::new(points.clone());
+    assert!(panics(|| _ = envelope.radius_range(3., -1.)));
+    let points = points.as_flattened().to_vec();
+    let (lo, hi) = (3., -1.);
+    let range = Call::RadiusRange {
+        points: points.clone(),
+        lo,
+        hi,
+    };
+    assert_eq!(here(range), Ok(Answer::Found(None)));
+    let within = Call::Within { points, lo, hi };
+    assert_eq!(here(within), Ok(Answer::Part(0, 0)));
+}
+
+/// A refusal is a number here, and a text in camlib.
+#[test]
+fn a_refusal() {
+    let spec = Spec { cell: 0., ..BAR };
+    assert!(
+        camlib_spec(&spec)
+            .validate()
+            .is_err_and(|text| text.contains("positive cell"))
+    );
+    assert_eq!(here(Call::Validate { spec }), Err(1));
+}
+
+/// A chord with its sag is handed in here; camlib makes chords of its own from an arc.
+#[test]
+fn a_chord_with_sag() {
+    let call = Call::Preview {
+        spec: BAR,
+        cells: CELL.to_vec(),
+        side: 0,
+        rn: 1.,
+        segments: vec![5., 0., 5., 1., 0.5],
+        room: ROOM,
+    };
+    let change = Change {
+        index: 0,
+        before: CELL,
+        after: [3.5, 4.5, 0., 0.],
+    };
+    assert_eq!(here(call), Ok(Answer::Changes(vec![change])));
+}

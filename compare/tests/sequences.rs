@@ -1,0 +1,184 @@
+//! What generated sequences reach, and that a difference in one is found and made small.
+#![cfg(feature = "stage6")]
+use compare::call::{Answer, Call, Outcome, Simple};
+use compare::count::Counts;
+use compare::generate::Rng;
+use compare::generate::sequence::{MOST_STEPS, sequence};
+use compare::oracle::stock::{bar, camlib_stock, fresh};
+use compare::sequence::{AS_IT_IS, Action, Bent, Sequence, run};
+use compare::shrink::shrink;
+use std::cell::RefCell;
+use std::collections::BTreeMap;
+
+const SEQUENCES: usize = 3000;
+
+fn sequences(seed: u64) -> impl Iterator<Item = Sequence> {
+    let mut rng = Rng::new(seed);
+    (0..SEQUENCES).map(move |_| sequence(&mut rng))
+}
+
+fn fails(sequence: &Sequence, bent: Bent) -> bool {
+    run(sequence, bent, &mut Counts::default()).is_err()
+}
+
+/// The first sequence that the bent outcomes make fail, made small.
+fn least(bent: Bent) -> Sequence {
+    let mut all = sequences(11);
+    let found = all.find(|s| s.steps.len() > 5 && fails(s, bent));
+    shrink(&found.expect("one fails"), |s| fails(s, bent))
+}
+
+#[test]
+fn no_sequence_differs_and_every_refusal_is_reached() {
+    let mut counts = Counts::default();
+    for s in sequences(7) {
+        assert!((1..=MOST_STEPS).contains(&s.steps.len()));
+        let end = run(&s, AS_IT_IS, &mut counts);
+        assert!(end.is_ok(), "{end:?}");
+    }
+    let reached = |name: &str| -> Vec<u32> {
+        let wanted = |n: &u32| counts.wanted(name, *n) > 0;
+        (0..16).filter(wanted).collect()
+    };
+    for name in ["thread_cut", "thread_cut_inner", "drill"] {
+        assert_eq!(reached(name), [0, 1, 2, 3, 5, 6], "{name}");
+    }
+    assert_eq!(reached("preview"), [0, 1, 2, 3, 5, 6]);
+    assert_eq!(reached("preview_polygon"), [0, 1, 2, 3, 5, 6]);
+    assert_eq!(reached("apply"), [0, 1, 2, 3, 6, 7, 8, 9, 12]);
+    assert_eq!(reached("changes_to"), [0, 1, 2, 3, 6]);
+    assert_eq!(reached("remove_ring"), [0, 1, 2, 4, 10, 11, 12]);
+    let all = [0, 1, 2, 3, 4, 6, 7, 8, 9, 10, 11, 12];
+    assert_eq!(reached("apply_move"), all);
+    assert_eq!(reached("from_parts"), [0, 1, 2, 3, 10, 11]);
+    assert_eq!(reached("volume"), [0, 1, 2, 3, 4]);
+    assert_eq!(reached("envelope_at"), [0, 1, 2, 3]);
+}
+
+/// A drill of more than 2 is refused by a wrong rule: one call shows it.
+#[test]
+fn a_wrong_refusal_shrinks_to_one_call() {
+    let wrong = |call: &Call, outcome: Outcome| match call {
+        Call::Cut {
+            cut: Simple::Drill { radius, .. },
+            ..
+        } if *radius > 2. => outcome.and(Err(5)),
+        _ => outcome,
+    };
+    let least = least(&wrong);
+    assert!(
+        matches!(
+            least.steps[..],
+            [ref step] if matches!(step.action, Action::Cut(Simple::Drill { .. }))
+        ),
+        "{least:?}"
+    );
+    assert_eq!((least.cells.len(), least.store.count), (4, 0), "{least:?}");
+    assert_eq!(least.generation, 0);
+}
+
+/// A wrong commit leaves out the last of two changes or more: a preview and its commit show it, on
+/// two bins.
+#[test]
+fn a_wrong_commit_shrinks_to_a_preview_and_a_commit() {
+    let wrong = |call: &Call, outcome: Outcome| match (call, &outcome) {
+        (Call::Apply { cells, list, .. }, Ok(Answer::Stock(after, rings, generation)))
+            if list.changes > 1 =>
+        {
+            let mut after = after.clone();
+            let last = list.indices[list.changes - 1];
+            after[last] = cells.as_chunks::<4>().0[last];
+            Ok(Answer::Stock(after, rings.clone(), *generation))
+        }
+        _ => outcome,
+    };
+    let least = least(&wrong);
+    assert_eq!(least.steps.len(), 2, "{least:?}");
+    assert!(matches!(least.steps[1].action, Action::Commit { .. }));
+    assert_eq!(least.cells.len(), 8, "{least:?}");
+}
+
+/// A wrong ring that is covered leaves the generation: the ring that covers it and the ring show it.
+#[test]
+fn a_wrong_covered_ring_shrinks_to_two_rings() {
+    let wrong = |call: &Call, outcome: Outcome| match (call, &outcome) {
+        (
+            Call::RemoveRing {
+                store, generation, ..
+            },
+            Ok(Answer::Stock(cells, rings, raised)),
+        ) if rings.len() == store.count && raised > generation => {
+            Ok(Answer::Stock(cells.clone(), rings.clone(), *generation))
+        }
+        _ => outcome,
+    };
+    let least = least(&wrong);
+    assert_eq!(least.steps.len() + least.store.count, 2, "{least:?}");
+}
+
+/// How many rings a store would have, were there no limit, and the most pieces in hand up to the first
+/// over 256; each step is made by camlib on a stock with one ring.
+fn without_limit(call: &Call) -> Option<(usize, usize)> {
+    let Call::RemoveRing {
+        spec, store, ring, ..
+    } = call
+    else {
+        return None;
+    };
+    let bar = bar(spec).ok()?;
+    let cells = fresh(&bar);
+    let (rings, _) = store.rings.as_chunks::<4>();
+    let rings = &rings[..store.count];
+    let removed = |stored: &[[f64; 4]], r: &[f64; 4]| {
+        let mut stock = camlib_stock(&bar, &cells, stored);
+        stock.remove_ring([r[0], r[1]], [r[2], r[3]]);
+        stock.rings()[stored.len()..].to_vec()
+    };
+    let mut pieces = removed(&[], ring);
+    let mut most = pieces.len();
+    for stored in rings {
+        pieces = pieces.iter().flat_map(|p| removed(&[*stored], p)).collect();
+        most = most.max(pieces.len());
+        if most > 256 {
+            return Some((usize::MAX, most));
+        }
+    }
+    Some((rings.len() + pieces.len(), most))
+}
+
+/// Stores of exactly 255 and 256 rings, and refusals at the 257th ring of a store and at the 257th
+/// piece in hand.
+#[test]
+fn the_limits_of_rings_are_reached() {
+    let stored = RefCell::new(BTreeMap::<usize, usize>::new());
+    let refused = RefCell::new(BTreeMap::<(usize, usize), usize>::new());
+    let see = |call: &Call, outcome: Outcome| {
+        match &outcome {
+            Ok(Answer::Stock(_, rings, _)) => {
+                *stored.borrow_mut().entry(rings.len()).or_default() += 1;
+            }
+            Err(11) => {
+                let why = without_limit(call);
+                why.into_iter().for_each(|why| {
+                    *refused.borrow_mut().entry(why).or_default() += 1;
+                });
+            }
+            _ => {}
+        }
+        outcome
+    };
+    for s in sequences(5) {
+        let end = run(&s, &see, &mut Counts::default());
+        assert!(end.is_ok(), "{end:?}");
+    }
+    let (stored, refused) = (stored.into_inner(), refused.into_inner());
+    let times = |count: usize| stored.get(&count).copied().unwrap_or(0);
+    println!("stores of 255: {}, of 256: {}", times(255), times(256));
+    let at_257th_ring = refused.iter().filter(|((rings, _), _)| *rings == 257);
+    let at_257th_ring: usize = at_257th_ring.map(|(_, times)| times).sum();
+    let at_257th_piece = refused.get(&(usize::MAX, 257)).copied().unwrap_or(0);
+    println!("refused at the 257th ring: {at_257th_ring}, at the 257th piece: {at_257th_piece}");
+    assert!(times(255) > 10 && times(256) > 10, "{stored:?}");
+    assert!(stored.keys().all(|count| *count <= 256), "{stored:?}");
+    assert!(at_257th_ring > 5 && at_257th_piece > 5, "{refused:?}");
+}

@@ -1,0 +1,45 @@
+-- A move of a list of changes, decided before its rings are taken. Assumes nothing.
+use mathlib.Core.Path.{_≡_}
+use mathlib.Core.Bool.{Bool, true, false}
+use mathlib.Core.List.{List}
+use Prim.Native.Nat.{ℕ}
+use lib.Ieee.{Float}
+use Rattle.refusals.specs.Paper.{Paper, refuses, demand, onward}
+use Rattle.stock.specs.declared.TurnStockSpec.{TurnStockSpec}
+use Rattle.stock.specs.declared.TurnChange.{TurnChange}
+use Rattle.stock.specs.Spec.{cleanSpec}
+use Rattle.stock.specs.Cell.{stockOf}
+use Rattle.rings.specs.Store.{extentOf, countFits, ringsGood}
+use Rattle.changes.specs.declared.Applied.{Applied}
+use Rattle.changes.specs.Commit.{appliedPaper, generationOf, commitOf}
+use Rattle.moves.specs.declared.Moved.{Moved}
+use Rattle.moves.specs.declared.Moved.the-variants.{Stored, Refused}
+use Rattle.moves.specs.Move.{Left, moveIn, movedPaper, countsOf, ringsAfter}
+
+-- a move of a list of changes: 1, 2, 3, then 4, 10, 7, 8 or 9, 12, 11
+unfoldable pub moveListOf : TurnStockSpec → List Float → List Float → ℕ → ℕ → List TurnChange → List Float → Paper Left
+moveListOf spec cs xs count g l removed = onward (stockOf spec cs) (λ n. moveIn spec n cs xs count g l removed)
+
+-- one whose changes are refused with k: 1, 2, 3, 4 and 10 come first
+unfoldable pub refusedOf : TurnStockSpec → List Float → List Float → ℕ → List Float → ℕ → Paper Left
+refusedOf spec cs xs count removed k =
+    onward (stockOf spec cs) (λ _.
+    demand (countFits (extentOf (cleanSpec spec)) xs count) 4
+    (demand (ringsGood removed) 10
+    (refuses k)))
+
+-- the answer and the lent rings of a move, and the cells as they were
+pub record Storing (p : Paper Left) (r : Moved) (cs cs' xs xs' : List Float) : Type 0 where
+  pub answer : movedPaper r ≡ countsOf p
+  pub cells : cs' ≡ cs
+  pub rings : xs' ≡ ringsAfter p xs
+
+-- so it is of a move of any changes that were decided so
+abbrev pub StoresMove : TurnStockSpec → List Float → List Float → ℕ → ℕ → Applied → List Float → Moved → List Float → List Float → Type 0
+StoresMove spec cs xs count g decided removed r cs' xs' =
+    (l : List TurnChange) → appliedPaper decided ≡ generationOf (commitOf spec cs 0 l) → Storing (moveListOf spec cs xs count g l removed) r cs cs' xs xs'
+
+-- an answer that is no refusal
+abbrev pub isStored : Moved → Bool
+isStored (Stored n g) = true
+isStored (Refused c) = false
