@@ -11,6 +11,7 @@ pub mod far;
 pub mod generate;
 pub mod jobs;
 pub mod library;
+pub mod limits;
 pub mod memory;
 pub mod oracle;
 pub mod record;

@@ -17,7 +17,9 @@ fn usage() -> ExitCode {
     eprintln!(
         "compare far [COUNT] [SEED]      the distance of 01's length from the untouched Rust"
     );
-    eprintln!("compare record [COUNT] [SEED] [FAMILY]   COUNT lines a family, see record.rs");
+    eprintln!(
+        "compare record [COUNT] [SEED] [FAMILY|limits]   COUNT lines a family, see record.rs"
+    );
     eprintln!("compare bench [WORD] [PICTURE]  times both; only rows with WORD");
     eprintln!("compare count ROW SIDE          some goes of a row of the bench, for callgrind");
     eprintln!("compare jobs COUNT SEED PROGRAM..   so many jobs through a job program");
@@ -95,12 +97,17 @@ fn main() -> ExitCode {
         "far" => far::far(count, seed),
         "record" => {
             let only = words.get(3);
+            let mut lines = vec![];
             for (family, ..) in FAMILIES {
                 if only.is_none_or(|o| o == family) {
-                    for line in record::sample(family, count, seed).unwrap() {
-                        println!("{line}");
-                    }
+                    lines.extend(record::sample(family, count, seed).unwrap());
                 }
+            }
+            if only.is_none_or(|o| o == "limits") {
+                lines.extend(record::at_the_limits());
+            }
+            for line in lines {
+                println!("{line}");
             }
         }
         "all" => {

@@ -2,7 +2,8 @@
 //!
 //! A line is a call: its name, its inputs, `=`, and the number it answers, followed where that is 0
 //! by what it wrote. Fields are parted by single spaces. Every f64 is 16 hex digits in capitals,
-//! everything else is decimal.
+//! everything else is decimal. `N*M` says M fields, each the one N
+//! places before it.
 //!
 //! ```text
 //! SPEC     z_min z_max outer bore cell max_cells
@@ -37,32 +38,35 @@
 //! lent beyond the count is the reader's to fill.
 use crate::call::{Answer, Call, Change, List, Outcome, Room, Simple, Spec, Store};
 use crate::generate::{self, Rng};
-use crate::oracle;
+use crate::{limits, oracle};
 use std::collections::BTreeMap;
 
-/// Longer lines are left out of a recording, bytes with the newline.
-pub const LONGEST: usize = 8192;
+/// Longer lines are left out of a sample, bytes with the newline.
+const LONGEST: usize = 8192;
 
-/// So many indices and so many numbers in a list can the replay lend.
-const INDICES: usize = 64;
-const NUMBERS: usize = 2048;
+/// So many bytes of a line, fields, indices and numbers of a list are there in the replay.
+const LINE: usize = 65536;
+const FIELDS: usize = 36864;
+const INDICES: usize = 4096;
+const NUMBERS: usize = 32768;
+
+/// So far back goes a repeat, and so many fields at least does it say.
+const PERIOD: usize = 9;
+const WORTH: usize = 8;
 
 #[derive(Default)]
-struct Line(String);
+struct Line(Vec<String>);
 
 impl Line {
-    fn field(&mut self, text: &str) -> &mut Self {
-        if !self.0.is_empty() {
-            self.0.push(' ');
-        }
-        self.0.push_str(text);
+    fn field(&mut self, text: String) -> &mut Self {
+        self.0.push(text);
         self
     }
     fn size(&mut self, size: impl std::fmt::Display) -> &mut Self {
-        self.field(&size.to_string())
+        self.field(size.to_string())
     }
     fn number(&mut self, x: f64) -> &mut Self {
-        self.field(&format!("{:016X}", x.to_bits()))
+        self.field(format!("{:016X}", x.to_bits()))
     }
     fn each(&mut self, numbers: &[f64]) -> &mut Self {
         for x in numbers {
@@ -108,6 +112,35 @@ impl Line {
     }
     fn rings(&mut self, rings: &[[f64; 4]]) -> &mut Self {
         self.size(rings.len()).each(rings.as_flattened())
+    }
+
+    /// How many fields from `i` on are each the one so many places before it.
+    fn again(&self, i: usize, back: usize) -> usize {
+        let Some(first) = i.checked_sub(back) else {
+            return 0;
+        };
+        let pairs = self.0[first..].iter().zip(&self.0[i..]);
+        pairs.take_while(|(a, b)| a == b).count()
+    }
+
+    /// The line, with what is repeated said once.
+    fn short(&self) -> String {
+        let mut fields = vec![];
+        let mut i = 0;
+        while i < self.0.len() {
+            let repeats = (1..=PERIOD).map(|back| (self.again(i, back), back));
+            match repeats.max() {
+                Some((count, back)) if count >= WORTH => {
+                    fields.push(format!("{back}*{count}"));
+                    i += count;
+                }
+                _ => {
+                    fields.push(self.0[i].clone());
+                    i += 1;
+                }
+            }
+        }
+        fields.join(" ")
     }
 }
 
@@ -224,7 +257,7 @@ fn written(line: &mut Line, call: &Call, answer: &Answer) {
     };
 }
 
-/// The replay can lend what the call is lent. What a line gives whole is held by its length.
+/// The replay can lend what the call is lent. What a line gives whole is held by its fields.
 fn held(call: &Call) -> bool {
     let (indices, numbers) = match call {
         Call::New { cells_len, .. } => (0, *cells_len),
@@ -244,17 +277,40 @@ fn held(call: &Call) -> bool {
     indices <= INDICES && numbers <= NUMBERS
 }
 
-/// The call and its outcome as a line.
-pub fn line(call: &Call, outcome: &Outcome) -> String {
+fn fields(call: &Call, outcome: &Outcome) -> Line {
     let mut line = Line::default();
-    line.field(call.name());
+    line.field(call.name().into());
     inputs(&mut line, call);
-    line.field("=");
+    line.field("=".into());
     match outcome {
         Ok(answer) => written(line.size(0), call, answer),
         Err(number) => drop(line.size(number)),
     }
-    line.0
+    line
+}
+
+/// The call and its outcome as a line.
+pub fn line(call: &Call, outcome: &Outcome) -> String {
+    fields(call, outcome).short()
+}
+
+/// The line, where the replay has room for it and can lend what the call is lent.
+fn replayed(call: &Call, outcome: &Outcome, longest: usize) -> Option<String> {
+    let fields = fields(call, outcome);
+    if !held(call) || fields.0.len() > FIELDS {
+        return None;
+    }
+    Some(fields.short()).filter(|text| text.len() < longest)
+}
+
+/// Every call at a limit, a line each.
+pub fn at_the_limits() -> Vec<String> {
+    let mut lines = vec![];
+    for (call, _) in limits::calls() {
+        let line = replayed(&call, &oracle::answer(&call), LINE);
+        lines.push(line.expect("the replay has room for the call"));
+    }
+    lines
 }
 
 /// So many lines of a family. Of each name and number no more are taken than its share, three in
@@ -279,8 +335,7 @@ pub fn sample(name: &str, count: usize, seed: u64) -> Option<Vec<String>> {
         if *times > share && tries < 100 * count {
             continue;
         }
-        let text = line(&call, &outcome);
-        if text.len() < LONGEST && held(&call) {
+        if let Some(text) = replayed(&call, &outcome, LONGEST) {
             *times += 1;
             lines.push(text);
         }

@@ -1,14 +1,12 @@
 // Slices of numbers out of a line's words, and back.
-ghost use mathlib.Core.Path.{_≡_};
 ghost use Prim.Native.Nat.{_≤_};
-ghost use lib.ListN.{length};
 use crate::words;
 use crate::words::BOTH;
 
 // A call is lent at most so many numbers in a slice, and so many indices.
-pub const ROOM: usize = 2048;
+pub const ROOM: usize = 32768;
 
-pub const INDICES: usize = 64;
+pub const INDICES: usize = 4096;
 
 // n, and no more than most.
 pub fn up_to(n: u64, most: usize) -> usize
@@ -21,9 +19,9 @@ pub fn up_to(n: u64, most: usize) -> usize
 }
 
 // The first n numbers, or none.
-pub fn front(xs: &[f64], n: usize) -> &[f64] {
-    if n <= xs.len() {
-        return &xs[..n];
+pub fn front(xs: &[f64], n: u64) -> &[f64] {
+    if n <= xs.len() as u64 {
+        return &xs[..n as usize];
     }
     &xs[..0]
 }
@@ -64,13 +62,9 @@ fn fill(xs: &mut [f64], to: usize, words: &[u64; BOTH], i: usize, n: usize) {
     }
 }
 
-// The n words from i on, as numbers.
-pub fn numbers(words: &[u64; BOTH], i: usize, n: usize) -> [f64; ROOM]
-    ensures { λ r. ⌜ 2048 ≡ length r ⌝ }
-{
-    let mut xs = [0.0f64; ROOM];
-    fill(&mut xs, 0, words, i, n);
-    xs
+// The n words from i on, as the first numbers of xs, as far as those reach.
+pub fn read_numbers(words: &[u64; BOTH], i: usize, n: u64, xs: &mut [f64]) {
+    fill(xs, 0, words, i, up_to(n, xs.len()));
 }
 
 // How many numbers, and the numbers: where that ends.
@@ -141,7 +135,7 @@ pub fn are_changes(
 
 // A list at word i: how many changes are given. None is, where there are more than are lent.
 pub fn given(words: &[u64; BOTH], i: usize) -> usize
-    ensures { λ r. ⌜ r ≤ 64 ⌝ }
+    ensures { λ r. ⌜ r ≤ 4096 ⌝ }
 {
     let n = words::size(words, words::after(i, 2));
     if n <= words::size(words, i) {
@@ -174,14 +168,14 @@ pub fn read_changes(words: &[u64; BOTH], i: usize, indices: &mut [usize], record
 // ---- rings
 
 // A store at word i: how many numbers are given. None is, where there are more than are lent.
-pub fn stored(words: &[u64; BOTH], i: usize) -> usize {
+pub fn stored(words: &[u64; BOTH], i: usize) -> u64 {
     let n = words::size(words, words::after(i, 1));
     if n <= words::size(words, i) / 4 {
-        return (4 * n) as usize;
+        return 4 * n;
     }
     0
 }
 
 pub fn store_end(words: &[u64; BOTH], i: usize) -> usize {
-    words::after(words::after(i, 2), stored(words, i) as u64)
+    words::after(words::after(i, 2), stored(words, i))
 }

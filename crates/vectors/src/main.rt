@@ -3,8 +3,9 @@
 //
 // A line has the call's name, its inputs, `=`, and the number that it answers, followed where that
 // is 0 by what it wrote. Fields are parted by single spaces. An f64 is the 16 digits of its bits,
-// everything else is decimal. The recorded calls are `compare record 160 2026`, with the answers of
-// the Rust.
+// everything else is decimal. `N*M` stands for M fields, each the one N places before it. The
+// recorded calls are `compare record 160 2026`, with the answers of the Rust: a sample of each
+// family, and the calls at the limits.
 mod lists;
 mod plain;
 mod previews;
@@ -18,7 +19,7 @@ use profiles::Query;
 use table::COUNTS;
 use words::BOTH;
 
-const LINE: usize = 8192;
+const LINE: usize = 65536;
 
 fn replay(kind: usize, words: &[u64; BOTH]) -> bool {
     match kind {

@@ -109,10 +109,12 @@ fn called(
 // The slices of a call whose cells end at word e, whose points stand at word p, and whose lengths
 // stand at word r.
 fn lent(words: &[u64; BOTH], which: Listing, e: usize, p: usize, r: usize) -> bool {
-    let n = words::size(words, 7) as usize;
-    let m = words::size(words, p) as usize;
-    let cells = lists::numbers(words, 8, n);
-    let points = lists::numbers(words, words::after(p, 1), m);
+    let n = words::size(words, 7);
+    let m = words::size(words, p);
+    let mut cells = [0.0f64; ROOM];
+    let mut points = [0.0f64; ROOM];
+    lists::read_numbers(words, 8, n, &mut cells);
+    lists::read_numbers(words, words::after(p, 1), m, &mut points);
     let mut indices = [0usize; INDICES];
     let mut records = [0.0f64; ROOM];
     let a = lists::up_to(words::size(words, r), INDICES);

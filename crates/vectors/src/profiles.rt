@@ -1,5 +1,6 @@
 // The queries of a profile. Its points stand from word 1 on, and end at word e.
 use crate::lists;
+use crate::lists::ROOM;
 use crate::plain;
 use crate::words;
 use crate::words::BOTH;
@@ -95,8 +96,9 @@ fn asked(words: &[u64; BOTH], which: Query, e: usize, points: &[f64]) -> bool {
 }
 
 pub fn replay(words: &[u64; BOTH], which: Query) -> bool {
-    let n = words::size(words, 1) as usize;
-    let points = lists::numbers(words, 2, n);
+    let n = words::size(words, 1);
+    let mut points = [0.0f64; ROOM];
+    lists::read_numbers(words, 2, n, &mut points);
     asked(
         words,
         which,

@@ -45,9 +45,10 @@ fn apply_lent(words: &[u64; BOTH], e: usize) -> bool {
     let n = lists::up_to(words::size(words, 7), ROOM);
     let a = lists::up_to(words::size(words, words::after(e, 1)), INDICES);
     let b = lists::up_to(words::size(words, words::after(e, 2)), ROOM);
-    let mut cells = lists::numbers(words, 8, n);
+    let mut cells = [0.0f64; ROOM];
     let mut indices = [0usize; INDICES];
     let mut records = [0.0f64; ROOM];
+    lists::read_numbers(words, 8, words::size(words, 7), &mut cells);
     lists::read_changes(words, words::after(e, 1), &mut indices, &mut records);
     applied(words, e, &mut cells[..n], &indices[..a], &records[..b])
 }
@@ -94,7 +95,8 @@ fn removed(words: &[u64; BOTH], s: usize, rings: &mut [f64]) -> bool {
 
 pub fn remove_ring(words: &[u64; BOTH]) -> bool {
     let n = lists::up_to(words::size(words, 7), ROOM);
-    let mut rings = lists::numbers(words, 9, lists::stored(words, 7));
+    let mut rings = [0.0f64; ROOM];
+    lists::read_numbers(words, 9, lists::stored(words, 7), &mut rings);
     words::holds(words, 7, ROOM) & removed(words, lists::store_end(words, 7), &mut rings[..n])
 }
 
@@ -144,12 +146,13 @@ fn move_listed(
     rings: &mut [f64],
 ) -> bool {
     let l = lists::list_end(words, words::after(s, 1));
-    let m = words::size(words, l) as usize;
+    let m = words::size(words, l);
     let a = lists::up_to(words::size(words, words::after(s, 1)), INDICES);
     let b = lists::up_to(words::size(words, words::after(s, 2)), ROOM);
-    let taken = lists::numbers(words, words::after(l, 1), m);
+    let mut taken = [0.0f64; ROOM];
     let mut indices = [0usize; INDICES];
     let mut records = [0.0f64; ROOM];
+    lists::read_numbers(words, words::after(l, 1), m, &mut taken);
     lists::read_changes(words, words::after(s, 1), &mut indices, &mut records);
     moved(
         words,
@@ -167,8 +170,15 @@ fn move_listed(
 fn move_stored(words: &[u64; BOTH], e: usize) -> bool {
     let n = lists::up_to(words::size(words, 7), ROOM);
     let m = lists::up_to(words::size(words, e), ROOM);
-    let mut cells = lists::numbers(words, 8, n);
-    let mut rings = lists::numbers(words, words::after(e, 2), lists::stored(words, e));
+    let mut cells = [0.0f64; ROOM];
+    let mut rings = [0.0f64; ROOM];
+    lists::read_numbers(words, 8, words::size(words, 7), &mut cells);
+    lists::read_numbers(
+        words,
+        words::after(e, 2),
+        lists::stored(words, e),
+        &mut rings,
+    );
     let s = lists::store_end(words, e);
     move_listed(words, e, s, &mut cells[..n], &mut rings[..m])
 }
@@ -195,12 +205,14 @@ fn rebuilt(words: &[u64; BOTH], g: usize, cells: &[f64], given: &[f64], rings: &
 }
 
 fn rebuild(words: &[u64; BOTH], e: usize, g: usize) -> bool {
-    let n = words::size(words, 7) as usize;
-    let m = words::size(words, e) as usize;
+    let n = words::size(words, 7);
+    let m = words::size(words, e);
     let k = lists::up_to(words::size(words, g), ROOM);
-    let cells = lists::numbers(words, 8, n);
-    let given = lists::numbers(words, words::after(e, 1), m);
+    let mut cells = [0.0f64; ROOM];
+    let mut given = [0.0f64; ROOM];
     let mut rings = [0.0f64; ROOM];
+    lists::read_numbers(words, 8, n, &mut cells);
+    lists::read_numbers(words, words::after(e, 1), m, &mut given);
     rebuilt(
         words,
         g,
@@ -233,11 +245,18 @@ fn measured(words: &[u64; BOTH], e: usize, cells: &[f64], rings: &[f64]) -> bool
 }
 
 pub fn volume(words: &[u64; BOTH]) -> bool {
-    let n = words::size(words, 7) as usize;
+    let n = words::size(words, 7);
     let e = lists::end_of(words, 7);
-    let cells = lists::numbers(words, 8, n);
-    let rings = lists::numbers(words, words::after(e, 2), lists::stored(words, e));
-    let m = words::size(words, e) as usize;
+    let m = words::size(words, e);
+    let mut cells = [0.0f64; ROOM];
+    let mut rings = [0.0f64; ROOM];
+    lists::read_numbers(words, 8, n, &mut cells);
+    lists::read_numbers(
+        words,
+        words::after(e, 2),
+        lists::stored(words, e),
+        &mut rings,
+    );
     words::holds(words, e, ROOM)
         & measured(words, e, lists::front(&cells, n), lists::front(&rings, m))
 }
@@ -260,7 +279,8 @@ fn seen(words: &[u64; BOTH], e: usize, cells: &[f64]) -> bool {
 }
 
 pub fn envelope_at(words: &[u64; BOTH]) -> bool {
-    let n = words::size(words, 7) as usize;
-    let cells = lists::numbers(words, 8, n);
+    let n = words::size(words, 7);
+    let mut cells = [0.0f64; ROOM];
+    lists::read_numbers(words, 8, n, &mut cells);
     seen(words, lists::end_of(words, 7), lists::front(&cells, n))
 }

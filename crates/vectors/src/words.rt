@@ -1,9 +1,9 @@
 // A line's words. Each is read in two ways, as hexadecimal and as decimal digits: the call says which
 // it is. A word that is not there reads as 0.
-pub const LIMIT: usize = 1024;
+pub const LIMIT: usize = 36864;
 
 // The first LIMIT are read as hexadecimal, the others as decimal.
-pub const BOTH: usize = 2048;
+pub const BOTH: usize = 73728;
 
 // A minus sign is the digit 15, so that no word of decimal digits reads as -1 does.
 pub const MINUS_ONE: u64 = 151;
@@ -44,37 +44,80 @@ fn decimal_on(x: u64, d: u64) -> u64 {
     0
 }
 
-// One byte more of word k.
-fn take(words: &mut [u64; BOTH], k: usize, b: u8) {
-    if b == 32 {
-        return;
-    }
+// The word that is read, and where it says a repeat, how many places back that goes.
+struct Place {
+    k: usize,
+    back: usize,
+}
+
+// Word k, which may be read further.
+fn put(words: &mut [u64; BOTH], k: usize, hex: u64, decimal: u64) {
     if k < LIMIT {
-        let d = digit(b);
-        words[k] = hex_on(words[k], d);
-        words[LIMIT + k] = decimal_on(words[LIMIT + k], d);
+        words[k] = hex;
+        words[LIMIT + k] = decimal;
     }
 }
 
-// The word of the byte after b.
-fn next(k: usize, b: u8) -> usize {
-    if b == 32 {
-        return std::num::wrapping_add_usize(k, 1);
+// n, and no more than one over the limit.
+fn up_to_limit(n: u64) -> usize {
+    if n <= LIMIT as u64 {
+        return n as usize;
     }
-    k
+    LIMIT + 1
+}
+
+// The n words from k on are each the one so many places before it.
+fn again(words: &mut [u64; BOTH], k: usize, back: usize, n: usize) {
+    let mut j: usize = 0;
+    while j < n {
+        let to = std::num::wrapping_add_usize(k, j);
+        let from = std::num::wrapping_sub_usize(to, back);
+        put(words, to, hex(words, from), size(words, from));
+        j += 1;
+    }
+}
+
+// The word after the one read. A repeat stands for the words that it says.
+fn next(words: &mut [u64; BOTH], p: Place) -> Place {
+    if p.back == 0 {
+        return Place {
+            k: std::num::wrapping_add_usize(p.k, 1),
+            back: 0,
+        };
+    }
+    let n = up_to_limit(size(words, p.k));
+    again(words, p.k, p.back, n);
+    Place {
+        k: std::num::wrapping_add_usize(p.k, n),
+        back: 0,
+    }
+}
+
+// One byte more.
+fn take(words: &mut [u64; BOTH], p: Place, b: u8) -> Place {
+    if b == 32 {
+        return next(words, p);
+    }
+    if b == 42 {
+        let back = size(words, p.k) as usize;
+        put(words, p.k, 0, 0);
+        return Place { k: p.k, back };
+    }
+    let d = digit(b);
+    let h = hex_on(hex(words, p.k), d);
+    put(words, p.k, h, decimal_on(size(words, p.k), d));
+    p
 }
 
 // Reads the words of a line, and answers whether there is room for all.
 pub fn read(line: &[u8], words: &mut [u64; BOTH]) -> bool {
-    let mut k: usize = 0;
+    let mut p = Place { k: 0, back: 0 };
     let mut i: usize = 0;
     while i < line.len() {
-        let b = line[i];
-        take(words, k, b);
-        k = next(k, b);
+        p = take(words, p, line[i]);
         i += 1;
     }
-    k < LIMIT
+    next(words, p).k <= LIMIT
 }
 
 fn hex(words: &[u64; BOTH], i: usize) -> u64 {

@@ -7,7 +7,7 @@ use Rattle.vectors.proofs.lists.read_changes.Statement.{statement}
 use Rattle.vectors.proofs.lists.read_changes.Tie as tie
 
 abbrev Inv-loop : tie.InvT-loop
-Inv-loop words i indices₀ records₀ n at₀ to₀ k₀ indices records at to k = (k ≤ n) × (n ≤ 64) × (length indices ≡ length indices₀) × (length records ≡ length records₀)
+Inv-loop words i indices₀ records₀ n at₀ to₀ k₀ indices records at to k = (k ≤ n) × (n ≤ 4096) × (length indices ≡ length indices₀) × (length records ≡ length records₀)
 
 abbrev μ-loop : tie.MeasureT-loop
 μ-loop words i indices₀ records₀ n at₀ to₀ k₀ indices records at to k = n - k

@@ -12,14 +12,20 @@ size-requires c κs = tt
 size-requires-2 : tie.Need-size-requires-2
 size-requires-2 c κs = tt
 
-numbers-requires : tie.Need-numbers-requires
-numbers-requires c κs = tt
+slice-aggregate-read-numbers : tie.Need-slice-aggregate-read-numbers
+slice-aggregate-read-numbers c = search needs
+
+read-numbers-requires : tie.Need-read-numbers-requires
+read-numbers-requires c κs = tt
 
 after-requires : tie.Need-after-requires
 after-requires c κs = tt
 
-numbers-requires-2 : tie.Need-numbers-requires-2
-numbers-requires-2 c κs = tt
+slice-aggregate-read-numbers-2 : tie.Need-slice-aggregate-read-numbers-2
+slice-aggregate-read-numbers-2 c = search needs
+
+read-numbers-requires-2 : tie.Need-read-numbers-requires-2
+read-numbers-requires-2 c κs = tt
 
 size-requires-3 : tie.Need-size-requires-3
 size-requires-3 c κs = tt
@@ -75,9 +81,11 @@ lent-spec =
     (tie.spec
     size-requires
     size-requires-2
-    numbers-requires
+    slice-aggregate-read-numbers
+    read-numbers-requires
     after-requires
-    numbers-requires-2
+    slice-aggregate-read-numbers-2
+    read-numbers-requires-2
     size-requires-3
     up-to-requires
     after-requires-2

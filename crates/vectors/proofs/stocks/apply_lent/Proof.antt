@@ -30,8 +30,14 @@ size-requires-3 c κs = tt
 up-to-requires-3 : tie.Need-up-to-requires-3
 up-to-requires-3 c κs = tt
 
-numbers-requires : tie.Need-numbers-requires
-numbers-requires c κs = tt
+size-requires-4 : tie.Need-size-requires-4
+size-requires-4 c κs = tt
+
+slice-aggregate-read-numbers : tie.Need-slice-aggregate-read-numbers
+slice-aggregate-read-numbers c = search needs
+
+read-numbers-requires : tie.Need-read-numbers-requires
+read-numbers-requires c κs = tt
 
 after-requires-3 : tie.Need-after-requires-3
 after-requires-3 c κs = tt
@@ -81,7 +87,9 @@ apply-lent-spec =
     after-requires-2
     size-requires-3
     up-to-requires-3
-    numbers-requires
+    size-requires-4
+    slice-aggregate-read-numbers
+    read-numbers-requires
     after-requires-3
     slice-aggregate-read-changes
     slice-aggregate-read-changes-2

@@ -36,8 +36,11 @@ up-to-requires-2 c κs = tt
 after-requires-4 : tie.Need-after-requires-4
 after-requires-4 c κs = tt
 
-numbers-requires : tie.Need-numbers-requires
-numbers-requires c κs = tt
+slice-aggregate-read-numbers : tie.Need-slice-aggregate-read-numbers
+slice-aggregate-read-numbers c = search needs
+
+read-numbers-requires : tie.Need-read-numbers-requires
+read-numbers-requires c κs = tt
 
 after-requires-5 : tie.Need-after-requires-5
 after-requires-5 c κs = tt
@@ -95,7 +98,8 @@ move-listed-spec =
     size-requires-3
     up-to-requires-2
     after-requires-4
-    numbers-requires
+    slice-aggregate-read-numbers
+    read-numbers-requires
     after-requires-5
     slice-aggregate-read-changes
     slice-aggregate-read-changes-2

@@ -18,8 +18,14 @@ size-requires-2 c κs = tt
 up-to-requires-2 : tie.Need-up-to-requires-2
 up-to-requires-2 c κs = tt
 
-numbers-requires : tie.Need-numbers-requires
-numbers-requires c κs = tt
+size-requires-3 : tie.Need-size-requires-3
+size-requires-3 c κs = tt
+
+slice-aggregate-read-numbers : tie.Need-slice-aggregate-read-numbers
+slice-aggregate-read-numbers c = search needs
+
+read-numbers-requires : tie.Need-read-numbers-requires
+read-numbers-requires c κs = tt
 
 after-requires : tie.Need-after-requires
 after-requires c κs = tt
@@ -27,8 +33,11 @@ after-requires c κs = tt
 stored-requires : tie.Need-stored-requires
 stored-requires c κs = tt
 
-numbers-requires-2 : tie.Need-numbers-requires-2
-numbers-requires-2 c κs = tt
+slice-aggregate-read-numbers-2 : tie.Need-slice-aggregate-read-numbers-2
+slice-aggregate-read-numbers-2 c = search needs
+
+read-numbers-requires-2 : tie.Need-read-numbers-requires-2
+read-numbers-requires-2 c κs = tt
 
 store-end-requires : tie.Need-store-end-requires
 store-end-requires c κs = tt
@@ -59,10 +68,13 @@ move-stored-spec =
     up-to-requires
     size-requires-2
     up-to-requires-2
-    numbers-requires
+    size-requires-3
+    slice-aggregate-read-numbers
+    read-numbers-requires
     after-requires
     stored-requires
-    numbers-requires-2
+    slice-aggregate-read-numbers-2
+    read-numbers-requires-2
     store-end-requires
     array-borrow-prefix-cells
     slice-aggregate-move-listed

@@ -15,8 +15,11 @@ up-to-requires c κs = tt
 stored-requires : tie.Need-stored-requires
 stored-requires c κs = tt
 
-numbers-requires : tie.Need-numbers-requires
-numbers-requires c κs = tt
+slice-aggregate-read-numbers : tie.Need-slice-aggregate-read-numbers
+slice-aggregate-read-numbers c = search needs
+
+read-numbers-requires : tie.Need-read-numbers-requires
+read-numbers-requires c κs = tt
 
 holds-requires : tie.Need-holds-requires
 holds-requires c κs = tt
@@ -43,7 +46,8 @@ remove-ring-spec =
     size-requires
     up-to-requires
     stored-requires
-    numbers-requires
+    slice-aggregate-read-numbers
+    read-numbers-requires
     holds-requires
     store-end-requires
     array-borrow-prefix-rings

@@ -1,0 +1,364 @@
+//! Calls at document 01's limits and one beyond, each with the number that 01 gives.
+use crate::call::{Call, List, Room, Simple, Spec, Store};
+use crate::oracle::{
+    ARGUMENT, BEFORE, CELLS, COUNT, ENVELOPE, GENERATION, MILLION, MOST_CELLS,
+    MOST_ENVELOPE_POINTS, MOST_POINTS, MOST_RINGS, MOST_SEGMENTS, PIECES, ROOM, STORED,
+};
+
+type Ring = [f64; 4];
+
+const ALL: Room = room(MOST_CELLS);
+const CELL: [f64; 4] = [10., 10., 0., 0.];
+const TURNED: [f64; 4] = [4., 5., 0., 0.];
+
+const fn room(changes: usize) -> Room {
+    Room {
+        indices: changes,
+        records: 8 * changes,
+    }
+}
+
+/// A bar of n bins of 1 mm, radii 0..10.
+fn bar(n: usize) -> Spec {
+    Spec {
+        z_min: 0.,
+        z_max: n as f64,
+        outer: 10.,
+        bore: 0.,
+        cell: 1.,
+        max_cells: MOST_CELLS,
+    }
+}
+
+fn whole(n: usize) -> Vec<f64> {
+    [CELL].repeat(n).into_flattened()
+}
+
+fn specs() -> Vec<(Call, u32)> {
+    let most = bar(MOST_CELLS);
+    let over = bar(MOST_CELLS + 1);
+    let wide = |spec: Spec| Spec {
+        max_cells: usize::MAX,
+        ..spec
+    };
+    let narrow = Spec {
+        max_cells: MOST_CELLS - 1,
+        ..most
+    };
+    let far = |z_max: f64| Spec {
+        z_max,
+        cell: MILLION,
+        ..most
+    };
+    let mut calls = vec![];
+    for (spec, number) in [
+        (most, 0),
+        (over, COUNT),
+        (wide(most), 0),
+        (wide(over), COUNT),
+        (narrow, COUNT),
+        (far(MILLION), 0),
+        (far(MILLION.next_up()), crate::oracle::SPEC),
+    ] {
+        calls.push((Call::Validate { spec }, number));
+    }
+    for (spec, i, number) in [
+        (most, MOST_CELLS - 1, 0),
+        (most, MOST_CELLS, BEFORE),
+        (over, 0, COUNT),
+    ] {
+        calls.push((Call::Bin { spec, i }, number));
+    }
+    for (spec, cells_len, number) in [
+        (most, 4 * MOST_CELLS, 0),
+        (most, 4 * MOST_CELLS - 1, CELLS),
+        (most, 4 * MOST_CELLS + 4, CELLS),
+        (over, 4 * MOST_CELLS + 4, COUNT),
+    ] {
+        calls.push((Call::New { spec, cells_len }, number));
+    }
+    calls
+}
+
+/// So many chords along z from bin 7 on, at radius 9, and their points in (z, r).
+fn chords(count: usize) -> (Vec<f64>, Vec<f64>) {
+    let z = |k: usize| 7. + k as f64 / 8.;
+    let segments = (0..count).map(|k| [9., z(k), 9., z(k + 1), 0.]);
+    let points = (0..count).map(|k| [z(k), 4. + (k % 2) as f64]);
+    (segments.flatten().collect(), points.flatten().collect())
+}
+
+/// The numbers of a nose and of a polygon, whether the cut is a nose's, a million and beyond.
+fn listed() -> Vec<(Call, u32)> {
+    let mut calls = vec![];
+    for n in [64, MOST_CELLS] {
+        for (over, number) in [(0, 0), (1, ARGUMENT)] {
+            for side in [0, 1] {
+                let (spec, cells) = (bar(n), whole(n));
+                let segments = chords(MOST_SEGMENTS + over).0;
+                let points = chords(MOST_POINTS + over).1;
+                calls.push((nose(spec, &cells, side, 1., segments, ALL), number));
+                calls.push((polygon(spec, cells, side, 0.5, points), number));
+            }
+        }
+    }
+    for (x, number) in [(MILLION, 0), (MILLION.next_up(), ARGUMENT)] {
+        let (spec, cells) = (bar(4), whole(4));
+        let segments = vec![x, -x, 9., 2., x];
+        calls.push((nose(spec, &cells, 0, x, segments, ALL), number));
+        calls.push((polygon(spec, cells, 0, x, vec![-x, x, 2., 9.]), number));
+    }
+    calls
+}
+
+fn nose(spec: Spec, cells: &[f64], side: u32, rn: f64, segments: Vec<f64>, room: Room) -> Call {
+    Call::Preview {
+        spec,
+        cells: cells.to_vec(),
+        side,
+        rn,
+        segments,
+        room,
+    }
+}
+
+fn polygon(spec: Spec, cells: Vec<f64>, side: u32, excess: f64, points: Vec<f64>) -> Call {
+    Call::PreviewPolygon {
+        spec,
+        cells,
+        side,
+        excess,
+        points,
+        room: ALL,
+    }
+}
+
+/// Each cut of no list changes seven bins: room for them, and for one fewer.
+fn single() -> Vec<(Call, u32)> {
+    let (spec, cells) = (bar(MOST_CELLS), whole(MOST_CELLS));
+    let (z0, z1) = (100., 107.);
+    let end = MOST_CELLS as f64;
+    let mut calls = vec![];
+    for (room, number) in [(ALL, 0), (room(7), 0), (room(6), ROOM)] {
+        let mut cut = |cut: Simple| {
+            let (spec, cells) = (spec, cells.clone());
+            let call = Call::Cut {
+                spec,
+                cells,
+                cut,
+                room,
+            };
+            calls.push((call, number));
+        };
+        cut(Simple::ThreadCut { z0, z1, radius: 8. });
+        cut(Simple::ThreadCutInner {
+            z0: z1,
+            z1: z0,
+            radius: 8.,
+        });
+        cut(Simple::Drill {
+            tip_z: end - 7.,
+            radius: 4.,
+            cone: 2.,
+        });
+        let mut after = cells.clone();
+        after[400..428].copy_from_slice([TURNED].repeat(7).as_flattened());
+        let (spec, cells) = (spec, cells.clone());
+        calls.push((
+            Call::ChangesTo {
+                spec,
+                cells,
+                after,
+                room,
+            },
+            number,
+        ));
+    }
+    calls
+}
+
+/// One change, of cell i.
+fn change(i: usize) -> List {
+    List {
+        indices: vec![i],
+        records: [CELL, TURNED].as_flattened().to_vec(),
+        changes: 1,
+    }
+}
+
+fn commits() -> Vec<(Call, u32)> {
+    let mut calls = vec![];
+    let last = MOST_CELLS - 1;
+    for (i, generation, number) in [
+        (0, 0, 0),
+        (last, u64::MAX - 1, 0),
+        (last, u64::MAX, GENERATION),
+        (last + 1, 0, BEFORE),
+    ] {
+        let (spec, cells) = (bar(MOST_CELLS), whole(MOST_CELLS));
+        let list = change(i);
+        let call = Call::Apply {
+            spec,
+            cells,
+            generation,
+            list,
+        };
+        calls.push((call, number));
+    }
+    calls
+}
+
+/// Rings side by side, one a bin, and room for so many.
+fn row(count: usize, most: usize) -> Store {
+    let ring = |k: usize| [k as f64, k as f64 + 1., 2., 3.];
+    let mut rings: Vec<f64> = (0..count).flat_map(ring).collect();
+    rings.resize(4 * most, 0.);
+    Store { rings, count }
+}
+
+/// So many squares in a row, one slat across where there are any, and over all but the row two bands.
+/// A ring over the whole bar is then cut into 1 + 3 * squares + slats pieces before the bands take
+/// most of them.
+fn comb(squares: usize, slats: usize) -> Store {
+    let at = |k: usize, r0: f64, r1: f64| [2. * k as f64 + 1., 2. * k as f64 + 2., r0, r1];
+    let mut rings: Vec<Ring> = (0..squares).map(|k| at(k, 4., 5.)).collect();
+    rings.extend((squares..squares + slats).map(|k| at(k, 0., 10.)));
+    let end = 2. * squares as f64 + 0.5;
+    rings.extend([[0., end, 0., 4.], [0., end, 5., 10.]]);
+    let count = rings.len();
+    rings.resize(MOST_RINGS, [0.; 4]);
+    Store {
+        rings: rings.into_flattened(),
+        count,
+    }
+}
+
+const NEXT: Ring = [300., 301., 2., 3.];
+const OVER_ALL: Ring = [0., 512., 0., 10.];
+const OUTSIDE: Ring = [1., 2., 10., 12.];
+
+fn rings() -> Vec<(Call, u32)> {
+    let most = MOST_RINGS;
+    let covered = [3., 4., 2., 3.];
+    let mut calls = vec![];
+    for (store, generation, ring, number) in [
+        (row(most - 1, most), 0, NEXT, 0),
+        (row(most, most), 0, NEXT, PIECES),
+        (row(most, most + 1), 0, NEXT, PIECES),
+        (row(most, most), 0, covered, 0),
+        (row(7, 8), 0, NEXT, 0),
+        (row(7, 7), 0, NEXT, PIECES),
+        (row(most + 1, most + 1), 0, NEXT, STORED),
+        (comb(85, 0), 0, OVER_ALL, 0),
+        (comb(85, 1), 0, OVER_ALL, PIECES),
+        (comb(86, 0), 0, OVER_ALL, PIECES),
+        (row(7, 8), u64::MAX - 1, NEXT, 0),
+        (row(7, 8), u64::MAX, NEXT, GENERATION),
+        (row(7, 7), u64::MAX, OUTSIDE, 0),
+    ] {
+        let spec = bar(512);
+        let call = Call::ApplyMove {
+            spec,
+            cells: whole(512),
+            store: store.clone(),
+            // Its commit raises the generation too.
+            generation: generation.saturating_sub(1),
+            list: change(511),
+            removed: ring.to_vec(),
+        };
+        calls.push((call, number));
+        let call = Call::RemoveRing {
+            spec,
+            store,
+            generation,
+            ring,
+        };
+        calls.push((call, number));
+    }
+    calls
+}
+
+fn parts() -> Vec<(Call, u32)> {
+    let most = MOST_RINGS;
+    let mut calls = vec![];
+    for (given, room, number) in [
+        (most, most, 0),
+        (most, most + 1, 0),
+        (most, most - 1, PIECES),
+        (most + 1, most + 1, PIECES),
+    ] {
+        let (spec, cells) = (bar(MOST_CELLS), whole(MOST_CELLS));
+        let call = Call::FromParts {
+            spec,
+            cells,
+            given: row(given, given).rings,
+            rings_len: 4 * room,
+        };
+        calls.push((call, number));
+    }
+    for (store, number) in [
+        (row(most, most), 0),
+        (row(most + 1, most + 1), STORED),
+        (comb(85, 0), 0),
+    ] {
+        let (spec, cells) = (bar(MOST_CELLS), whole(MOST_CELLS));
+        calls.push((Call::Volume { spec, cells, store }, number));
+    }
+    let end = MOST_CELLS as f64;
+    for z in [0., end - 0.5, end, end.next_up(), -f64::from_bits(1)] {
+        let (spec, cells) = (bar(MOST_CELLS), whole(MOST_CELLS));
+        calls.push((Call::EnvelopeAt { spec, cells, z }, 0));
+    }
+    calls
+}
+
+/// So many points of an envelope, u rising, falling or back and forth.
+fn envelope(count: usize, order: i32) -> Vec<f64> {
+    let u = |k: usize| match order {
+        1 => k as f64 / 4.,
+        -1 => (count - k) as f64 / 4.,
+        _ => (7 * k % 256) as f64,
+    };
+    let r = |k: usize| 3. + (k % 5) as f64 / 3.;
+    (0..count).flat_map(|k| [r(k), u(k)]).collect()
+}
+
+fn queries() -> Vec<(Call, u32)> {
+    let mut calls = vec![];
+    for (count, number) in [
+        (MOST_ENVELOPE_POINTS, 0),
+        (MOST_ENVELOPE_POINTS + 1, ENVELOPE),
+    ] {
+        for order in [1, -1, 0] {
+            let points = envelope(count, order);
+            let (lo, hi, u) = (100.1, 100.6, 100.3);
+            let again = || points.clone();
+            calls.push((Call::EnvelopeOrder { points: again() }, number));
+            calls.push((
+                Call::Within {
+                    points: again(),
+                    lo,
+                    hi,
+                },
+                number,
+            ));
+            calls.push((Call::RadiusAt { points: again(), u }, number));
+            calls.push((Call::RadiusRange { points, lo, hi }, number));
+        }
+    }
+    calls
+}
+
+/// Every call at a limit, with its number.
+pub fn calls() -> Vec<(Call, u32)> {
+    [
+        specs(),
+        listed(),
+        single(),
+        commits(),
+        rings(),
+        parts(),
+        queries(),
+    ]
+    .concat()
+}
