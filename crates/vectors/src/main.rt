@@ -1,4 +1,4 @@
-// Replays recorded calls of the library, a line each, and writes for every kind of call how many
+// Replays recorded calls of the library, one a line, and writes for every kind of call how many
 // there were, and how many answered something else than recorded.
 //
 // A line has the call's name, its inputs, `=`, and the number that it answers, followed where that
@@ -50,7 +50,7 @@ fn replay(kind: usize, words: &[u64; BOTH]) -> bool {
 
 // Replays the call of a line, and counts it.
 fn take_line(counts: &mut [u64; COUNTS], line: &[u8]) {
-    let mut words = [0u64; BOTH];
+    let mut words = [words::NO_WORD; BOTH];
     let kind = table::kind_of(line);
     if words::read(line, &mut words) {
         table::count(counts, kind, replay(kind, &words));

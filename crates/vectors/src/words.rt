@@ -1,5 +1,5 @@
 // A line's words. Each is read in two ways, as hexadecimal and as decimal digits: the call says which
-// it is. A word that is not there reads as 0.
+// it is. A word that is not there reads as no number and as the largest size.
 pub const LIMIT: usize = 36864;
 
 // The first LIMIT are read as hexadecimal, the others as decimal.
@@ -7,6 +7,9 @@ pub const BOTH: usize = 73728;
 
 // A minus sign is the digit 15, so that no word of decimal digits reads as -1 does.
 pub const MINUS_ONE: u64 = 151;
+
+// What stands where no word was read.
+pub const NO_WORD: u64 = u64::MAX;
 
 // The sign before an answer is a digit of its own.
 const EQUALS: u64 = 61;
@@ -31,6 +34,14 @@ fn digit(b: u8) -> u64 {
         return (b - 55) as u64;
     }
     0
+}
+
+// The digits of a word so far.
+fn so_far(x: u64) -> u64 {
+    if x == NO_WORD {
+        return 0;
+    }
+    x
 }
 
 fn hex_on(x: u64, d: u64) -> u64 {
@@ -104,8 +115,8 @@ fn take(words: &mut [u64; BOTH], p: Place, b: u8) -> Place {
         return Place { k: p.k, back };
     }
     let d = digit(b);
-    let h = hex_on(hex(words, p.k), d);
-    put(words, p.k, h, decimal_on(size(words, p.k), d));
+    let h = hex_on(so_far(hex(words, p.k)), d);
+    put(words, p.k, h, decimal_on(so_far(size(words, p.k)), d));
     p
 }
 
