@@ -110,6 +110,37 @@ pub fn nose(
     )
 }
 
+// A polygon, with empty rows for the bins.
+fn polygon_over(
+    s: TurnStockSpec,
+    n: usize,
+    side: TurnSide,
+    excess: f64,
+    points: &[f64],
+    cells: &[f64],
+    indices: &mut [usize],
+    numbers: &mut [f64],
+    values: &mut [f64],
+    there: &mut [bool],
+) -> Previewed
+    requires { ⌜ (n ≤ cellLimit) × ((i : ℕ) → i < n → SameTo (now cells) i) × Room n (now values) (now there) × Empty 0 n (rowAt (now values) (now there)) ⌝ }
+    ensures { λ r. ⌜ Proposed (proposed (polygonAct s side excess (now (points .entry))) (now (cells .entry)) (roomOf (length (now (indices .entry))) (length (now (numbers .entry)))) n) r (now (indices .entry)) (now (indices .exit)) (now (numbers .entry)) (now (numbers .exit)) ⌝ }
+{
+    let bins = across::fill(s, n, side, excess, points, values, there);
+    list::list(
+        s,
+        Source::Rows(side),
+        values,
+        there,
+        cells,
+        bins.from,
+        bins.to,
+        n,
+        indices,
+        numbers,
+    )
+}
+
 // A polygon.
 pub fn polygon(
     s: TurnStockSpec,
@@ -124,20 +155,35 @@ pub fn polygon(
     requires { ⌜ (n ≤ cellLimit) × ((i : ℕ) → i < n → SameTo (now cells) i) ⌝ }
     ensures { λ r. ⌜ Proposed (proposed (polygonAct s side excess (now (points .entry))) (now (cells .entry)) (roomOf (length (now (indices .entry))) (length (now (numbers .entry)))) n) r (now (indices .entry)) (now (indices .exit)) (now (numbers .entry)) (now (numbers .exit)) ⌝ }
 {
+    if n <= FEW_BINS {
+        let mut values = [0.0f64; FEW_PLACES];
+        let mut there = [false; FEW_PLACES];
+        return polygon_over(
+            s,
+            n,
+            side,
+            excess,
+            points,
+            cells,
+            indices,
+            numbers,
+            &mut values,
+            &mut there,
+        );
+    }
     let mut values = [0.0f64; PLACES];
     let mut there = [false; PLACES];
-    let bins = across::fill(s, n, side, excess, points, &mut values, &mut there);
-    list::list(
+    polygon_over(
         s,
-        Source::Rows(side),
-        &values,
-        &there,
-        cells,
-        bins.from,
-        bins.to,
         n,
+        side,
+        excess,
+        points,
+        cells,
         indices,
         numbers,
+        &mut values,
+        &mut there,
     )
 }
 

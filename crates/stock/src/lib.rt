@@ -240,6 +240,9 @@ fn pair_fits(s: TurnStockSpec, b: RadiusBounds) -> bool
 pub fn cell_fits(s: TurnStockSpec, c: TurnCell) -> bool
     ensures { λ r. ⌜ r ≡ cellFits s c ⌝ }
 {
+    if 0.0 <= s.bore_radius_mm {
+        return cell_passes(s, c);
+    }
     pair_fits(s, c.outer) & pair_fits(s, c.inner)
 }
 
