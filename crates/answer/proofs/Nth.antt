@@ -14,7 +14,7 @@ use Rattle.spelled.specs.Text.{genLine, refusedLine}
 use Rattle.spelled.specs.Wrote.{Wrote}
 use Rattle.answer.specs.Answer.{cellAt, ringAt, linesTo, answerOf}
 
-lines-length : (f : ℕ → List ℕ) (n : ℕ) → length (linesTo f n) ≡ n
+pub lines-length : (f : ℕ → List ℕ) (n : ℕ) → length (linesTo f n) ≡ n
 unfolding linesTo
 lines-length f zero = refl
 lines-length f (suc n) = length-append (linesTo f n) (f n ∷ []) ∙ (let e : length (linesTo f n) ≡ n = lines-length f n in omega arith)

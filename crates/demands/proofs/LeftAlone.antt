@@ -1,4 +1,4 @@
--- The first demand over the calls themselves, by their promises: a call is refused exactly as its rule is, a refusal returns its number only, and every lent buffer keeps its contents.
+-- The first demand over the calls themselves, by their promises: a call is refused exactly as its rule is, a refusal returns its number only, and every lent buffer keeps its contents, but for the two lists that a line of a job is lent as scratch.
 -- A buffer that a call is lent to read alone it cannot write: that is its type. Here are those that it is lent to write. Assumes nothing.
 use mathlib.Core.Path.{_≡_, refl, sym, ap, _∙_, subst}
 use mathlib.Core.List.{List}
@@ -33,6 +33,8 @@ use Rattle.moves.specs.declared.Moved.the-variants as moved
 use Rattle.moves.specs.Move as moves
 use Rattle.moves.specs.Move.{Left, movedPaper, Moves}
 use Rattle.envelope.specs.Halving.{keptOf, Kept}
+use Rattle.job_lines.specs.declared.Carried.the-variants as carried
+use Rattle.job_lines.specs.Job.{Stand, Carries}
 use Rattle.demands.specs.Refused.{Asked, Exactly}
 use Rattle.demands.proofs.Asking.{refusalOf, same-number, exactly-as}
 
@@ -110,6 +112,12 @@ move-call {p} {r} h x = exactly-as (movedPaper r) (ap refusalOf (h .answer) ∙ 
 pub move-left : (p : Paper Left) (c : Refusal) (cs cs' xs xs' : List Float) → Moves p (moved.Refused c) cs cs' xs xs' → (p ≡ refuses (numberOf c)) × (cs' ≡ cs) × (xs' ≡ xs)
 move-left (answers k) c cs cs' xs xs' h = absurd (no-answer (numberOf c) _ (h .answer))
 move-left (refuses n) c cs cs' xs xs' h = (same-number (h .answer), h .cells, h .rings)
+
+-- ---- a line of a job: the cells and the rings. The two lists are scratch of the call: at the last generation a cut has written its changes there when its commit answers 12
+
+pub line-left : (p : Paper Stand) (c : Refusal) (cs cs' xs xs' : List Float) → Carries p (carried.Refused c) cs cs' xs xs' → (p ≡ refuses (numberOf c)) × (cs' ≡ cs) × (xs' ≡ xs)
+line-left (answers s) c cs cs' xs xs' h = absurd (no-answer (numberOf c) (s .job) (h .answer))
+line-left (refuses n) c cs cs' xs xs' h = (same-number (h .answer), h .cells, h .rings)
 
 -- ---- a new stock: the numbers that it is to fill
 

@@ -44,9 +44,9 @@
 --   job_lines carry_out (Carrying.once of job_lines; its two lists by the equations of `Lists`)
 --   job_run   take_part (taken-once), output_line (wrote-once)
 --
--- The calls of the C boundary: proofs/Once of turning.
+-- The calls of the C boundary: proofs/Once of turning. What `streams` and `job_streams` read and write is not determined by a promise: docs/OPEN_ANSWERS.md.
 use mathlib.Core.Path.{_≡_, refl, sym, ap, ap₂, _∙_}
-use mathlib.Core.List.{List}
+use mathlib.Core.List.{List, foldl}
 use mathlib.Core.Option.{Option, none, some}
 use Prim.Native.Nat.{ℕ, _+_}
 use native.Mathlib.Omega.{arith}
@@ -56,6 +56,7 @@ use denote.Ref.{RefT, now}
 use Rattle.refusals.specs.declared.Refusal.{Refusal}
 use Rattle.refusals.specs.Number.{numberOf}
 use Rattle.refusals.specs.Paper.{Paper, answers, refuses}
+use Rattle.refusals.specs.Lent.{Lent}
 use Rattle.refusals.proofs.OneToOne.{one-to-one}
 use Rattle.numbers.specs.declared.Rooted.{Rooted}
 use Rattle.numbers.specs.declared.Rooted.the-variants as rooted
@@ -114,7 +115,7 @@ use Rattle.rings.specs.Remove.{RingStore, RingCount, removedPaper, Removes}
 use Rattle.spelled.specs.Wrote.{Wrote}
 use Rattle.job_run.specs.declared.Run.{Run}
 use Rattle.job_run.specs.declared.Taken.{Taken}
-use Rattle.job_run.specs.Run.{State, state, Hold, hold}
+use Rattle.job_run.specs.Run.{State, Hold, byteOn, asFound, asLeft, TakesPart}
 
 -- ---- a promise that is an equation
 
@@ -324,8 +325,10 @@ pub wrote-once : (l : List ℕ) (i : ℕ) (t m m' : List ℕ) (j j' : ℕ) → W
 wrote-once l i t m m' j j' a b = (a .end ∙ sym (b .end), a .text ∙ sym (b .text))
 
 -- bytes taken: the run and the count of bytes held, the cells, the rings and the bytes of the unfinished line
-pub taken-once : (h : Hold) (r r' : Taken) (cs cs' rs rs' : List Float) (l l' : List ℕ) → hold (state (r .run) cs rs) l (r .len) ≡ h → hold (state (r' .run) cs' rs') l' (r' .len) ≡ h → (r ≡ r') × (cs ≡ cs') × (rs ≡ rs') × (l ≡ l')
-taken-once h r r' cs cs' rs rs' l l' a b =
-    let e : hold (state (r .run) cs rs) l (r .len) ≡ hold (state (r' .run) cs' rs') l' (r' .len) = a ∙ sym b in
-    let s : state (r .run) cs rs ≡ state (r' .run) cs' rs' = ap (λ (x : Hold). x .state) e in
+pub taken-once : (run : Run) (len : ℕ) (cells cells' rings rings' : Lent Float) (line line' : Lent ℕ) (bytes : List ℕ) (r r' : Taken) → asFound run len cells rings line ≡ asFound run len cells' rings' line'
+    → TakesPart run len cells rings line bytes r → TakesPart run len cells' rings' line' bytes r'
+    → (r ≡ r') × (now (cells .exit) ≡ now (cells' .exit)) × (now (rings .exit) ≡ now (rings' .exit)) × (now (line .exit) ≡ now (line' .exit))
+taken-once run len cells cells' rings rings' line line' bytes r r' found a b =
+    let e : asLeft (r .run) (r .len) cells rings line ≡ asLeft (r' .run) (r' .len) cells' rings' line' = a .same ∙ ap (λ (h : Hold). foldl byteOn h bytes) found ∙ sym (b .same) in
+    let s = ap (λ (x : Hold). x .state) e in
     (ap₂ (λ (u : Run) (n : ℕ). record { run = u; len = n }) (ap (λ (x : State). x .run) s) (ap (λ (x : Hold). x .len) e), ap (λ (x : State). x .cells) s, ap (λ (x : State). x .rings) s, ap (λ (x : Hold). x .line) e)

@@ -215,8 +215,9 @@ fn later_line(
     }
 }
 
-// A line without its newline, carried out; 15, 13, or what its call refuses. The lists are left with the
-// changes that a cut proposed over their fronts.
+// A line without its newline, carried out; 15, 13, or what its call refuses. A refusal leaves cells and
+// rings. The lists are scratch of the call: the changes that a cut proposed stand over their fronts
+// afterwards, also where the commit is refused then (12, at the last generation).
 pub fn carry_out(
     job: Job,
     line: &[u8],

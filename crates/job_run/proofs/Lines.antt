@@ -1,8 +1,11 @@
 -- What a line, a part and the end do to a job. Assumes nothing.
-use Prim.Native.Nat.{ℕ, _+_, _*_, _≤_, _<_}
-use mathlib.Core.Path.{_≡_, sym, ap, _∙_, subst}
-use mathlib.Core.List.{List, []}
-use lib.ListN.{take, set, getD}
+use Prim.Native.Nat.{ℕ, _+_, _*_, _/_, _≤_, _<_}
+use native.Mathlib.Omega.{arith}
+use mathlib.Core.Path.{_≡_, refl, sym, ap, _∙_, subst}
+use mathlib.Core.Bool.{Bool, true, false}
+use mathlib.Core.List.{List, [], _∷_, _++_}
+use lib.Dec.{eqb}
+use lib.ListN.{length, take, set, getD, length-take, length-append}
 use lib.Ieee.{Float}
 use borrow.Author.Tests.{eq-eqb, ne-eqb, lt-ltb, le-ltb}
 use Rattle.refusals.specs.declared.Refusal.{Refusal}
@@ -16,9 +19,12 @@ use Rattle.job_lines.specs.declared.Carried.{Carried}
 use Rattle.job_lines.specs.declared.Carried.the-variants as carried
 use Rattle.job_lines.proofs.Carrying.{same-number}
 use Rattle.job_lines.specs.Job.{Stand, fullRoom, jobLine, Carries}
-use Rattle.answer.specs.Answer.{answerOf}
+use Rattle.spelled.specs.Text.{genLine}
+use Rattle.words.specs.Kind.{maxCells}
+use Rattle.answer.specs.Answer.{cellAt, ringAt, linesTo, answerOf}
+use Rattle.answer.proofs.Nth.{lines-length}
 use Rattle.job_run.specs.declared.Run.{Run}
-use Rattle.job_run.specs.Run.{State, state, next, refusedWith, refusing, answered, onLine, onLong, hold, roomOf, byteOn, finishOf, outputOf}
+use Rattle.job_run.specs.Run.{State, state, next, refusedWith, refusing, answered, onLine, onLong, hold, byteOn, finishOf, outputOf, maxRings, mostLines}
 
 -- ---- a line
 
@@ -73,24 +79,51 @@ unfolding finishOf
 finish-done j n h k l = simp (eq-eqb _ _ h, eq-eqb _ _ k, ne-eqb _ _ l, no)
 
 -- ---- a byte
-module _ (st : State) (l : List ℕ) (n b : ℕ) where
-  pub byte-stopped : (st .run .refused ≡ 0 → ⊥) → hold st l n ≡ byteOn (hold st l n) b
-  unfolding byteOn
-  byte-stopped h = simp (ne-eqb _ _ h, yes)
+pub byte-stopped : (st : State) (l : List ℕ) (n b : ℕ) → (st .run .refused ≡ 0 → ⊥) → hold st l n ≡ byteOn (hold st l n) b
+unfolding byteOn
+byte-stopped st l n b h = simp (ne-eqb _ _ h, yes)
 
-  pub byte-ends : (after : State) → st .run .refused ≡ 0 → b ≡ 10 → after ≡ onLine st (take n l) → hold after l 0 ≡ byteOn (hold st l n) b
+module _ (st : State) (l : List ℕ) (n b : ℕ) (l' : List ℕ) (put : l' ≡ set l n b) (h : st .run .refused ≡ 0) where
+  pub byte-ends : (after : State) → b ≡ 10 → after ≡ onLine st (take n l) → hold after l' 0 ≡ byteOn (hold st l n) b
   unfolding byteOn
-  byte-ends after h k e = rw e (simp (eq-eqb _ _ h, eq-eqb _ _ k, no, yes))
+  byte-ends after k e = rw (e, put) (simp (eq-eqb _ _ h, eq-eqb _ _ k, no, yes))
 
-  pub byte-held : st .run .refused ≡ 0 → (b ≡ 10 → ⊥) → n < roomOf l → hold st (set l n b) (n + 1) ≡ byteOn (hold st l n) b
+  pub byte-held : (b ≡ 10 → ⊥) → n < 127 → hold st l' (n + 1) ≡ byteOn (hold st l n) b
   unfolding byteOn
-  byte-held h k r = simp (eq-eqb _ _ h, ne-eqb _ _ k, lt-ltb n (roomOf l) r, no, yes)
+  byte-held k r = rw put (simp (eq-eqb _ _ h, ne-eqb _ _ k, lt-ltb n 127 r, no, yes))
 
-  pub byte-over : st .run .refused ≡ 0 → (b ≡ 10 → ⊥) → roomOf l ≤ n → hold (onLong st) l 0 ≡ byteOn (hold st l n) b
+  pub byte-over : (j : Run) → (b ≡ 10 → ⊥) → 127 ≤ n → j ≡ refusing (st .run) LineMalformed → hold (state j (st .cells) (st .rings)) l' 0 ≡ byteOn (hold st l n) b
   unfolding byteOn
-  byte-over h k r = simp (eq-eqb _ _ h, ne-eqb _ _ k, le-ltb n (roomOf l) r, no)
+  byte-over j k r e = rw (e, put) (simp (eq-eqb _ _ h, ne-eqb _ _ k, le-ltb n 127 r, no))
 
 -- ---- the output
 pub output-is : (r : Run) (cs rs xs ys : List Float) (k : ℕ) → xs ≡ take (4 * r .job .cells) cs → ys ≡ take (4 * r .job .rings) rs → getD (answerOf (r .refused) (r .lines) (r .job .generation) xs ys) k [] ≡ getD (outputOf (state r cs rs)) k []
 unfolding outputOf
 output-is r cs rs xs ys k ex ey = rw (ex, ey)
+
+-- an answer has so many lines at most
+pub output-most : (r : Run) (cs rs : List Float) → length cs ≡ 4 * maxCells → length rs ≡ 4 * maxRings → length (outputOf (state r cs rs)) ≤ mostLines
+unfolding outputOf answerOf
+output-most r cs rs hc hr = by (eqb (r .refused) 0) refl
+  where
+    xs : List Float
+    xs = take (4 * r .job .cells) cs
+
+    ys : List Float
+    ys = take (4 * r .job .rings) rs
+
+    by : (t : Bool) → eqb (r .refused) 0 ≡ t → length (answerOf (r .refused) (r .lines) (r .job .generation) xs ys) ≤ mostLines
+    by true e =
+        simp (e, yes)
+        (omega (
+          arith,
+          hc,
+          hr,
+          length-take (4 * r .job .cells) cs,
+          length-take (4 * r .job .rings) rs,
+          length-append (linesTo (cellAt xs) (length xs / 4)) (linesTo (ringAt ys) (length ys / 4) ++ (genLine (r .job .generation) ∷ [])),
+          length-append (linesTo (ringAt ys) (length ys / 4)) (genLine (r .job .generation) ∷ []),
+          lines-length (cellAt xs) (length xs / 4),
+          lines-length (ringAt ys) (length ys / 4),
+        ))
+    by false e = simp (e, no) (omega arith)

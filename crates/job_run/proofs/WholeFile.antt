@@ -9,13 +9,13 @@ use lib.Dec.{eqb, ltb}
 use lib.ListN.{length, take, set, length-set}
 use lib.Seq.{take-suc-set, length-take-le}
 use lib.Ieee.{Float}
-use borrow.Author.Tests.{lt-ltb, le-ltb, ltb-true, ltb-false}
+use borrow.Author.Tests.{ne-eqb, lt-ltb, le-ltb, ltb-true, ltb-false}
 use Rattle.refusals.specs.declared.Refusal.the-variants.{LineMalformed}
 use Rattle.floats.specs.Pick.{pick}
 use Rattle.text.proofs.Chosen.{yes, no}
 use Rattle.job_run.specs.declared.Run.{Run}
 use Rattle.job_run.specs.File.{ended, joined}
-use Rattle.job_run.specs.Run.{State, state, refusedWith, refusing, onLine, onLong, onEnd, stopped, Hold, hold, roomOf, byteOn, finishOf, jobOf}
+use Rattle.job_run.specs.Run.{State, state, refusedWith, refusing, onLine, onLong, onEnd, stopped, Hold, hold, byteOn, finishOf, jobOf, cutOf}
 use Rattle.job_run.proofs.Hands.{Hand, hand, takes, inTurn, byteOn as handOn}
 use Rattle.job_run.proofs.AnyCut.{any-cut}
 
@@ -38,31 +38,34 @@ record Follows (h k : Hold) (b : ℕ) : Type 0 where
 
 byte-follows : (h : Hold) (b : ℕ) → Fits h → Follows h (byteOn h b) b
 unfolding byteOn handOn
-byte-follows h b f = by (stopped (h .state)) refl (eqb b 10) refl (ltb (h .len) (roomOf (h .line))) refl
+byte-follows h b f = by (stopped (h .state)) refl (eqb b 10) refl (ltb (h .len) 127) refl
   where
     long : length (take (h .len) (h .line)) ≡ h .len
     long = length-take-le (h .len) (h .line) (omega (arith, f .within, f .room))
 
-    by : (t : Bool) → stopped (h .state) ≡ t → (u : Bool) → eqb b 10 ≡ u → (v : Bool) → ltb (h .len) (roomOf (h .line)) ≡ v
-        → Follows h (pick (stopped (h .state)) h (pick (eqb b 10) (hold (onLine (h .state) (take (h .len) (h .line))) (h .line) 0) (pick (ltb (h .len) (roomOf (h .line))) (hold (h .state) (set (h .line) (h .len) b) (h .len + 1)) (hold (onLong (h .state)) (h .line) 0)))) b
+    room : 127 ≤ length (set (h .line) (h .len) b)
+    room = subst (λ (k : ℕ). 127 ≤ k) (sym (length-set (h .line) (h .len) b)) (f .room)
+
+    by : (t : Bool) → stopped (h .state) ≡ t → (u : Bool) → eqb b 10 ≡ u → (v : Bool) → ltb (h .len) 127 ≡ v
+        → Follows h (pick (stopped (h .state)) h (pick (eqb b 10) (hold (onLine (h .state) (take (h .len) (h .line))) (set (h .line) (h .len) b) 0) (pick (ltb (h .len) 127) (hold (h .state) (set (h .line) (h .len) b) (h .len + 1)) (hold (onLong (h .state)) (set (h .line) (h .len) b) 0)))) b
     by true e u eu v ev = rw e (record { same = simp (e, yes); fits = simp yes f })
-    by false e true eu v ev = rw (e, eu) (record { same = simp (e, eu, yes, no); fits = simp (yes, no) (record { within = omega arith; room = f .room }) })
+    by false e true eu v ev = rw (e, eu) (record { same = simp (e, eu, yes, no); fits = simp (yes, no) (record { within = omega arith; room = room }) })
     by false e false eu true ev =
-        let r : h .len < roomOf (h .line) = ltb-true _ _ ev in
-        let w : length (take (h .len) (h .line)) < 127 = omega (arith, long, f .room) in
+        let r : h .len < 127 = ltb-true _ _ ev in
+        let w : length (take (h .len) (h .line)) < 127 = omega (arith, long, r) in
         let q : take (h .len + 1) (set (h .line) (h .len) b) ≡ take (h .len) (h .line) ++ (b ∷ []) = ap (λ (k : ℕ). take k (set (h .line) (h .len) b)) (add-one (h .len)) ∙ take-suc-set (h .line) (h .len) b (omega (arith, r, f .room)) in
         rw (e, eu, ev)
         (record {
           same = simp (e, eu, yes, no, lt-ltb _ _ w, q);
-          fits = simp (yes, no) (record { within = omega (arith, r); room = subst (λ (k : ℕ). 127 ≤ k) (sym (length-set (h .line) (h .len) b)) (f .room) });
+          fits = simp (yes, no) (record { within = omega (arith, r); room = room });
         })
     by false e false eu false ev =
-        let r : roomOf (h .line) ≤ h .len = ltb-false _ _ ev in
-        let w : 127 ≤ length (take (h .len) (h .line)) = omega (arith, long, f .room, r) in
+        let r : 127 ≤ h .len = ltb-false _ _ ev in
+        let w : 127 ≤ length (take (h .len) (h .line)) = omega (arith, long, r) in
         rw (e, eu, ev)
         (record {
           same = simp (e, eu, no, le-ltb _ _ w);
-          fits = simp no (record { within = omega arith; room = f .room });
+          fits = simp no (record { within = omega arith; room = room });
         })
 
 -- and so does a part
@@ -120,3 +123,24 @@ however-cut st line ps h =
     finish-ended (k .state .run) (k .state .cells) (k .state .rings) (take (k .len) (k .line)) (k .len) l
     ∙ ap (λ (j : Hand State). ended stopped onLong onEnd (j .job) (j .held)) (o .same)
     ∙ any-cut stopped onLine onLong onEnd long-stops ps st
+
+-- ---- input that is cut off
+
+-- the run that a job in hand ends with, where more of its line was to come
+abbrev pub endCutOf : Hold → State
+endCutOf h = state (finishOf (h .state .run) 1) (h .state .cells) (h .state .rings)
+
+-- one byte more that is no newline, and then the end
+one-more : (h : Hold) → endCutOf h ≡ endOf (byteOn h 0)
+unfolding byteOn finishOf refusedWith
+one-more h = by (stopped (h .state)) refl (ltb (h .len) 127) refl
+  where
+    by : (t : Bool) → stopped (h .state) ≡ t → (v : Bool) → ltb (h .len) 127 ≡ v → endCutOf h ≡ endOf (byteOn h 0)
+    by true e v ev = simp (e, yes)
+    by false e true ev = simp (e, ev, ne-eqb (h .len + 1) 0 (λ q. omega (arith, q)), yes, no)
+    by false e false ev = simp (e, ev, yes, no)
+
+-- bytes that are taken and then cut off
+pub cut-finish : (st : State) (line s : List ℕ) → 127 ≤ length line → endCutOf (foldl byteOn (hold st line 0) s) ≡ cutOf st s
+unfolding joined
+cut-finish st line s h = one-more (foldl byteOn (hold st line 0) s) ∙ however-cut st line (s ∷ (0 ∷ []) ∷ []) h

@@ -1,19 +1,24 @@
 -- A job as its bytes come: its lines one by one, to the first refusal. Assumes nothing.
-use Prim.Native.Nat.{ℕ, _+_, _-_, _*_, _%_, _^_, min}
+use mathlib.Core.Path.{_≡_}
+use Prim.Native.Nat.{ℕ, _+_, _-_, _*_, _%_, _^_}
 use mathlib.Core.Bool.{Bool, not}
-use mathlib.Core.List.{List}
+use mathlib.Core.List.{List, [], _∷_, _++_, foldl}
 use lib.Dec.{eqb, ltb}
 use lib.ListN.{length, take, set}
 use lib.Ieee.{Float}
+use denote.Ref.{now}
 use Rattle.refusals.specs.declared.Refusal.{Refusal}
 use Rattle.refusals.specs.declared.Refusal.the-variants.{LineMalformed}
 use Rattle.refusals.specs.Number.{numberOf}
 use Rattle.refusals.specs.Paper.{Paper, answers, refuses}
+use Rattle.refusals.specs.Lent.{Lent}
 use Rattle.floats.specs.Pick.{pick}
 use Rattle.floats.specs.Numbers.{zero64}
+use Rattle.words.specs.Kind.{maxCells}
 use Rattle.job_lines.specs.Job.{Stand, lineLimit, fullRoom, jobLine}
 use Rattle.answer.specs.Answer.{answerOf}
 use Rattle.job_run.specs.declared.Run.{Run}
+use Rattle.job_run.specs.declared.Taken.{Taken}
 use Rattle.job_run.specs.File.{overPieces, piecesOf}
 
 -- a run with the lent numbers of its cells and its rings
@@ -75,17 +80,35 @@ pub record Hold : Type 0 where
 abbrev pub hold : State → List ℕ → ℕ → Hold
 hold st l n = record { state = st; line = l; len = n }
 
--- room for a line without its newline, and no more than there are bytes
-abbrev pub roomOf : List ℕ → ℕ
-roomOf l = min (lineLimit - 1) (length l)
-
--- a newline ends the line; any other byte goes behind it, or is one too many
+-- a byte goes behind the held ones: a newline ends the line, any other byte is held, or is one too many
 unfoldable pub byteOn : Hold → ℕ → Hold
 byteOn h b =
     pick (stopped (h .state)) h
-    (pick (eqb b 10) (hold (onLine (h .state) (take (h .len) (h .line))) (h .line) 0)
-    (pick (ltb (h .len) (roomOf (h .line))) (hold (h .state) (set (h .line) (h .len) b) (h .len + 1))
-    (hold (onLong (h .state)) (h .line) 0)))
+    (pick (eqb b 10) (hold (onLine (h .state) (take (h .len) (h .line))) (set (h .line) (h .len) b) 0)
+    (pick (ltb (h .len) (lineLimit - 1)) (hold (h .state) (set (h .line) (h .len) b) (h .len + 1))
+    (hold (onLong (h .state)) (set (h .line) (h .len) b) 0)))
+
+-- so many rings at most
+abbrev pub maxRings : ℕ
+maxRings = 64
+
+-- the room of a job: four numbers for each of its cells and rings, and a line with its newline
+pub record JobRoom (cs rs : List Float) (l : List ℕ) : Type 0 where
+  pub cells : length cs ≡ 4 * maxCells
+  pub rings : length rs ≡ 4 * maxRings
+  pub line : length l ≡ lineLimit
+
+-- a run as a call finds it in lent memory, and as it leaves it
+abbrev pub asFound : Run → ℕ → Lent Float → Lent Float → Lent ℕ → Hold
+asFound r n cells rings line = hold (state r (now (cells .entry)) (now (rings .entry))) (now (line .entry)) n
+
+abbrev pub asLeft : Run → ℕ → Lent Float → Lent Float → Lent ℕ → Hold
+asLeft r n cells rings line = hold (state r (now (cells .exit)) (now (rings .exit))) (now (line .exit)) n
+
+-- bytes taken by a run, in the room that a job has
+pub record TakesPart (run : Run) (len : ℕ) (cells rings : Lent Float) (line : Lent ℕ) (bytes : List ℕ) (r : Taken) : Type 0 where
+  pub room : JobRoom (now (cells .entry)) (now (rings .entry)) (now (line .entry))
+  pub same : asLeft (r .run) (r .len) cells rings line ≡ foldl byteOn (asFound run len cells rings line) bytes
 
 -- ---- the end
 
@@ -100,6 +123,10 @@ finishOf r n =
 unfoldable pub outputOf : State → List (List ℕ)
 outputOf st = answerOf (st .run .refused) (st .run .lines) (st .run .job .generation) (take (4 * st .run .job .cells) (st .cells)) (take (4 * st .run .job .rings) (st .rings))
 
+-- a line for each cell and each ring, and one for the generation
+abbrev pub mostLines : ℕ
+mostLines = maxCells + maxRings + 1
+
 -- ---- a whole file, which no byte of it is taken apart for
 
 abbrev pub onEnd : State → State
@@ -108,3 +135,7 @@ onEnd st = pick (eqb (st .run .lines) 0) (onLong st) st
 -- what its lines do in order, and what stands behind the last newline
 abbrev pub jobOf : State → List ℕ → State
 jobOf st s = overPieces stopped onLine onLong onEnd st (piecesOf s)
+
+-- input that is cut off behind these bytes: it ends inside its next line, whatever byte that went on with
+abbrev pub cutOf : State → List ℕ → State
+cutOf st s = jobOf st (s ++ (0 ∷ []))

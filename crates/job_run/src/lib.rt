@@ -4,18 +4,26 @@
 // lent memory with room for it, so that a job has no size limit.
 ghost use mathlib.Core.Path.{_≡_};
 ghost use mathlib.Core.List.{[], foldl};
-ghost use Prim.Native.Nat.{_-_, _*_, _≤_, min};
-ghost use lib.ListN.{length, take, getD};
-ghost use Rattle.job_lines.specs.Job.{lineLimit, Full};
+ghost use Prim.Native.Nat.{_*_, _≤_};
+ghost use lib.ListN.{length, take, set, getD};
+ghost use Rattle.job_lines.specs.Job.{Full};
 ghost use Rattle.spelled.specs.Wrote.{Wrote};
-ghost use Rattle.job_run.specs.Run.{state, freshRun, refusing, onLine, hold, byteOn, finishOf, outputOf};
+ghost use Rattle.job_run.specs.Run.{state, freshRun, refusing, onLine, byteOn, finishOf, outputOf, mostLines, asFound, asLeft, TakesPart};
 use job_lines::Carried;
 use job_lines::INDICES;
 use job_lines::Job;
-use job_lines::LINE_LIMIT;
+pub use job_lines::LINE_LIMIT;
 use job_lines::NUMBERS;
 use refusals::Refusal;
 use stock::TurnStockSpec;
+
+// The room of a job: four numbers for each of 512 cells, and for each of 64 rings.
+pub const CELL_NUMBERS: usize = 2048;
+
+pub const RING_NUMBERS: usize = 256;
+
+// So many lines an answer has at most: those of the cells, of the rings, and the generation.
+pub const ANSWER_LINES: usize = 577;
 
 // A job, how many of its lines were taken, and the number that refused the last of them, or 0.
 pub struct Run {
@@ -100,18 +108,16 @@ fn held(line: &[u8], len: usize) -> &[u8]
     &line[..len]
 }
 
-// Room for a line without its newline, and no more than there are bytes.
-fn room(bytes: usize) -> usize
-    ensures { λ r. ⌜ r ≡ min (lineLimit - 1) bytes ⌝ }
+// Puts a byte at a place of the line; past the end, nowhere.
+fn put_byte(line: &mut [u8], at: usize, byte: u8)
+    ensures { λ _. ⌜ now (line .exit) ≡ set (now (line .entry)) at byte ⌝ }
 {
-    if bytes < LINE_LIMIT - 1 {
-        bytes
-    } else {
-        LINE_LIMIT - 1
+    if at < line.len() {
+        line[at] = byte;
     }
 }
 
-// One byte more, behind the first len of a line.
+// One byte more, put behind the first len of a line.
 fn take_byte(
     run: Run,
     cells: &mut [f64],
@@ -123,17 +129,18 @@ fn take_byte(
     numbers: &mut [f64],
 ) -> Taken
     requires { ⌜ Full (now indices) (now numbers) ⌝ }
-    ensures { λ r. ⌜ hold (state (r .run) (now (cells .exit)) (now (rings .exit))) (now (line .exit)) (r .len) ≡ byteOn (hold (state run (now (cells .entry)) (now (rings .entry))) (now (line .entry)) len) byte ⌝ }
+    ensures { λ r. ⌜ asLeft (r .run) (r .len) cells rings line ≡ byteOn (asFound run len cells rings line) byte ⌝ }
 {
     if run.refused != 0 {
         return Taken { run, len };
     }
-    if byte == 10 {
+    if byte == b'\n' {
         let after = on_line(run, cells, rings, held(line, len), indices, numbers);
+        put_byte(line, len, byte);
         return Taken { run: after, len: 0 };
     }
-    if len < room(line.len()) {
-        line[len] = byte;
+    put_byte(line, len, byte);
+    if len < LINE_LIMIT - 1 {
         return Taken { run, len: len + 1 };
     }
     Taken {
@@ -142,9 +149,8 @@ fn take_byte(
     }
 }
 
-// Some bytes more. The unfinished line is the first len bytes of `line`. The lists for the changes of
-// a cut are made once for all of these bytes.
-pub fn take_part(
+// Some bytes more. The lists for the changes of a cut are made once for all of them.
+fn take_bytes(
     run: Run,
     cells: &mut [f64],
     rings: &mut [f64],
@@ -152,7 +158,7 @@ pub fn take_part(
     len: usize,
     bytes: &[u8],
 ) -> Taken
-    ensures { λ r. ⌜ hold (state (r .run) (now (cells .exit)) (now (rings .exit))) (now (line .exit)) (r .len) ≡ foldl byteOn (hold (state run (now (cells .entry)) (now (rings .entry))) (now (line .entry)) len) (now (bytes .entry)) ⌝ }
+    ensures { λ r. ⌜ asLeft (r .run) (r .len) cells rings line ≡ foldl byteOn (asFound run len cells rings line) (now (bytes .entry)) ⌝ }
 {
     let mut indices = [0usize; INDICES];
     let mut numbers = [0.0f64; NUMBERS];
@@ -175,6 +181,21 @@ pub fn take_part(
         i += 1;
     }
     Taken { run: k, len: n }
+}
+
+// Some bytes more of a job, in the room that a job has. The unfinished line is the first len bytes of
+// `line`; each byte is put behind it, its newline too.
+pub fn take_part(
+    run: Run,
+    cells: &mut [f64; CELL_NUMBERS],
+    rings: &mut [f64; RING_NUMBERS],
+    line: &mut [u8; LINE_LIMIT],
+    len: usize,
+    bytes: &[u8],
+) -> Taken
+    ensures { λ r. ⌜ TakesPart run len cells rings line (now (bytes .entry)) r ⌝ }
+{
+    take_bytes(run, cells, rings, line, len, bytes)
 }
 
 // The end of the bytes, where len of an unfinished line are held.
@@ -205,9 +226,16 @@ fn front(xs: &[f64], n: usize) -> &[f64]
 }
 
 // Puts line k of what a run writes at its end, and answers its length; past the last line, 0.
-pub fn output_line(out: &mut [u8; 128], run: Run, cells: &[f64], rings: &[f64], k: usize) -> usize
+pub fn output_line(
+    out: &mut [u8; 128],
+    run: Run,
+    cells: &[f64; CELL_NUMBERS],
+    rings: &[f64; RING_NUMBERS],
+    k: usize,
+) -> usize
     ensures { λ r. ⌜ Wrote (now (out .entry)) 0 (getD (outputOf (state run (now (cells .entry)) (now (rings .entry)))) k []) (now (out .exit)) r ⌝ }
     ensures { λ r. ⌜ r ≤ 128 ⌝ }
+    ensures { λ _. ⌜ length (outputOf (state run (now (cells .entry)) (now (rings .entry)))) ≤ mostLines ⌝ }
 {
     let job = run.job;
     answer::answer_line(
