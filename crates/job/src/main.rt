@@ -1,5 +1,5 @@
 // Reads a job from standard input as its bytes come, and writes every cell, the rings and the
-// generation, or the one refusal.
+// generation, or the one refusal. Standard error gets that refusal in words.
 //
 // The job in `stdin` is longer than one read of 65,536 bytes, and lines of it lie over the seams.
 use job_run::CELL_NUMBERS;
@@ -13,4 +13,5 @@ fn main() {
     let ended = job_streams::read_job(0, 65536, &mut cells, &mut rings, &mut line);
     let run = ended.run;
     job_streams::write_answer(1, run, &cells, &rings);
+    job_help::write_why(2, ended, &line);
 }

@@ -1,5 +1,5 @@
 // Runs the job files that its arguments name, in parts of seven bytes, and writes each name with what
-// its job writes.
+// its job writes, and a refusal in words too.
 //
 // The last argument is a folder: its read fails, so that its job is cut off.
 use job_run::CELL_NUMBERS;
@@ -14,6 +14,7 @@ fn run_file(fd: i32) {
     let ended = job_streams::read_job(fd, 7, &mut cells, &mut rings, &mut line);
     let run = ended.run;
     job_streams::write_answer(1, run, &cells, &rings);
+    job_help::write_why(1, ended, &line);
 }
 
 // The job that argument i names.

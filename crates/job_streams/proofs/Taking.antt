@@ -15,11 +15,13 @@ use Rattle.streams.specs.declared.Got.the-variants as got
 use Rattle.job_run.specs.declared.Run.{Run}
 use Rattle.job_run.specs.File.{joined}
 use Rattle.job_run.specs.Run.{State, state, freshRun, stopped, Hold, hold, byteOn, asFound, asLeft, finishOf, jobOf}
+use borrow.Author.Tests.{eqb-false}
+use Rattle.job_run.proofs.Lines.{finish-stopped}
 use Rattle.job_run.proofs.WholeFile.{endOf, endCutOf, however-cut, cut-finish}
 use Rattle.job_streams.specs.declared.End.{End}
 use Rattle.job_streams.specs.declared.End.the-variants as ends
 use Rattle.job_streams.specs.declared.Ended.{Ended}
-use Rattle.job_streams.specs.Read.{broughtBy, After, ReadsOn, endAt, wholeEnd, cutEnd, endBy, JobOfSome}
+use Rattle.job_streams.specs.Read.{broughtBy, After, ReadsOn, endAt, wholeEnd, cutAt, cutEnd, endBy, JobOfSome}
 
 -- two parts in turn are their concatenation
 on : (s t : List ℕ) (h : Hold) → foldl byteOn h (s ++ t) ≡ foldl byteOn (foldl byteOn h s) t
@@ -66,8 +68,8 @@ end-is run len eg er = er ∙ ap (λ (x : Got). endBy x run len) (sym eg)
 pub whole-end : (run : Run) (len : ℕ) {r : Run} {e : End} → r ≡ finishOf run len → e ≡ endAt len → _≡_ {A = Ended} (record { run = r; end = e }) (wholeEnd run len)
 whole-end run len er ee = rw (er, ee)
 
-pub cut-end : (run : Run) {r : Run} → r ≡ finishOf run 1 → _≡_ {A = Ended} (record { run = r; end = ends.Cut }) (cutEnd run)
-cut-end run er = rw er
+pub cut-end : (run : Run) {r : Run} {e : End} → r ≡ finishOf run 1 → e ≡ cutAt (run .refused) → _≡_ {A = Ended} (record { run = r; end = e }) (cutEnd run)
+cut-end run er ee = rw (er, ee)
 
 -- a job is read on, and then its input is at its end
 module _ {st : State} {line : List ℕ} {run r₁ : Run} {len n₁ : ℕ} {cells rings : Lent Float} {held : Lent ℕ} (r : Ended)
@@ -81,18 +83,21 @@ module _ {st : State} {line : List ℕ} {run r₁ : Run} {len n₁ : ℕ} {cells
   abbrev ended : Run → State
   ended x = state x (now (cells .exit)) (now (rings .exit))
 
-  cut : JobOfSome ends.Cut st (ended (finishOf r₁ 1))
-  cut = record { bytes = t .bytes; same = ap endCutOf (t .same) ∙ cut-finish st line (t .bytes) room }
+  whole : ended (finishOf r₁ n₁) ≡ jobOf st (t .bytes)
+  unfolding joined
+  whole = ap endOf (t .same) ∙ however-cut st line (t .bytes ∷ []) room ∙ ap (jobOf st) (append-nil (t .bytes))
+
+  cut : (v : Bool) → eqb (r₁ .refused) 0 ≡ v → JobOfSome (cutAt (r₁ .refused)) st (ended (finishOf r₁ 1))
+  cut true q = rw (q, yes) (record { bytes = t .bytes; same = ap endCutOf (t .same) ∙ cut-finish st line (t .bytes) room })
+  cut false q =
+      let s : r₁ .refused ≡ 0 → ⊥ = eqb-false _ _ q in
+      rw (q, no) (record { bytes = t .bytes; same = ap ended (sym (finish-stopped r₁ 1 s) ∙ finish-stopped r₁ n₁ s) ∙ whole })
 
   pub done : (g : Got) → r ≡ endBy g r₁ n₁ → JobOfSome (r .end) st (ended (r .run))
-  unfolding joined
   done got.End e = rw e (by (eqb n₁ 0) refl)
     where
-      same : ended (finishOf r₁ n₁) ≡ jobOf st (t .bytes)
-      same = ap endOf (t .same) ∙ however-cut st line (t .bytes ∷ []) room ∙ ap (jobOf st) (append-nil (t .bytes))
-
       by : (v : Bool) → eqb n₁ 0 ≡ v → JobOfSome (endAt n₁) st (ended (finishOf r₁ n₁))
-      by true q = rw (q, yes) (record { bytes = t .bytes; same = same })
-      by false q = rw (q, no) (record { bytes = t .bytes; same = same })
-  done got.Cut e = rw e cut
-  done (got.Bytes k) e = rw e cut
+      by true q = rw (q, yes) (record { bytes = t .bytes; same = whole })
+      by false q = rw (q, no) (record { bytes = t .bytes; same = whole })
+  done got.Cut e = rw e (cut (eqb (r₁ .refused) 0) refl)
+  done (got.Bytes k) e = rw e (cut (eqb (r₁ .refused) 0) refl)

@@ -48,9 +48,13 @@ endAt n = pick (eqb n 0) ends.Whole ends.Inside
 abbrev pub wholeEnd : Run → ℕ → Ended
 wholeEnd r n = record { run = finishOf r n; end = endAt n }
 
+-- cut off, unless it was refused before
+abbrev pub cutAt : ℕ → End
+cutAt n = pick (eqb n 0) ends.Cut ends.Whole
+
 -- one whose input is cut off: that ends inside its next line, as if a byte of it were held
 abbrev pub cutEnd : Run → Ended
-cutEnd r = record { run = finishOf r 1; end = ends.Cut }
+cutEnd r = record { run = finishOf r 1; end = cutAt (r .refused) }
 
 -- a run after its last read
 abbrev pub endBy : Got → Run → ℕ → Ended

@@ -7,7 +7,7 @@ ghost use mathlib.Core.Path.{_≡_};
 ghost use Prim.Native.Nat.{_≤_};
 ghost use Rattle.streams.specs.Moves.{Reads};
 ghost use Rattle.job_run.specs.Run.{state, outputOf};
-ghost use Rattle.job_streams.specs.Read.{broughtBy, ReadsOn, mayBeMore, endAt, wholeEnd, cutEnd, endBy, ReadsJob};
+ghost use Rattle.job_streams.specs.Read.{broughtBy, ReadsOn, mayBeMore, endAt, wholeEnd, cutAt, cutEnd, endBy, ReadsJob};
 ghost use Rattle.job_streams.specs.Write.{PutsLine, AllPut};
 use job_run::ANSWER_LINES;
 use job_run::CELL_NUMBERS;
@@ -18,8 +18,8 @@ use streams::GATHERED;
 use streams::Got;
 use streams::Out;
 
-// How the input ended: behind a whole line, a refused one or none; inside a line; or by a read that
-// failed.
+// How the input ended: behind a whole line or none, or a line was refused before; inside a line; or by
+// a read that failed.
 pub enum End {
     Whole,
     Inside,
@@ -135,13 +135,21 @@ fn at_end(run: Run, len: usize) -> Ended
     }
 }
 
+// A job that was refused before is not cut off.
+fn cut_at(refused: u64) -> End
+    ensures { λ r. ⌜ r ≡ cutAt refused ⌝ }
+{
+    if refused == 0 { End::Cut } else { End::Whole }
+}
+
 // A run whose input is cut off: it ends inside its next line.
 fn cut_off(run: Run) -> Ended
     ensures { λ r. ⌜ r ≡ cutEnd run ⌝ }
 {
+    let end = cut_at(run.refused);
     Ended {
         run: job_run::finish(run, 1),
-        end: End::Cut,
+        end,
     }
 }
 

@@ -1,4 +1,10 @@
-// The lines of a job's answer, as text in a lent buffer.
+// The lines of a job's answer, as text in a lent buffer; and words and numbers for a person.
+mod plain;
+
+pub use plain::front;
+pub use plain::put_count;
+pub use plain::put_millimetres;
+pub use plain::put_text;
 ghost use mathlib.Core.Path.{_≡_};
 ghost use mathlib.Core.List.{_∷_};
 ghost use Prim.Native.Nat.{_+_, _≤_, _<_};

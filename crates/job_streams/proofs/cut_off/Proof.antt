@@ -5,11 +5,12 @@ use Rattle.job_streams.proofs.cut_off.Statement.{statement}
 use Rattle.job_streams.proofs.cut_off.Tie as tie
 
 returns : tie.Need-returns
-returns c = cut-end _ (c .finish .ensures)
+returns c = cut-end _ (c .finish .ensures) (c .before .cut-at .ensures)
 
 pub cut-off-spec : {M : Type 1} → statement M
 cut-off-spec =
     tie.close
     (tie.spec
+    (λ c κs. search needs)
     (λ c κs. search needs)
     returns)
