@@ -1,13 +1,10 @@
-//! Links libturning.a where a stage is on. LIBTURNING names the archive; the default is
-//! target/staticlib/libturning.a, and a relative name counts from the repository's root.
+//! Links libturning.a. LIBTURNING names the archive; the default is target/staticlib/libturning.a,
+//! and a relative name counts from the repository's root.
 use std::env;
 use std::path::PathBuf;
 
 fn main() {
     println!("cargo::rerun-if-env-changed=LIBTURNING");
-    if env::var_os("CARGO_FEATURE_STAGE2").is_none() {
-        return;
-    }
     let here = PathBuf::from(env::var_os("CARGO_MANIFEST_DIR").unwrap());
     let default = "target/staticlib/libturning.a".into();
     let archive = here

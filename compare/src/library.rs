@@ -1,10 +1,5 @@
 //! The calls of turning.h in libturning.a.
-//!
-//! `run` answers `None` for a call of a stage that is not linked.
-// With few stages or none, some of what follows has no use.
-#![allow(dead_code, unused_macros, unused_unsafe, unused_variables)]
-#![allow(unreachable_code, unreachable_patterns)]
-use crate::call::Call;
+use crate::call::{Call, Simple};
 use crate::memory::Memory;
 
 macro_rules! spec_call {
@@ -20,16 +15,15 @@ macro_rules! spec_call {
 #[allow(clippy::too_many_arguments)]
 pub mod c {
     macro_rules! declare {
-        ($($stage:literal $name:ident($($type:ty),*);)*) => {
-            $(#[cfg(feature = $stage)]
+        ($($name:ident($($type:ty),*);)*) => {
             unsafe extern "C" {
-                pub fn $name($(_: $type),*) -> u32;
-            })*
+                $(pub fn $name($(_: $type),*) -> u32;)*
+            }
         };
     }
     macro_rules! declare_with_spec {
-        ($($stage:literal $name:ident($($type:ty),*);)*) => {
-            declare! { $($stage $name(f64, f64, f64, f64, f64, usize, $($type),*);)* }
+        ($($name:ident($($type:ty),*);)*) => {
+            declare! { $($name(f64, f64, f64, f64, f64, usize, $($type),*);)* }
         };
     }
     type In = *const f64;
@@ -38,71 +32,53 @@ pub mod c {
     type Size = *mut usize;
 
     declare! {
-        "stage2" turning_root(f64, Out);
-        "stage2" turning_length(f64, f64, Out);
-        "stage6" turning_envelope_order(In, usize, *mut i32);
-        "stage6" turning_within(In, usize, f64, f64, Size, Size);
-        "stage6" turning_radius_at(In, usize, f64, *mut u32, Out);
-        "stage6" turning_radius_range(In, usize, f64, f64, *mut u32, Out, Out);
+        turning_root(f64, Out);
+        turning_length(f64, f64, Out);
+        turning_envelope_order(In, usize, *mut i32);
+        turning_within(In, usize, f64, f64, Size, Size);
+        turning_radius_at(In, usize, f64, *mut u32, Out);
+        turning_radius_range(In, usize, f64, f64, *mut u32, Out, Out);
     }
     declare_with_spec! {
-        "stage3" turning_validate(Size);
-        "stage3" turning_bin(usize, Out, Out);
-        "stage3" turning_new(Out, usize);
-        "stage4" turning_preview(In, usize, u32, f64, In, usize, Size, usize, Out, usize, Size);
-        "stage4" turning_preview_polygon(In, usize, u32, f64, In, usize, Size, usize, Out, usize, Size);
-        "stage3" turning_thread_cut(In, usize, f64, f64, f64, Size, usize, Out, usize, Size);
-        "stage3" turning_thread_cut_inner(In, usize, f64, f64, f64, Size, usize, Out, usize, Size);
-        "stage3" turning_drill(In, usize, f64, f64, f64, Size, usize, Out, usize, Size);
-        "stage3" turning_apply(Out, usize, *mut u64, Sizes, usize, In, usize, usize);
-        "stage3" turning_changes_to(In, usize, In, usize, Size, usize, Out, usize, Size);
-        "stage5" turning_remove_ring(Out, usize, Size, *mut u64, f64, f64, f64, f64);
-        "stage5" turning_apply_move(Out, usize, Out, usize, Size, *mut u64, Sizes, usize, In, usize, usize, In, usize);
-        "stage5" turning_from_parts(In, usize, In, usize, Out, usize, Size);
-        "stage6" turning_volume(In, usize, In, usize, usize, Out, Out);
-        "stage6" turning_envelope_at(In, usize, f64, *mut u32, Out, Out);
+        turning_validate(Size);
+        turning_bin(usize, Out, Out);
+        turning_new(Out, usize);
+        turning_preview(In, usize, u32, f64, In, usize, Size, usize, Out, usize, Size);
+        turning_preview_polygon(In, usize, u32, f64, In, usize, Size, usize, Out, usize, Size);
+        turning_thread_cut(In, usize, f64, f64, f64, Size, usize, Out, usize, Size);
+        turning_thread_cut_inner(In, usize, f64, f64, f64, Size, usize, Out, usize, Size);
+        turning_drill(In, usize, f64, f64, f64, Size, usize, Out, usize, Size);
+        turning_apply(Out, usize, *mut u64, Sizes, usize, In, usize, usize);
+        turning_changes_to(In, usize, In, usize, Size, usize, Out, usize, Size);
+        turning_remove_ring(Out, usize, Size, *mut u64, f64, f64, f64, f64);
+        turning_apply_move(Out, usize, Out, usize, Size, *mut u64, Sizes, usize, In, usize, usize, In, usize);
+        turning_from_parts(In, usize, In, usize, Out, usize, Size);
+        turning_volume(In, usize, In, usize, usize, Out, Out);
+        turning_envelope_at(In, usize, f64, *mut u32, Out, Out);
     }
 }
 
-/// Whether the calls of a stage are linked.
-pub fn linked(stage: u32) -> bool {
-    match stage {
-        2 => cfg!(feature = "stage2"),
-        3 => cfg!(feature = "stage3"),
-        4 => cfg!(feature = "stage4"),
-        5 => cfg!(feature = "stage5"),
-        _ => cfg!(feature = "stage6"),
-    }
-}
-
-/// The call's number, with the memory lent to it; `None` where its stage is not linked.
+/// The call's number, with the memory lent to it.
 #[rustfmt::skip]
-pub fn run(call: &Call, memory: &mut Memory) -> Option<u32> {
+pub fn run(call: &Call, memory: &mut Memory) -> u32 {
     let m = &mut memory.lent;
     // SAFETY: every pointer is to a buffer of the memory, with that buffer's size.
-    let number = unsafe {
+    unsafe {
         match call {
-            #[cfg(feature = "stage2")]
             Call::Root { x } => c::turning_root(*x, m[0].start()),
-            #[cfg(feature = "stage2")]
             Call::Length { x, y } => c::turning_length(*x, *y, m[0].start()),
-            #[cfg(feature = "stage3")]
             Call::Validate { spec } => spec_call!(turning_validate, spec, m[0].start()),
-            #[cfg(feature = "stage3")]
             Call::Bin { spec, i } => {
                 spec_call!(turning_bin, spec, *i, m[0].start(), m[1].start())
             }
-            #[cfg(feature = "stage3")]
             Call::New { spec, .. } => {
                 spec_call!(turning_new, spec, m[0].start(), m[0].size())
             }
-            #[cfg(feature = "stage4")]
             Call::Preview { spec, side, rn, .. } => spec_call!(
                 turning_preview, spec,
                 m[0].start(), m[0].size(), *side, *rn, m[1].start(), m[1].size(),
                 m[2].start(), m[2].size(), m[3].start(), m[3].size(), m[4].start()
             ),
-            #[cfg(feature = "stage4")]
             Call::PreviewPolygon {
                 spec, side, excess, ..
             } => spec_call!(
@@ -110,9 +86,7 @@ pub fn run(call: &Call, memory: &mut Memory) -> Option<u32> {
                 m[0].start(), m[0].size(), *side, *excess, m[1].start(), m[1].size(),
                 m[2].start(), m[2].size(), m[3].start(), m[3].size(), m[4].start()
             ),
-            #[cfg(feature = "stage3")]
             Call::Cut { spec, cut, .. } => {
-                use crate::call::Simple;
                 macro_rules! cut {
                     ($name:ident, $x:expr, $y:expr, $z:expr) => {
                         spec_call!(
@@ -135,61 +109,48 @@ pub fn run(call: &Call, memory: &mut Memory) -> Option<u32> {
                     } => cut!(turning_drill, tip_z, radius, cone),
                 }
             }
-            #[cfg(feature = "stage3")]
             Call::Apply { spec, list, .. } => spec_call!(
                 turning_apply, spec, m[0].start(), m[0].size(), m[1].start(),
                 m[2].start(), m[2].size(), m[3].start(), m[3].size(), list.changes
             ),
-            #[cfg(feature = "stage3")]
             Call::ChangesTo { spec, .. } => spec_call!(
                 turning_changes_to, spec, m[0].start(), m[0].size(), m[1].start(), m[1].size(),
                 m[2].start(), m[2].size(), m[3].start(), m[3].size(), m[4].start()
             ),
-            #[cfg(feature = "stage5")]
             Call::RemoveRing { spec, ring, .. } => spec_call!(
                 turning_remove_ring, spec, m[0].start(), m[0].size(), m[1].start(), m[2].start(),
                 ring[0], ring[1], ring[2], ring[3]
             ),
-            #[cfg(feature = "stage5")]
             Call::ApplyMove { spec, list, .. } => spec_call!(
                 turning_apply_move, spec, m[0].start(), m[0].size(),
                 m[1].start(), m[1].size(), m[2].start(), m[3].start(),
                 m[4].start(), m[4].size(), m[5].start(), m[5].size(), list.changes,
                 m[6].start(), m[6].size()
             ),
-            #[cfg(feature = "stage5")]
             Call::FromParts { spec, .. } => spec_call!(
                 turning_from_parts, spec, m[0].start(), m[0].size(), m[1].start(), m[1].size(),
                 m[2].start(), m[2].size(), m[3].start()
             ),
-            #[cfg(feature = "stage6")]
             Call::Volume { spec, store, .. } => spec_call!(
                 turning_volume, spec, m[0].start(), m[0].size(), m[1].start(), m[1].size(),
                 store.count, m[2].start(), m[3].start()
             ),
-            #[cfg(feature = "stage6")]
             Call::EnvelopeAt { spec, z, .. } => spec_call!(
                 turning_envelope_at, spec, m[0].start(), m[0].size(), *z,
                 m[1].start(), m[2].start(), m[3].start()
             ),
-            #[cfg(feature = "stage6")]
             Call::EnvelopeOrder { .. } => {
                 c::turning_envelope_order(m[0].start(), m[0].size(), m[1].start())
             }
-            #[cfg(feature = "stage6")]
             Call::Within { lo, hi, .. } => c::turning_within(
                 m[0].start(), m[0].size(), *lo, *hi, m[1].start(), m[2].start()
             ),
-            #[cfg(feature = "stage6")]
             Call::RadiusAt { u, .. } => {
                 c::turning_radius_at(m[0].start(), m[0].size(), *u, m[1].start(), m[2].start())
             }
-            #[cfg(feature = "stage6")]
             Call::RadiusRange { lo, hi, .. } => c::turning_radius_range(
                 m[0].start(), m[0].size(), *lo, *hi, m[1].start(), m[2].start(), m[3].start()
             ),
-            _ => return None,
         }
-    };
-    Some(number)
+    }
 }

@@ -11,9 +11,7 @@ const SEED: u64 = 1;
 fn usage() -> ExitCode {
     eprintln!("compare whole [SECONDS] [SEED] [PROGRAM..]   everything, for so long");
     eprintln!("compare FAMILY [COUNT] [SEED]   compares so many calls; status 1 on a difference");
-    eprintln!(
-        "compare all [PERCENT] [SEED]    every family that is linked, PERCENT of its default count"
-    );
+    eprintln!("compare all [PERCENT] [SEED]    every family, PERCENT of its default count");
     eprintln!(
         "compare far [COUNT] [SEED]      the distance of 01's length from the untouched Rust"
     );
@@ -26,7 +24,7 @@ fn usage() -> ExitCode {
     eprintln!("compare job                     the job on standard input, over the Rust");
     eprintln!("compare job_bench PROGRAM..     times a job program beside the Rust");
     let families = FAMILIES.iter().chain([&SEQUENCE]);
-    let names = families.map(|(name, stage, count)| format!("{name} (stage{stage}, {count})"));
+    let names = families.map(|(name, count)| format!("{name} ({count})"));
     let names: Vec<String> = names.collect();
     eprintln!("families: {}", names.join(", "));
     ExitCode::from(2)
@@ -83,7 +81,7 @@ fn main() -> ExitCode {
     let mut families = FAMILIES.iter().chain([&SEQUENCE]);
     let family = families.find(|(family, ..)| family == name);
     let default = match (name.as_str(), family) {
-        (_, Some((_, _, count))) => *count as u64,
+        (_, Some((_, count))) => *count as u64,
         ("all", _) => 100,
         ("far", _) => 1_000_000,
         ("record", _) => 40,
@@ -112,22 +110,15 @@ fn main() -> ExitCode {
         }
         "all" => {
             let mut differences = 0;
-            for (family, _, default) in FAMILIES.iter().chain([&SEQUENCE]) {
-                match run::family(family, default / 100 * count, seed) {
-                    Some(d) => differences += d,
-                    None => println!("{family}: not linked"),
-                }
+            for (family, default) in FAMILIES.iter().chain([&SEQUENCE]) {
+                differences += run::family(family, default / 100 * count, seed);
             }
             return ExitCode::from((differences > 0) as u8);
         }
-        _ => match run::family(name, count, seed) {
-            Some(0) => {}
-            Some(_) => return ExitCode::from(1),
-            None => {
-                eprintln!("{name}: not linked; build with its stage");
-                return ExitCode::from(2);
-            }
-        },
+        _ => {
+            let differences = run::family(name, count, seed);
+            return ExitCode::from((differences > 0) as u8);
+        }
     }
     ExitCode::SUCCESS
 }

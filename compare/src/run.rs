@@ -1,7 +1,7 @@
 //! Runs a family: every call of it by the oracle and by the library.
 use crate::call::{Call, Outcome};
 use crate::count::Counts;
-use crate::generate::{self, FAMILIES, Rng, SEQUENCE};
+use crate::generate::{self, Rng, SEQUENCE};
 use crate::memory::Memory;
 use crate::sequence::Sequences;
 use crate::shrink::shrink;
@@ -26,25 +26,19 @@ struct Calls {
     trace: bool,
 }
 
-/// The source of a family's calls; `None` where the library that is linked has not the family.
-pub fn source(name: &str, seed: u64) -> Option<Box<dyn Source>> {
-    let mut families = FAMILIES.iter().chain([&SEQUENCE]);
-    let (_, stage, _) = families.find(|(family, ..)| *family == name)?;
-    if !library::linked(*stage) {
-        return None;
-    }
+/// The source of a family's calls.
+pub fn source(name: &str, seed: u64) -> Box<dyn Source> {
     if name == SEQUENCE.0 {
-        return Some(Box::new(Sequences::new(seed)));
+        return Box::new(Sequences::new(seed));
     }
-    let make = generate::family(name)?;
-    Some(Box::new(Calls {
+    Box::new(Calls {
         name: name.into(),
-        make,
+        make: generate::family(name).expect("the name is a family's"),
         rng: Rng::new(seed),
         seed,
         made: 0,
         trace: std::env::var_os("TRACE").is_some(),
-    }))
+    })
 }
 
 impl Source for Calls {
@@ -85,7 +79,7 @@ pub fn number(outcome: &Outcome) -> u32 {
 pub fn difference(call: &Call, outcome: &Outcome) -> Option<String> {
     let mut memory = Memory::of(call);
     let wanted = memory.after(outcome);
-    let number = library::run(call, &mut memory).expect("the call is linked");
+    let number = library::run(call, &mut memory);
     unlike(call, outcome, number, &memory, &wanted)
 }
 
@@ -111,14 +105,13 @@ pub fn unlike(
     Some(text)
 }
 
-/// Runs so many of the family and prints what was seen. The number of differences, or `None` where
-/// the library that is linked has not the family.
-pub fn family(name: &str, count: usize, seed: u64) -> Option<u64> {
-    let mut source = source(name, seed)?;
+/// Runs so many of the family and prints what was seen; how many differ.
+pub fn family(name: &str, count: usize, seed: u64) -> u64 {
+    let mut source = source(name, seed);
     let mut counts = Counts::default();
     (0..count).for_each(|_| source.next(&mut counts));
     println!("{name}, {count} from seed {seed}\n");
     counts.print();
     println!();
-    Some(counts.differ())
+    counts.differ()
 }

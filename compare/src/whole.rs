@@ -119,16 +119,17 @@ fn work(state: &State, worker: usize, seconds: u64, seed: u64, program: &[String
             let slot = slot(name, seed, source, over);
             state.slots.lock().unwrap().push(slot);
         } else if worker == 0 {
-            println!("{name}: not run, it is not linked or not named\n");
+            println!("{name}: not run, no program is named\n");
         }
     }
 }
 
+/// What makes the calls of a name; none for jobs where no program is named.
 fn source_of(name: &str, seed: u64, program: &[String]) -> Option<Box<dyn Source>> {
     match name {
         "jobs" if program.is_empty() => None,
         "jobs" => Some(Box::new(Jobs::new(program, seed))),
-        _ => source(name, seed),
+        _ => Some(source(name, seed)),
     }
 }
 

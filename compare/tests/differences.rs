@@ -1,9 +1,10 @@
 //! Each intended difference of docs/DIFFERENCES.md on the smallest input that shows it: what camlib
-//! does, and what the library does. Without the library, the oracle stands in for it.
+//! does, and what the library does.
 use compare::call::{Answer, Call, Change, List, Outcome, Room, Simple, Spec, Store};
 use compare::jobs;
 use compare::oracle::answer;
 use compare::oracle::stock::{camlib_spec, to_camlib};
+use compare::run::difference;
 use plain::motion::{Curve, Plane};
 use plain::turning::profile::Envelope;
 use plain::turning::stock::{TurnChange, TurnSide, TurnStock};
@@ -28,8 +29,7 @@ const MINUS: u64 = 1 << 63;
 /// What the library does; it must be what the oracle says.
 fn here(call: Call) -> Outcome {
     let outcome = answer(&call);
-    #[cfg(feature = "stage6")]
-    if let Some(text) = compare::run::difference(&call, &outcome) {
+    if let Some(text) = difference(&call, &outcome) {
         panic!("{text}");
     }
     outcome

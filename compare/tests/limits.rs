@@ -2,15 +2,14 @@
 //! library.
 use compare::limits::calls;
 use compare::oracle::answer;
-use compare::run::number;
+use compare::run::{difference, number};
 
 #[test]
 fn limits_are_where_01_has_them() {
     for (call, expected) in calls() {
         let outcome = answer(&call);
         assert_eq!(number(&outcome), expected, "{}", call.name());
-        #[cfg(feature = "stage6")]
-        if let Some(text) = compare::run::difference(&call, &outcome) {
+        if let Some(text) = difference(&call, &outcome) {
             panic!("{text}");
         }
     }

@@ -1,5 +1,4 @@
 //! What generated sequences reach, and that a difference in one is found and made small.
-#![cfg(feature = "stage6")]
 use compare::call::{Answer, Call, Outcome, Simple};
 use compare::count::Counts;
 use compare::generate::Rng;

@@ -46,13 +46,13 @@ impl Table<'_> {
     }
 }
 
-/// The library's side of a call; none where it is not linked. The call must be accepted. Its buffers
-/// are lent as the call before left them; only the number of rings and the generation are put back.
+/// The library's side of a call, which must be accepted. Its buffers are lent as the call before left
+/// them; only the number of rings and the generation are put back.
 fn library_side<'a>(call: Call) -> Option<Side<'a>> {
     let mut memory = Memory::of(&call);
     let fresh = memory.clone();
     assert!(oracle::answer(&call).is_ok(), "{}", call.name());
-    assert_eq!(library::run(&call, &mut memory)?, 0);
+    assert_eq!(library::run(&call, &mut memory), 0);
     // Only what a call reads and then writes is put back.
     let changed = ["rings_count", "generation"];
     let kept: Vec<usize> = (0..fresh.lent.len())
@@ -70,7 +70,7 @@ fn library_side<'a>(call: Call) -> Option<Side<'a>> {
 fn cleared_side<'a>(call: Call) -> Option<Side<'a>> {
     let fresh = Memory::of(&call);
     let mut memory = fresh.clone();
-    assert_eq!(library::run(&call, &mut memory)?, 0);
+    assert_eq!(library::run(&call, &mut memory), 0);
     let written = ["indices", "records"];
     side(1, move || {
         for (lent, fresh) in memory.lent.iter_mut().zip(&fresh.lent) {

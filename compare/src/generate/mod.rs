@@ -2,6 +2,7 @@
 //!
 //! A generator first makes a call that is accepted, and then damages any of its parts now and then,
 //! so that several reasons for a refusal meet and their order shows.
+pub mod changes;
 pub mod cuts;
 pub mod envelope;
 pub mod numbers;
@@ -61,8 +62,8 @@ pub fn family(name: &str) -> Option<fn(&mut Rng) -> Call> {
         "thread" => cuts::thread,
         "thread_inner" => cuts::thread_inner,
         "drill" => cuts::drill,
-        "apply" => cuts::apply,
-        "changes_to" => cuts::changes_to,
+        "apply" => changes::apply,
+        "changes_to" => changes::changes_to,
         "nose" => cuts::nose,
         "polygon" => cuts::polygon,
         "rings" => rings::remove_ring,
@@ -75,25 +76,25 @@ pub fn family(name: &str) -> Option<fn(&mut Rng) -> Call> {
     })
 }
 
-/// Every family of single calls, the stage of turning.h it came with, and how many calls are made by default.
-pub const FAMILIES: [(&str, u32, usize); 16] = [
-    ("root", 2, 20_000_000),
-    ("length", 2, 20_000_000),
-    ("stock", 3, 200_000),
-    ("thread", 3, 200_000),
-    ("thread_inner", 3, 200_000),
-    ("drill", 3, 200_000),
-    ("apply", 3, 200_000),
-    ("changes_to", 3, 200_000),
-    ("nose", 4, 300_000),
-    ("polygon", 4, 300_000),
-    ("rings", 5, 200_000),
-    ("moves", 5, 200_000),
-    ("parts", 5, 100_000),
-    ("volume", 6, 100_000),
-    ("envelope_at", 6, 200_000),
-    ("envelope", 6, 400_000),
+/// Every family of single calls, and how many calls are made by default.
+pub const FAMILIES: [(&str, usize); 16] = [
+    ("root", 20_000_000),
+    ("length", 20_000_000),
+    ("stock", 200_000),
+    ("thread", 200_000),
+    ("thread_inner", 200_000),
+    ("drill", 200_000),
+    ("apply", 200_000),
+    ("changes_to", 200_000),
+    ("nose", 300_000),
+    ("polygon", 300_000),
+    ("rings", 200_000),
+    ("moves", 200_000),
+    ("parts", 100_000),
+    ("volume", 100_000),
+    ("envelope_at", 200_000),
+    ("envelope", 400_000),
 ];
 
 /// Sequences of calls on one stock.
-pub const SEQUENCE: (&str, u32, usize) = ("sequence", 6, 20_000);
+pub const SEQUENCE: (&str, usize) = ("sequence", 20_000);

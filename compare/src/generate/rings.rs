@@ -1,6 +1,6 @@
 //! Stores of rings, moves, parts, volumes.
 use super::Rng;
-use super::cuts::{damaged_changes, generation, some_changes};
+use super::changes::{damaged_changes, generation, some_changes};
 use super::numbers::{any, edge, outside};
 use super::stock::{base, damaged_cells, damaged_spec, good_cells, r_near, z_near};
 use crate::call::{Answer, Call, Store};

@@ -1,6 +1,7 @@
 //! Sequences of calls on one stock.
 use super::Rng;
-use super::cuts::{damaged_list, drill_cut, generation, nose_radius, polygon_excess};
+use super::changes::generation;
+use super::cuts::{damaged_list, drill_cut, nose_radius, polygon_excess};
 use super::cuts::{polygon_points, segments, side, thread_numbers};
 use super::numbers::{any, damaged, edge, outside};
 use super::rings::{about_the_limit, damaged_rings, few_stored, limit_stored, nonempty};

@@ -1,0 +1,46 @@
+//! Envelopes of points.
+use super::pair;
+use crate::bench::time::Sides;
+use crate::call::Call;
+use length::turning::profile as opened;
+use plain::turning::profile::Envelope;
+use std::hint::black_box;
+
+/// So many points that rise, and a range about their middle.
+fn rising(points: usize) -> (Vec<[f64; 2]>, f64, f64) {
+    let point = |k: usize| [k as f64 * 0.25, 20. + (k as f64 * 0.1).sin()];
+    let middle = (points - 1) as f64 * 0.125;
+    let list = (0..points).map(point).collect();
+    (list, middle * 0.99, middle * 1.01)
+}
+
+pub fn envelope_order(points: usize) -> Sides<'static> {
+    let (list, ..) = rising(points);
+    let points = list.as_flattened().to_vec();
+    let go = move || Envelope::new(black_box(&list).clone());
+    pair(go, Call::EnvelopeOrder { points })
+}
+
+/// The Rust's: an envelope is made, and then asked.
+pub fn within(points: usize) -> Sides<'static> {
+    let (list, lo, hi) = rising(points);
+    let points = list.as_flattened().to_vec();
+    let go = move || opened::Envelope::new(black_box(&list).clone()).within(lo, hi);
+    pair(go, Call::Within { points, lo, hi })
+}
+
+pub fn radius_at(points: usize) -> Sides<'static> {
+    let (list, u, _) = rising(points);
+    let points = list.as_flattened().to_vec();
+    let made = Envelope::new(list);
+    let go = move || black_box(&made).radius_at(black_box(u));
+    pair(go, Call::RadiusAt { points, u })
+}
+
+pub fn radius_range(points: usize) -> Sides<'static> {
+    let (list, lo, hi) = rising(points);
+    let points = list.as_flattened().to_vec();
+    let made = Envelope::new(list);
+    let go = move || black_box(&made).radius_range(black_box(lo), hi);
+    pair(go, Call::RadiusRange { points, lo, hi })
+}

@@ -1,0 +1,85 @@
+//! Specs, bins, new stocks, commits, differences of two stocks, one cell.
+use super::{bar_of, lent, pair, stock_of};
+use crate::bench::rows::room;
+use crate::bench::time::Sides;
+use crate::call::{Call, List};
+use crate::oracle::stock::{camlib_spec, camlib_stock, fresh, to_camlib};
+use plain::turning::stock::{TurnChange, TurnStock};
+use std::hint::black_box;
+
+pub fn validate(bins: usize) -> Sides<'static> {
+    let spec = bar_of(bins).spec;
+    let rust = camlib_spec(&spec);
+    let go = move || black_box(&rust).validate();
+    pair(go, Call::Validate { spec })
+}
+
+pub fn bin(bins: usize) -> Sides<'static> {
+    let bar = bar_of(bins);
+    let (spec, i, stock) = (bar.spec, bins / 2, stock_of(&bar));
+    let go = move || black_box(&stock).bin(black_box(i));
+    pair(go, Call::Bin { spec, i })
+}
+
+pub fn new(bins: usize) -> Sides<'static> {
+    let spec = bar_of(bins).spec;
+    let rust = camlib_spec(&spec);
+    let go = move || TurnStock::new(black_box(&rust).clone());
+    let cells_len = 4 * bins;
+    pair(go, Call::New { spec, cells_len })
+}
+
+/// A change of every cell to itself, so that the list can be committed again.
+pub fn apply(bins: usize) -> Sides<'static> {
+    let bar = bar_of(bins);
+    let cells = fresh(&bar);
+    let mut stock = stock_of(&bar);
+    let change = |(index, cell): (usize, &[f64; 4])| TurnChange {
+        index,
+        before: to_camlib(cell),
+        after: to_camlib(cell),
+    };
+    let changes: Vec<TurnChange> = cells.iter().enumerate().map(change).collect();
+    let go = move || stock.apply(black_box(&changes));
+    let list = List {
+        indices: (0..bins).collect(),
+        records: cells.iter().flat_map(|c| [*c, *c]).flatten().collect(),
+        changes: bins,
+    };
+    let call = Call::Apply {
+        spec: bar.spec,
+        cells: lent(&bar),
+        generation: 0,
+        list,
+    };
+    pair(go, call)
+}
+
+/// Every second cell differs.
+pub fn changes_to(bins: usize) -> Sides<'static> {
+    let bar = bar_of(bins);
+    let mut after = fresh(&bar);
+    after.iter_mut().step_by(2).for_each(|c| c[0] = 40.);
+    let (from, to) = (stock_of(&bar), camlib_stock(&bar, &after, &[]));
+    let go = move || from.changes_to(black_box(&to));
+    let call = Call::ChangesTo {
+        spec: bar.spec,
+        cells: lent(&bar),
+        after: after.as_flattened().to_vec(),
+        room: room(bar.n),
+    };
+    pair(go, call)
+}
+
+pub fn envelope_at(bins: usize) -> Sides<'static> {
+    let bar = bar_of(bins);
+    let z = bar.spec.z_max * 0.7;
+    let stock = stock_of(&bar);
+    let go = move || black_box(&stock).envelope_at(black_box(z));
+    let call = Call::EnvelopeAt {
+        spec: bar.spec,
+        cells: lent(&bar),
+        z,
+    };
+    pair(go, call)
+}

@@ -1,0 +1,167 @@
+//! Change lists: the room that is lent for one, its commit, the difference of two stocks.
+use super::Rng;
+use super::numbers::{any, outside};
+use super::stock::{base, damaged_cells, damaged_spec, good_cells, some_cut};
+use crate::call::{Answer, Call, Change, List, Room};
+use crate::oracle::answer;
+use crate::oracle::stock::Bar;
+
+/// Room for so many changes, as a rule with something over in one of the two lists.
+fn room_for(rng: &mut Rng, changes: usize) -> Room {
+    let over = rng.below(3);
+    let odd = rng.below(8);
+    match rng.below(2) {
+        0 => Room {
+            indices: changes + over,
+            records: 8 * changes + odd,
+        },
+        _ => Room {
+            indices: changes,
+            records: 8 * (changes + over) + odd,
+        },
+    }
+}
+
+/// Gives the call room: for every cell, for exactly its changes, or for one fewer.
+pub fn with_room(rng: &mut Rng, mut call: Call, n: usize) -> Call {
+    let found = match answer(&call) {
+        Ok(Answer::Changes(changes)) => changes.len(),
+        _ => 0,
+    };
+    let given = match rng.below(6) {
+        0 => found,
+        1 => found.saturating_sub(1),
+        2 => rng.below(found + 1),
+        _ => n,
+    };
+    let given = room_for(rng, given);
+    match &mut call {
+        Call::Cut { room, .. }
+        | Call::Preview { room, .. }
+        | Call::PreviewPolygon { room, .. }
+        | Call::ChangesTo { room, .. } => *room = given,
+        _ => unreachable!(),
+    }
+    call
+}
+
+/// Room for a change of every cell.
+pub fn plenty(n: usize) -> Room {
+    Room {
+        indices: n,
+        records: 8 * n,
+    }
+}
+
+pub fn changes_to(rng: &mut Rng) -> Call {
+    let base = base(rng);
+    let cells = good_cells(rng, &base);
+    let mut after = match rng.below(3) {
+        0 => good_cells(rng, &base),
+        _ => cells.clone(),
+    };
+    for change in some_changes(rng, &base, &after) {
+        after[change.index] = change.after;
+    }
+    let call = Call::ChangesTo {
+        spec: damaged_spec(rng, &base),
+        cells: damaged_cells(rng, &base, &cells),
+        after: damaged_cells(rng, &base, &after),
+        room: plenty(base.n),
+    };
+    with_room(rng, call, base.n)
+}
+
+/// Changes that some cut proposes.
+pub fn some_changes(rng: &mut Rng, base: &Bar, cells: &[[f64; 4]]) -> Vec<Change> {
+    let call = some_cut(rng, base, cells.as_flattened().to_vec());
+    match answer(&call) {
+        Ok(Answer::Changes(changes)) => changes,
+        _ => vec![],
+    }
+}
+
+/// A change list as lent, now and then damaged.
+pub fn damaged_changes(rng: &mut Rng, base: &Bar, mut changes: Vec<Change>) -> List {
+    for _ in 0..rng.below(3) {
+        damage(rng, base, &mut changes);
+    }
+    let mut list = List {
+        indices: changes.iter().map(|c| c.index).collect(),
+        records: changes
+            .iter()
+            .flat_map(|c| [c.before, c.after])
+            .flatten()
+            .collect(),
+        changes: changes.len(),
+    };
+    if rng.once_in(4) {
+        // More is lent than is used.
+        list.indices.extend([0; 3].map(|_| rng.word() as usize));
+        list.records.extend([0.; 11].map(|_| any(rng)));
+    }
+    let lent = list.indices.len().min(list.records.len() / 8);
+    match rng.below(60) {
+        0 => list.changes = lent + 1,
+        1 => list.changes = rng.below(lent + 1),
+        2 => list.changes = rng.pick(&[usize::MAX, usize::MAX / 8 + 1, 1 << 61]),
+        3 => drop(list.indices.pop()),
+        4 => drop(list.records.pop()),
+        _ => {}
+    }
+    list
+}
+
+fn damage(rng: &mut Rng, base: &Bar, changes: &mut [Change]) {
+    let len = changes.len();
+    if len == 0 {
+        return;
+    }
+    let (at, other, bound) = (rng.below(len), rng.below(len), rng.below(4));
+    let c = &mut changes[at];
+    match rng.below(36) {
+        0 => changes.swap(at, other),
+        1 => changes[at].index = changes[other].index,
+        2 => c.index = rng.pick(&[base.n, base.n + 1, usize::MAX]),
+        3 => changes[len - 1].index = rng.pick(&[base.n, base.n + 7, usize::MAX]),
+        4 => c.before[bound] = outside(rng),
+        5 => c.before[bound] = c.before[bound].next_up(),
+        6 => c.after[bound] = outside(rng),
+        7 => c.after[bound] = rng.pick(&[base.spec.outer.next_up(), base.spec.bore.next_down()]),
+        8 => c.after.swap(bound & 2, bound | 1),
+        9 => c.after[bound] = -0.,
+        10 => {
+            for x in c.before.iter_mut().filter(|x| **x == 0.) {
+                *x = -0.;
+            }
+        }
+        11 => (c.before, c.after) = (c.after, c.before),
+        12 => c.after = c.before,
+        13 => c.after[bound] = c.before[bound].next_up(),
+        14 => c.after[bound] = c.before[bound].next_down(),
+        15 => c.index = c.index.wrapping_add(1),
+        _ => {}
+    }
+}
+
+/// A generation, now and then about to pass its end.
+pub fn generation(rng: &mut Rng) -> u64 {
+    match rng.below(16) {
+        0 => u64::MAX,
+        1 => u64::MAX - rng.below(6) as u64,
+        2 => rng.word(),
+        _ => rng.below(1000) as u64,
+    }
+}
+
+pub fn apply(rng: &mut Rng) -> Call {
+    let base = base(rng);
+    let cells = good_cells(rng, &base);
+    let changes = some_changes(rng, &base, &cells);
+    Call::Apply {
+        spec: damaged_spec(rng, &base),
+        cells: damaged_cells(rng, &base, &cells),
+        generation: generation(rng),
+        list: damaged_changes(rng, &base, changes),
+    }
+}
