@@ -2,8 +2,8 @@
 //!
 //! A line is a call: its name, its inputs, `=`, and the number it answers, followed where that is 0
 //! by what it wrote. Fields are parted by single spaces. Every f64 is 16 hex digits in capitals,
-//! everything else is decimal. `N*M` says M fields, each the one N
-//! places before it.
+//! everything else is decimal, and the replay tells the two apart by that length. `N*M` says M fields,
+//! each the one N places before it.
 //!
 //! ```text
 //! SPEC     z_min z_max outer bore cell max_cells
@@ -44,7 +44,8 @@ use std::collections::BTreeMap;
 /// Longer lines are left out of a sample, bytes with the newline.
 const LONGEST: usize = 8192;
 
-/// So many bytes of a line, fields, indices and numbers of a list are there in the replay.
+/// The replay has room for so many fields, indices and numbers of a list, and no line at a limit has
+/// so many bytes.
 const LINE: usize = 65536;
 const FIELDS: usize = 36864;
 const INDICES: usize = 4096;

@@ -1,0 +1,96 @@
+// What a call answered, held to what its line says.
+use crate::given::BY_EIGHT;
+use crate::given::PLAIN;
+use crate::words;
+use crate::words::LIMIT;
+
+// What a call returned, and the sizes and numbers that it wrote.
+pub struct Said {
+    pub code: u32,
+    pub sizes: u64,
+    pub n: u64,
+    pub m: u64,
+    pub numbers: u64,
+    pub x: f64,
+    pub y: f64,
+}
+
+// How far a line was held to what was said, and whether it says the same.
+pub struct Mark {
+    pub at: usize,
+    pub ok: bool,
+}
+
+// Bit for bit, but that every NaN is the same.
+fn same(x: f64, y: f64) -> bool {
+    ((x == y) & (1.0 / x == 1.0 / y)) | ((x != x) & (y != y))
+}
+
+// The first n of xs are the numbers from word i on.
+pub fn numbers_are(words: &[u64; LIMIT], i: usize, list: usize, xs: &[f64], n: u64) -> bool {
+    let mut ok = n <= xs.len() as u64;
+    let mut j: usize = 0;
+    while j < xs.len() {
+        let k = std::num::wrapping_add_usize(j, (j / 8) & list);
+        ok = ok & ((n <= j as u64) | same(xs[j], words::number(words, i, k)));
+        j += 1;
+    }
+    ok
+}
+
+// The first n of xs are the indices of the changes from word i on.
+fn indices_are(words: &[u64; LIMIT], i: usize, xs: &[usize], n: u64) -> bool {
+    let mut ok = n <= xs.len() as u64;
+    let mut j: usize = 0;
+    while j < xs.len() {
+        ok = ok & ((n <= j as u64) | (xs[j] as u64 == words::at(words, i, 9 * j)));
+        j += 1;
+    }
+    ok
+}
+
+// From word i on: `=`, the number returned, the sizes and the numbers.
+pub fn answer(words: &[u64; LIMIT], i: usize, s: Said) -> Mark {
+    let k = words::after(words::after(i, 2), s.sizes);
+    Mark {
+        at: words::after(k, s.numbers),
+        ok: (words::at(words, i, 0) == words::EQUALS)
+            & (words::at(words, i, 1) == s.code as u64)
+            & ((s.sizes < 1) | (words::at(words, i, 2) == s.n))
+            & ((s.sizes < 2) | (words::at(words, i, 3) == s.m))
+            & ((s.numbers < 1) | same(words::number(words, k, 0), s.x))
+            & ((s.numbers < 2) | same(words::number(words, k, 1), s.y)),
+    }
+}
+
+// Where they are asked: how many, and n numbers.
+pub fn list(words: &[u64; LIMIT], m: Mark, asked: bool, count: u64, n: u64, xs: &[f64]) -> Mark {
+    let i = words::after(m.at, words::only(1, asked));
+    let k = words::only(n, asked);
+    Mark {
+        at: words::after(i, k),
+        ok: m.ok
+            & (!asked | (words::at(words, m.at, 0) == count))
+            & numbers_are(words, i, PLAIN, xs, k),
+    }
+}
+
+// Where they are asked: how many changes, and these.
+pub fn changes(
+    words: &[u64; LIMIT],
+    m: Mark,
+    asked: bool,
+    n: u64,
+    indices: &[usize],
+    records: &[f64],
+) -> Mark {
+    let i = words::after(m.at, words::only(1, asked));
+    let k = words::only(n, asked) % 65536;
+    Mark {
+        at: words::after(i, 9 * k),
+        ok: m.ok
+            & (!asked | (words::at(words, m.at, 0) == n))
+            & indices_are(words, i, indices, k)
+            & numbers_are(words, words::after(i, 1), BY_EIGHT, records, 8 * k),
+    }
+}

@@ -1,0 +1,172 @@
+// What a call is given.
+use crate::table;
+use crate::table::PARTS;
+use crate::words;
+use crate::words::LIMIT;
+
+// The numbers of a list stand one after the other, or an index before each eight.
+pub const PLAIN: usize = 0;
+
+pub const BY_EIGHT: usize = usize::MAX;
+
+const NUMBERS: u8 = 78;
+
+const STORE: u8 = 83;
+
+const LIST: u8 = 76;
+
+// Where the parts of a call stand, in the order in which any call has them: cells or points, rings,
+// a size, numbers, changes, more points, the room that is lent, the answer. The lengths of rings and
+// changes that are only lent stand in the room.
+pub struct Places {
+    pub cells: usize,
+    pub rings: usize,
+    pub size: usize,
+    pub numbers: usize,
+    pub changes: usize,
+    pub points: usize,
+    pub answer: usize,
+}
+
+// How many rings or changes are given: none, where there are more than are lent.
+fn rings_given(words: &[u64; LIMIT], i: usize) -> u64 {
+    let n = words::at(words, i, 1);
+    words::only(n, n <= words::at(words, i, 0) / 4)
+}
+
+fn changes_given(words: &[u64; LIMIT], i: usize) -> u64 {
+    let n = words::at(words, i, 2);
+    let held = (n <= words::at(words, i, 0)) & (n <= words::at(words, i, 1) / 8);
+    words::only(n, held)
+}
+
+// Where part j ends, which begins at word i: `N` is how many numbers and these, `S` a store of
+// rings, `L` a list of changes, a digit so many words.
+fn past(words: &[u64; LIMIT], kind: usize, j: usize, i: usize) -> usize {
+    let part = table::cell(kind, j);
+    match part {
+        NUMBERS => words::after(words::after(i, 1), words::at(words, i, 0)),
+        STORE => words::after(i, rings_given(words, i) % 65536 * 4 + 2),
+        LIST => words::after(i, changes_given(words, i) % 65536 * 9 + 3),
+        _ => words::after(i, (part % 16) as u64),
+    }
+}
+
+// The place of a part, or the other where it has no words.
+fn either(i: usize, end: usize, other: usize) -> usize {
+    if i == end {
+        return other;
+    }
+    i
+}
+
+pub fn places_of(words: &[u64; LIMIT], kind: usize) -> Places {
+    let cells = past(words, kind, PARTS, 1);
+    let rings = past(words, kind, PARTS + 1, cells);
+    let size = past(words, kind, PARTS + 2, rings);
+    let numbers = past(words, kind, PARTS + 3, size);
+    let changes = past(words, kind, PARTS + 4, numbers);
+    let points = past(words, kind, PARTS + 5, changes);
+    let room = past(words, kind, PARTS + 6, points);
+    Places {
+        cells,
+        rings: either(rings, size, room),
+        size,
+        numbers,
+        changes: either(changes, points, room),
+        points,
+        answer: past(words, kind, PARTS + 7, room),
+    }
+}
+
+// The sizes and numbers of a call, anything where it has none.
+pub struct Given {
+    pub z_min: f64,
+    pub z_max: f64,
+    pub outer: f64,
+    pub bore: f64,
+    pub cell: f64,
+    pub max_cells: usize,
+    pub x: f64,
+    pub y: f64,
+    pub z: f64,
+    pub w: f64,
+    pub size: u64,
+    pub side: u32,
+    pub rings: usize,
+    pub changes: usize,
+}
+
+pub fn numbers_of(words: &[u64; LIMIT], p: Places) -> Given {
+    let size = words::at(words, p.size, 0);
+    Given {
+        z_min: words::number(words, 1, 0),
+        z_max: words::number(words, 2, 0),
+        outer: words::number(words, 3, 0),
+        bore: words::number(words, 4, 0),
+        cell: words::number(words, 5, 0),
+        max_cells: words::at(words, 6, 0) as usize,
+        x: words::number(words, p.numbers, 0),
+        y: words::number(words, p.numbers, 1),
+        z: words::number(words, p.numbers, 2),
+        w: words::number(words, p.numbers, 3),
+        size,
+        side: (size % 4294967296) as u32,
+        rings: words::at(words, p.rings, 1) as usize,
+        changes: words::at(words, p.changes, 2) as usize,
+    }
+}
+
+// The first n, or none.
+fn front(xs: &mut [f64], n: u64) -> &mut [f64] {
+    if n <= xs.len() as u64 {
+        return &mut xs[..n as usize];
+    }
+    &mut xs[..0]
+}
+
+fn front_indices(xs: &mut [usize], n: u64) -> &mut [usize] {
+    if n <= xs.len() as u64 {
+        return &mut xs[..n as usize];
+    }
+    &mut xs[..0]
+}
+
+// The numbers from word i on.
+fn fill(words: &[u64; LIMIT], i: usize, list: usize, xs: &mut [f64]) {
+    let mut j: usize = 0;
+    while j < xs.len() {
+        let k = std::num::wrapping_add_usize(j, (j / 8) & list);
+        xs[j] = words::number(words, i, k);
+        j += 1;
+    }
+}
+
+// The indices of the changes from word i on.
+fn fill_indices(words: &[u64; LIMIT], i: usize, xs: &mut [usize]) {
+    let mut j: usize = 0;
+    while j < xs.len() {
+        xs[j] = words::at(words, i, 9 * j) as usize;
+        j += 1;
+    }
+}
+
+// Word i says how many numbers are lent, and they stand so many words after it.
+pub fn lent<'a>(
+    words: &[u64; LIMIT],
+    i: usize,
+    skip: u64,
+    list: usize,
+    xs: &'a mut [f64],
+) -> &'a mut [f64] {
+    let ys = front(xs, words::at(words, i, 0));
+    fill(words, words::after(i, skip), list, ys);
+    ys
+}
+
+// Word i says how many indices are lent, and the first stands three words after it.
+pub fn lent_indices<'a>(words: &[u64; LIMIT], i: usize, xs: &'a mut [usize]) -> &'a mut [usize] {
+    let ys = front_indices(xs, words::at(words, i, 0));
+    fill_indices(words, words::after(i, 3), ys);
+    ys
+}

@@ -1,0 +1,138 @@
+// A call is lent what its line says, made, and held to the line.
+use crate::answers;
+use crate::answers::Mark;
+use crate::answers::Said;
+use crate::calls;
+use crate::given;
+use crate::given::BY_EIGHT;
+use crate::given::Given;
+use crate::given::PLAIN;
+use crate::given::Places;
+use crate::table;
+use crate::words;
+use crate::words::LIMIT;
+
+// A call is lent at most so many numbers in a slice, and so many indices.
+const ROOM: usize = 32768;
+
+const INDICES: usize = 4096;
+
+// Sizes and numbers, where the call was accepted. There are no numbers where nothing was found.
+fn said(kind: usize, code: u32, n: u64, m: u64, found: bool, x: f64, y: f64) -> Said {
+    let numbers = words::only(table::digit(kind, table::NUMBERS), found);
+    Said {
+        code,
+        sizes: words::only(table::digit(kind, table::SIZES), code == 0),
+        n,
+        m,
+        numbers: words::only(numbers, code == 0),
+        x,
+        y,
+    }
+}
+
+// A call that writes sizes or numbers. Of those before ENVELOPE_AT none says whether there are any.
+fn asked(words: &[u64; LIMIT], kind: usize, p: Places, g: Given) -> Mark {
+    let mut cells = [0.0f64; ROOM];
+    let mut rings = [0.0f64; ROOM];
+    let c = given::lent(words, p.cells, 1, PLAIN, &mut cells);
+    let r = given::lent(words, p.rings, 2, PLAIN, &mut rings);
+    let mut n: usize = 0;
+    let mut m: usize = 0;
+    let mut found: u32 = 0;
+    let mut x: f64 = 0.0;
+    let mut y: f64 = 0.0;
+    let code = calls::ask(kind, g, c, r, &mut n, &mut m, &mut found, &mut x, &mut y);
+    let any = (found != 0) | (kind < table::ENVELOPE_AT);
+    let s = said(kind, code, n as u64 | found as u64, m as u64, any, x, y);
+    answers::answer(words, p.answer, s)
+}
+
+// What a call that lists changes answered.
+fn changes(words: &[u64; LIMIT], i: usize, s: Said, indices: &[usize], records: &[f64]) -> Mark {
+    let m = answers::answer(words, i, s);
+    answers::changes(words, m, s.code == 0, s.m, indices, records)
+}
+
+// A call that lists changes.
+fn listed(words: &[u64; LIMIT], kind: usize, p: Places, g: Given) -> Mark {
+    let room = words::after(p.changes, 1);
+    let mut cells = [0.0f64; ROOM];
+    let mut points = [0.0f64; ROOM];
+    let mut indices = [0usize; INDICES];
+    let mut records = [0.0f64; ROOM];
+    let c = given::lent(words, p.cells, 1, PLAIN, &mut cells);
+    let q = given::lent(words, p.points, 1, PLAIN, &mut points);
+    let i = given::lent_indices(words, p.changes, &mut indices);
+    let r = given::lent(words, room, 3, BY_EIGHT, &mut records);
+    let mut m: usize = 0;
+    let code = calls::list(kind, g, c, q, i, r, &mut m);
+    let s = said(kind, code, 0, m as u64, false, 0.0, 0.0);
+    changes(words, p.answer, s, i, r)
+}
+
+// What a call that writes a stock answered. A refusal leaves all as it was given.
+fn stock(
+    words: &[u64; LIMIT],
+    kind: usize,
+    p: Places,
+    g: Given,
+    s: Said,
+    cells: &[f64],
+    rings: &[f64],
+) -> Mark {
+    let done = s.code == 0;
+    let c = done & (kind != table::REMOVE_RING) & (kind != table::FROM_PARTS);
+    let r = done & (kind != table::APPLY) & (kind != table::NEW);
+    let n = cells.len() as u64;
+    let m = answers::answer(words, p.answer, s);
+    let i = answers::list(words, m, c, n, n, cells);
+    let k = answers::list(words, i, r, s.m, 4 * (s.m % 65536), rings);
+    let c_kept = words::only(n, !done);
+    let r_kept = words::only(rings.len() as u64, !done);
+    Mark {
+        at: k.at,
+        ok: k.ok
+            & (done | ((s.n == g.size) & (s.m == g.rings as u64)))
+            & answers::numbers_are(words, words::after(p.cells, 1), PLAIN, cells, c_kept)
+            & answers::numbers_are(words, words::after(p.rings, 2), PLAIN, rings, r_kept),
+    }
+}
+
+// A call that writes a stock.
+fn changed(words: &[u64; LIMIT], kind: usize, p: Places, g: Given) -> Mark {
+    let room = words::after(p.changes, 1);
+    let mut cells = [0.0f64; ROOM];
+    let mut points = [0.0f64; ROOM];
+    let mut rings = [0.0f64; ROOM];
+    let mut indices = [0usize; INDICES];
+    let mut records = [0.0f64; ROOM];
+    let c = given::lent(words, p.cells, 1, PLAIN, &mut cells);
+    let q = given::lent(words, p.points, 1, PLAIN, &mut points);
+    let r = given::lent(words, p.rings, 2, PLAIN, &mut rings);
+    let i = given::lent_indices(words, p.changes, &mut indices);
+    let t = given::lent(words, room, 3, BY_EIGHT, &mut records);
+    let mut n = g.size;
+    let mut m = g.rings;
+    let code = calls::change(kind, g, c, q, r, i, t, &mut m, &mut n);
+    let s = said(kind, code, n, m as u64, false, 0.0, 0.0);
+    stock(words, kind, p, g, s, c, r)
+}
+
+// Replays the call of a line, and says how far that is as recorded.
+pub fn replay(words: &[u64; LIMIT], kind: usize) -> Mark {
+    let p = given::places_of(words, kind);
+    let g = given::numbers_of(words, p);
+    match kind {
+        table::PREVIEW
+        | table::PREVIEW_POLYGON
+        | table::THREAD_CUT
+        | table::THREAD_CUT_INNER
+        | table::DRILL
+        | table::CHANGES_TO => listed(words, kind, p, g),
+        table::NEW | table::APPLY | table::REMOVE_RING | table::APPLY_MOVE | table::FROM_PARTS => {
+            changed(words, kind, p, g)
+        }
+        _ => asked(words, kind, p, g),
+    }
+}

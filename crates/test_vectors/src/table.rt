@@ -1,0 +1,161 @@
+// The kinds of calls: their names and forms, and how many were replayed of each.
+use crate::words;
+
+pub const ROOT: usize = 0;
+
+pub const LENGTH: usize = 1;
+
+pub const VALIDATE: usize = 2;
+
+pub const BIN: usize = 3;
+
+pub const NEW: usize = 4;
+
+pub const PREVIEW: usize = 5;
+
+pub const PREVIEW_POLYGON: usize = 6;
+
+pub const THREAD_CUT: usize = 7;
+
+pub const THREAD_CUT_INNER: usize = 8;
+
+pub const DRILL: usize = 9;
+
+pub const CHANGES_TO: usize = 10;
+
+pub const APPLY: usize = 11;
+
+pub const REMOVE_RING: usize = 12;
+
+pub const APPLY_MOVE: usize = 13;
+
+pub const FROM_PARTS: usize = 14;
+
+pub const VOLUME: usize = 15;
+
+pub const ENVELOPE_AT: usize = 16;
+
+pub const ENVELOPE_ORDER: usize = 17;
+
+pub const WITHIN: usize = 18;
+
+pub const RADIUS_AT: usize = 19;
+
+pub const RADIUS_RANGE: usize = 20;
+
+// A line whose name is not in the table.
+pub const UNREAD: usize = 21;
+
+// Calls of kind k at k, those that differ at APART + k.
+const APART: usize = 32;
+
+pub const COUNTS: usize = 64;
+
+// A row has a name, the parts of a call from column PARTS on (`given`), and how many sizes and
+// numbers the call writes besides lists.
+const ROW: usize = 27;
+
+const ROWS: usize = 22;
+
+const NAME: usize = 16;
+
+pub const PARTS: usize = 16;
+
+pub const SIZES: usize = 25;
+
+pub const NUMBERS: usize = 26;
+
+const SPACE: u8 = 32;
+
+// Byte j of the row of kind k.
+pub fn cell(k: usize, j: usize) -> u8 {
+    let rows = b"\
+root            00001000 01\
+length          00002000 01\
+validate        60000000 10\
+bin             60010000 02\
+new             60000001 00\
+preview         6N0110N2 00\
+preview_polygon 6N0110N2 00\
+thread_cut      6N003002 00\
+thread_cut_inner6N003002 00\
+drill           6N003002 00\
+changes_to      6N0000N2 00\
+apply           6N010L00 10\
+remove_ring     60S14000 10\
+apply_move      6NS10LN0 10\
+from_parts      6N0000N1 00\
+volume          6NS00000 02\
+envelope_at     6N001000 12\
+envelope_order  0N000000 10\
+within          0N002000 20\
+radius_at       0N001000 11\
+radius_range    0N002000 12\
+unread          00000000 00";
+    rows[ROW * (k % ROWS) + j % ROW]
+}
+
+// The digit in column j of the row of kind k.
+pub fn digit(k: usize, j: usize) -> u64 {
+    (cell(k, j) % 16) as u64
+}
+
+// The number that the name of kind k reads as.
+fn named(k: usize) -> u64 {
+    let mut r = words::blank(0, 0);
+    let mut j: usize = 0;
+    while j < NAME {
+        let b = cell(k, j);
+        if b == SPACE {
+            return words::value(r);
+        }
+        r = words::with_digit(r, b);
+        j += 1;
+    }
+    words::value(r)
+}
+
+// Which kind of call a line with this first word is.
+pub fn kind_of(name: u64) -> usize {
+    let mut k: usize = 0;
+    while k < UNREAD {
+        if named(k) == name {
+            return k;
+        }
+        k += 1;
+    }
+    UNREAD
+}
+
+// One call more of kind k, as recorded or not.
+pub fn count(counts: &mut [u64; COUNTS], k: usize, same: bool) {
+    let i = k % APART;
+    counts[i] = std::num::wrapping_add_u64(counts[i], 1);
+    counts[APART + i] = std::num::wrapping_add_u64(counts[APART + i], !same as u64);
+}
+
+fn write_name(k: usize) {
+    let mut j: usize = 0;
+    while j < NAME {
+        let b = cell(k, j);
+        if b == SPACE {
+            return;
+        }
+        io::write_all(1, &[b]);
+        j += 1;
+    }
+}
+
+// A line for each kind: its name, how many calls, how many differ.
+pub fn write(counts: &[u64; COUNTS]) {
+    let mut k: usize = 0;
+    while k < ROWS {
+        write_name(k);
+        io::write_all(1, b" ");
+        io::print_decimal(1, counts[k]);
+        io::write_all(1, b" ");
+        io::print_decimal(1, counts[APART + k]);
+        io::write_all(1, b"\n");
+        k += 1;
+    }
+}
