@@ -15,7 +15,7 @@ use Rattle.floats.specs.Kinds.{Number}
 use Rattle.floats.proofs.Keys.{key, le-key}
 use Rattle.envelope.specs.declared.Test.{Test}
 use Rattle.envelope.specs.declared.Test.the-variants.{Below, AtMost, Above, AtLeast}
-use Rattle.envelope.specs.Envelope.{uAt, count, rises, falls, orderOf, passes, countTo, howMany, span, spanOf}
+use Rattle.envelope.specs.Envelope.{uAt, count, rises, falls, orderOf, passes, countTo, howMany, span, allPoints, spanOf}
 use Rattle.envelope.specs.Halving.{halve, splitOf, isZ, halvedSpan}
 use Rattle.envelope.proofs.Halves.{mid, done, step, split-le}
 use Rattle.envelope.proofs.Kept.{Lies, order-mixed}
@@ -150,7 +150,7 @@ module _ (ps : List Float) (num : (i : ℕ) → i < count ps → Number binary64
     unfolding halvedSpan spanOf isZ orderOf pick
     span-counted = go (rises ps) (falls ps) refl refl
       where
-        go : (a b : Bool) → rises ps ≡ a → falls ps ≡ b → halvedSpan ps (pick a (pos 1) (pick b (negsuc 0) (pos 0))) lo hi ≡ pick a (span (howMany ps Below lo) (howMany ps AtMost hi)) (pick b (span (howMany ps Above hi) (howMany ps AtLeast lo)) (span 0 (count ps)))
+        go : (a b : Bool) → rises ps ≡ a → falls ps ≡ b → halvedSpan ps (pick a (pos 1) (pick b (negsuc 0) (pos 0))) lo hi ≡ pick a (span (howMany ps Below lo) (howMany ps AtMost hi)) (pick b (span (howMany ps Above hi) (howMany ps AtLeast lo)) (allPoints ps))
         go true b e f = ap₂ span (split-counted Below nlo e) (split-counted AtMost nhi e)
         go false true e f = ap₂ span (split-counted Above nhi f) (split-counted AtLeast nlo f)
         go false false e f = refl
@@ -166,7 +166,7 @@ module _ (ps : List Float) (num : (i : ℕ) → i < count ps → Number binary64
         down : (klo khi k : ℕ) → klo ≤ khi → khi < k → klo ≤ k
         down klo khi k l h = omega arith
 
-        go : (a b : Bool) → rises ps ≡ a → falls ps ≡ b → key binary64 lo ≤ key binary64 hi → Lies (pick a (span (howMany ps Below lo) (howMany ps AtMost hi)) (pick b (span (howMany ps Above hi) (howMany ps AtLeast lo)) (span 0 (count ps)))) (count ps)
+        go : (a b : Bool) → rises ps ≡ a → falls ps ≡ b → key binary64 lo ≤ key binary64 hi → Lies (pick a (span (howMany ps Below lo) (howMany ps AtMost hi)) (pick b (span (howMany ps Above hi) (howMany ps AtLeast lo)) (allPoints ps))) (count ps)
         go true b e f l = between-lies Below AtMost nlo nhi e e (λ k. up (key binary64 lo) (key binary64 hi) k l)
         go false true e f l = between-lies Above AtLeast nhi nlo f f (λ k. down (key binary64 lo) (key binary64 hi) k l)
         go false false e f l = (omega arith, omega arith)
@@ -183,7 +183,7 @@ module _ (ps : List Float) (num : (i : ℕ) → i < count ps → Number binary64
         at-most = le-key binary64 (uAt ps i) hi (num i m) nhi
 
         go : (a b : Bool) → rises ps ≡ a → falls ps ≡ b
-            → let s = pick a (span (howMany ps Below lo) (howMany ps AtMost hi)) (pick b (span (howMany ps Above hi) (howMany ps AtLeast lo)) (span 0 (count ps))) in
+            → let s = pick a (span (howMany ps Below lo) (howMany ps AtMost hi)) (pick b (span (howMany ps Above hi) (howMany ps AtLeast lo)) (allPoints ps)) in
             ((s .start ≤ i) × (i < s .end)) ↔ (T (le lo (uAt ps i)) × T (le (uAt ps i) hi))
         go true b e f =
             let x = points-between Below AtMost nlo nhi e e i m in

@@ -3,7 +3,7 @@ use mathlib.Core.Path.{_≡_, refl, sym, subst}
 use mathlib.Core.Bool.{Bool, true, false, not, _&&_, _||_}
 use mathlib.Core.List.{List}
 use mathlib.Core.Option.{Option, none, some}
-use Prim.Native.Nat.{ℕ, zero, suc, _+_, _-_, _*_, _<_, min}
+use Prim.Native.Nat.{ℕ, zero, suc, _+_, _-_, _*_, _<_}
 use native.Mathlib.Omega.{arith}
 use lib.Dec.{T}
 use lib.ListN.{getD}
@@ -143,7 +143,7 @@ module _ (ps : List Float) (held : (i : ℕ) → T (fits binary64 (getD ps i nan
 -- ---- what is answered
 module _ (ps : List Float) (held : (i : ℕ) → T (fits binary64 (getD ps i nan))) where
   -- a segment of a span that is one point wider lies among the points
-  inner : (s : Span) (n j : ℕ) → j < min (s .end + 1) n - (s .start - 1) - 1 → s .start - 1 + j + 1 < n
+  inner : (s : Span) (n j : ℕ) → let w = wider s n in j < w .end - w .start - 1 → w .start + j + 1 < n
   inner s n j h = omega arith
 
   -- the highest radius at u
@@ -156,7 +156,7 @@ module _ (ps : List Float) (held : (i : ℕ) → T (fits binary64 (getD ps i nan
           let g = both (pointsGood ps) (usable u) d in
           let s = spanOf ps (cleanOf u) (cleanOf u) in
           let r : highestIn ps (wider s (count ps)) (cleanOf u) ≡ some x = cc in
-          rw r at (highest-sized ps held (g .0) (usable-sized u fu (g .1)) (s .start - 1) (min (s .end + 1) (count ps) - (s .start - 1) - 1) (inner s (count ps)))
+          rw r at (highest-sized ps held (g .0) (usable-sized u fu (g .1)) _ _ (inner s (count ps)))
       go false d e = absurd (refused-not 14 _ e)
 
   over-sized : pointsGood ps ≡ true → {lo hi : Float} → Sized 20 lo → Sized 20 hi → Holds (radiiOf ps lo hi)
@@ -166,7 +166,7 @@ module _ (ps : List Float) (held : (i : ℕ) → T (fits binary64 (getD ps i nan
       at : (b : Bool) → Holds (pick b (radiiIn ps (wider (spanOf ps lo hi) (count ps)) lo hi) none)
       at true =
           let s = spanOf ps lo hi in
-          radii-sized ps held g sl sh (s .start - 1) (min (s .end + 1) (count ps) - (s .start - 1) - 1) (inner s (count ps))
+          radii-sized ps held g sl sh _ _ (inner s (count ps))
       at false = tt
 
   -- the lowest and the highest radius over lo..hi

@@ -14,7 +14,7 @@ use Rattle.floats.specs.Numbers.{cleanOf, usable}
 use Rattle.refusals.specs.Paper.{answers, refuses, demand}
 use Rattle.envelope.specs.declared.Span.{Span}
 use Rattle.envelope.specs.declared.Test.the-variants.{Below, AtMost, Above, AtLeast}
-use Rattle.envelope.specs.Envelope.{count, allTo, usableTo, pointsGood, risesTo, fallsTo, rises, falls, orderOf, span, wider, numbersOf}
+use Rattle.envelope.specs.Envelope.{count, allTo, usableTo, pointsGood, risesTo, fallsTo, rises, falls, orderOf, span, allPoints, wider, numbersOf}
 use Rattle.envelope.specs.Halving.{scanOf, splitOf, isZ, keptOf, accepted, halvedSpan, straight, halvedPart, keptWithin}
 use Rattle.envelope.proofs.Steps.{is-not}
 use Rattle.envelope.proofs.Halves.{split-le}
@@ -98,7 +98,7 @@ module _ (ps : List Float) (z : ℤ) (lo hi : Float) where
   unfolding halvedSpan isZ pick
   span-down e = rw e
 
-  pub span-all : (z ≡ pos 1 → ⊥) → (z ≡ negsuc 0 → ⊥) → span 0 (count ps) ≡ halvedSpan ps z lo hi
+  pub span-all : (z ≡ pos 1 → ⊥) → (z ≡ negsuc 0 → ⊥) → allPoints ps ≡ halvedSpan ps z lo hi
   unfolding halvedSpan pick
   span-all h g = rw (is-not z (pos 1) h, is-not z (negsuc 0) g)
 
@@ -113,10 +113,7 @@ module _ (ps : List Float) (z : ℤ) (lo hi : Float) where
       down : Span
       down = span (splitOf ps Above hi) (splitOf ps AtLeast lo)
 
-      all : Span
-      all = span 0 (count ps)
-
-      go : (a b : Bool) → (pick a up (pick b down all) .start ≤ count ps) × (pick a up (pick b down all) .end ≤ count ps)
+      go : (a b : Bool) → (pick a up (pick b down (allPoints ps)) .start ≤ count ps) × (pick a up (pick b down (allPoints ps)) .end ≤ count ps)
       go true b = (split-le ps Below lo, split-le ps AtMost hi)
       go false true = (split-le ps Above hi, split-le ps AtLeast lo)
       go false false = (omega arith, omega arith)

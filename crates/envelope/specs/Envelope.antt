@@ -109,12 +109,16 @@ howMany ps t x = countTo ps t x (count ps)
 abbrev pub span : ℕ → ℕ → Span
 span a b = record { start = a; end = b }
 
+-- all of them
+abbrev pub allPoints : List Float → Span
+allPoints ps = span 0 (count ps)
+
 -- The points with lo <= u <= hi: where u never falls, they stand after those with u < lo and end with those with u <= hi; where it never rises,
 -- after those with u > hi, and end with those with u >= lo. Where neither, all points.
 unfoldable pub spanOf : List Float → Float → Float → Span
 spanOf ps lo hi =
     pick (rises ps) (span (howMany ps Below lo) (howMany ps AtMost hi))
-    (pick (falls ps) (span (howMany ps Above hi) (howMany ps AtLeast lo)) (span 0 (count ps)))
+    (pick (falls ps) (span (howMany ps Above hi) (howMany ps AtLeast lo)) (allPoints ps))
 
 -- the same, and nothing where lo > hi
 unfoldable pub partOf : List Float → Float → Float → Span

@@ -24,7 +24,7 @@ use Rattle.envelope.specs.declared.Ordered.{Ordered}
 use Rattle.envelope.specs.declared.Spanned.{Spanned}
 use Rattle.envelope.specs.declared.RadiusAt.{RadiusAt}
 use Rattle.envelope.specs.declared.RadiusRange.{RadiusRange}
-use Rattle.envelope.specs.Envelope.{count, uAt, usableTo, pointsGood, rises, falls, orderOf, orderedOf, orderedPaper, passes, span, withinOf, numbersOf, spannedPaper, wider, highestIn, radiusAtOf, radiusAtPaper, Radii, radiiIn, radiusRangeOf, radiusRangePaper}
+use Rattle.envelope.specs.Envelope.{count, uAt, usableTo, pointsGood, rises, falls, orderOf, orderedOf, orderedPaper, passes, span, allPoints, withinOf, numbersOf, spannedPaper, wider, highestIn, radiusAtOf, radiusAtPaper, Radii, radiiIn, radiusRangeOf, radiusRangePaper}
 
 -- what one pass over the points finds
 abbrev pub scanOf : List Float → Scanned
@@ -75,7 +75,7 @@ OrderKept ps z r = Kept ps z (orderedPaper r) (keptOrder z) (orderedOf ps)
 unfoldable pub halvedSpan : List Float → ℤ → Float → Float → Span
 halvedSpan ps z lo hi =
     pick (isZ z (pos 1)) (span (splitOf ps Below lo) (splitOf ps AtMost hi))
-    (pick (isZ z (negsuc 0)) (span (splitOf ps Above hi) (splitOf ps AtLeast lo)) (span 0 (count ps)))
+    (pick (isZ z (negsuc 0)) (span (splitOf ps Above hi) (splitOf ps AtLeast lo)) (allPoints ps))
 
 -- nothing where the span is turned about
 unfoldable pub straight : Span → Span
