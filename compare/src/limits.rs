@@ -1,5 +1,6 @@
-//! Calls at document 01's limits and one beyond, each with the number that 01 gives.
-use crate::call::{Call, List, Room, Simple, Spec, Store};
+//! Calls at document 01's limits and one beyond, each with the number that 01 gives; and envelope
+//! queries at the corners where a look at a part of the points could miss a segment.
+use crate::call::{Answer, Call, List, Outcome, Room, Simple, Spec, Store};
 use crate::oracle::{
     ARGUMENT, BEFORE, CELLS, COUNT, ENVELOPE, GENERATION, MILLION, MOST_CELLS,
     MOST_ENVELOPE_POINTS, MOST_POINTS, MOST_RINGS, MOST_SEGMENTS, PIECES, ROOM, STORED,
@@ -320,7 +321,7 @@ fn envelope(count: usize, order: i32) -> Vec<f64> {
         _ => (7 * k % 256) as f64,
     };
     let r = |k: usize| 3. + (k % 5) as f64 / 3.;
-    (0..count).flat_map(|k| [r(k), u(k)]).collect()
+    (0..count).flat_map(|k| [u(k), r(k)]).collect()
 }
 
 fn queries() -> Vec<(Call, u32)> {
@@ -349,7 +350,123 @@ fn queries() -> Vec<(Call, u32)> {
     calls
 }
 
-/// Every call at a limit, with its number.
+/// A query of an envelope and what it answers: the highest radius at lo, and the lowest and the
+/// highest over lo..hi.
+struct Corner {
+    name: &'static str,
+    points: &'static [[f64; 2]],
+    query: [f64; 2],
+    at: Result<Option<f64>, u32>,
+    over: Result<Option<[f64; 2]>, u32>,
+}
+
+/// A corner that is accepted.
+const fn corner(
+    name: &'static str,
+    points: &'static [[f64; 2]],
+    query: [f64; 2],
+    at: Option<f64>,
+    over: Option<[f64; 2]>,
+) -> Corner {
+    Corner {
+        name,
+        points,
+        query,
+        at: Ok(at),
+        over: Ok(over),
+    }
+}
+
+/// One that is refused.
+const fn refused(name: &'static str, points: &'static [[f64; 2]], query: [f64; 2]) -> Corner {
+    Corner {
+        name,
+        points,
+        query,
+        at: Err(ENVELOPE),
+        over: Err(ENVELOPE),
+    }
+}
+
+const LEAST: f64 = f64::from_bits(1);
+const PEAK: &[[f64; 2]] = &[[0., 1.], [2., 3.], [4., 1.]];
+const FALLING: &[[f64; 2]] = &[[4., 1.], [2., 3.], [0., 1.]];
+const STEPPED: &[[f64; 2]] = &[[0., 1.], [2., 3.], [2., 5.], [4., 5.]];
+const FALLING_STEP: &[[f64; 2]] = &[[4., 5.], [2., 5.], [2., 3.], [0., 1.]];
+const UPRIGHT: &[[f64; 2]] = &[[2., 3.], [2., 5.], [2., 1.]];
+const BACK: &[[f64; 2]] = &[[0., 1.], [2., 1.], [0., 3.]];
+const ZEROS: &[[f64; 2]] = &[[-0., -0.], [2., 2.]];
+const SHORT: &[[f64; 2]] = &[[0., 0.], [LEAST, 2.]];
+const LONG: &[[f64; 2]] = &[[-MILLION, 1.], [MILLION, 3.]];
+const STEEP: &[[f64; 2]] = &[[0., MILLION], [1., 1e-11], [2., 1e-11]];
+
+#[rustfmt::skip]
+const CORNERS: &[Corner] = &[
+    corner("no points", &[], [0., 1.], None, None),
+    corner("one point", &[[2., 3.]], [2., 2.], None, None),
+    corner("all u equal", UPRIGHT, [2., 2.], Some(5.), Some([1., 5.])),
+    corner("all u equal, to hi", UPRIGHT, [1., 2.], None, Some([1., 5.])),
+    corner("all u equal, beside", UPRIGHT, [0., 1.], None, None),
+    corner("u repeated at lo", STEPPED, [2., 3.], Some(5.), Some([3., 5.])),
+    corner("u repeated at hi", STEPPED, [1., 2.], Some(2.), Some([2., 5.])),
+    corner("u repeated at lo, falling", FALLING_STEP, [2., 3.], Some(5.), Some([3., 5.])),
+    corner("u repeated at hi, falling", FALLING_STEP, [1., 2.], Some(2.), Some([2., 5.])),
+    corner("lo is hi", PEAK, [1., 1.], Some(2.), Some([2., 2.])),
+    corner("lo is hi at a shared end", PEAK, [2., 2.], Some(3.), Some([3., 3.])),
+    corner("lo is hi at the first point", PEAK, [0., 0.], Some(1.), Some([1., 1.])),
+    corner("lo is hi at the last point", PEAK, [4., 4.], Some(1.), Some([1., 1.])),
+    corner("left of the points", PEAK, [-2., -1.], None, None),
+    corner("right of the points", PEAK, [5., 6.], None, None),
+    corner("left of the points, falling", FALLING, [-2., -1.], None, None),
+    corner("right of the points, falling", FALLING, [5., 6.], None, None),
+    corner("between two points", PEAK, [2.5, 3.], Some(2.5), Some([2., 2.5])),
+    corner("between two points, falling", FALLING, [2.5, 3.], Some(2.5), Some([2., 2.5])),
+    corner("over all points", PEAK, [-9., 9.], None, Some([1., 3.])),
+    corner("over all points, falling", FALLING, [-9., 9.], None, Some([1., 3.])),
+    corner("a segment runs back", BACK, [1., 1.], Some(2.), Some([1., 2.])),
+    corner("a segment runs back to lo", BACK, [0., 0.], Some(3.), Some([1., 3.])),
+    corner("beside points in no order", BACK, [3., 4.], None, None),
+    corner("-0.0 as u and v", ZEROS, [0., 1.], Some(0.), Some([0., 1.])),
+    corner("-0.0 as lo", ZEROS, [-0., 1.], Some(0.), Some([0., 1.])),
+    corner("-0.0 as hi", ZEROS, [-1., -0.], None, Some([0., 0.])),
+    corner("a subnormal u", SHORT, [LEAST, 1.], Some(2.), Some([2., 2.])),
+    corner("a subnormal step", SHORT, [0., LEAST], Some(0.), Some([0., 2.])),
+    corner("from -1e6 to 1e6", LONG, [-MILLION, MILLION], Some(1.), Some([1., 3.])),
+    corner("an end that rounds away", STEEP, [1., 1.], Some(1e-11), Some([0., 1e-11])),
+    corner("lo over hi", PEAK, [3., 1.], Some(2.), None),
+    corner("lo over hi, falling", FALLING, [3., 1.], Some(2.), None),
+    corner("lo over hi, in no order", BACK, [2., 0.], Some(1.), None),
+    refused("lo no number", PEAK, [f64::NAN, 1.]),
+    refused("lo infinite", PEAK, [f64::NEG_INFINITY, 1.]),
+    refused("an infinite u", &[[0., 1.], [f64::INFINITY, 1.]], [0., 1.]),
+    refused("a v that is no number", &[[0., 1.], [1., f64::NAN]], [0., 1.]),
+];
+
+/// Each corner by its name: its two calls, with what they answer.
+pub fn corners() -> Vec<(&'static str, Call, Outcome)> {
+    let mut calls = vec![];
+    for corner in CORNERS {
+        let points = corner.points.as_flattened().to_vec();
+        let [lo, hi] = corner.query;
+        let at = corner.at.map(|v| Answer::Found(v.map(|v| vec![v])));
+        let over = corner.over.map(|v| Answer::Found(v.map(|v| v.to_vec())));
+        let again = points.clone();
+        calls.push((corner.name, Call::RadiusAt { points, u: lo }, at));
+        let points = again;
+        calls.push((corner.name, Call::RadiusRange { points, lo, hi }, over));
+    }
+    calls
+}
+
+fn at_corners() -> Vec<(Call, u32)> {
+    let calls = corners().into_iter();
+    let number = |outcome: Outcome| outcome.err().unwrap_or(0);
+    calls
+        .map(|(_, call, outcome)| (call, number(outcome)))
+        .collect()
+}
+
+/// Every call at a limit or a corner, with its number.
 pub fn calls() -> Vec<(Call, u32)> {
     [
         specs(),
@@ -359,6 +476,7 @@ pub fn calls() -> Vec<(Call, u32)> {
         rings(),
         parts(),
         queries(),
+        at_corners(),
     ]
     .concat()
 }

@@ -75,12 +75,17 @@ pub fn number(outcome: &Outcome) -> u32 {
     outcome.as_ref().err().copied().unwrap_or(0)
 }
 
-/// What the library does otherwise than the outcome says.
+/// What the library does otherwise than the outcome says, or than the full look.
 pub fn difference(call: &Call, outcome: &Outcome) -> Option<String> {
     let mut memory = Memory::of(call);
     let wanted = memory.after(outcome);
+    let full = oracle::full_look(call).map(|full| (memory.after(&full), full));
     let number = library::run(call, &mut memory);
-    unlike(call, outcome, number, &memory, &wanted)
+    unlike(call, outcome, number, &memory, &wanted).or_else(|| {
+        let (wanted, outcome) = full?;
+        let text = unlike(call, &outcome, number, &memory, &wanted)?;
+        Some(format!("The full look:\n{text}"))
+    })
 }
 
 /// Where the number or the memory after a call are not those wanted.

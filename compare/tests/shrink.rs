@@ -1,7 +1,7 @@
 //! A call that fails is made small.
 use compare::call::{Answer, Call};
-use compare::generate::{Rng, cuts, rings};
-use compare::oracle::answer;
+use compare::generate::{Rng, cuts, envelope, rings};
+use compare::oracle::{answer, full_look};
 use compare::shrink::shrink;
 
 /// The first calls that fail, made small.
@@ -48,6 +48,35 @@ fn a_store_shrinks_to_one_ring() {
     for call in least(rings::remove_ring, fails) {
         assert!(
             matches!(&call, Call::RemoveRing { store, generation: 0, .. } if store.count == 1),
+            "{call:?}"
+        );
+    }
+}
+
+/// A look at the part alone, not one point wider: two points and a u between them.
+#[test]
+fn a_part_not_widened_shrinks_to_one_segment() {
+    let fails = |call: &Call| match call {
+        Call::RadiusAt { points, u } => {
+            let (points, u) = (points.clone(), *u);
+            let (lo, hi) = (u, u);
+            let within = Call::Within {
+                points: points.clone(),
+                lo,
+                hi,
+            };
+            let Ok(Answer::Part(first, count)) = answer(&within) else {
+                return false;
+            };
+            let part = points[2 * first..2 * (first + count)].to_vec();
+            let narrow = full_look(&Call::RadiusAt { points: part, u });
+            narrow != full_look(call)
+        }
+        _ => false,
+    };
+    for call in least(envelope::envelope_call, fails) {
+        assert!(
+            matches!(&call, Call::RadiusAt { points, .. } if points.len() == 4),
             "{call:?}"
         );
     }

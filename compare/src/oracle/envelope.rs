@@ -5,7 +5,7 @@ use length::turning::profile as opened;
 use plain::turning::profile as camlib;
 
 /// 14: the points and the numbers of the query.
-fn points(numbers: &[f64], query: &[f64]) -> Result<Vec<[f64; 2]>, u32> {
+pub fn points(numbers: &[f64], query: &[f64]) -> Result<Vec<[f64; 2]>, u32> {
     demand(numbers.len().is_multiple_of(2), ENVELOPE)?;
     demand(numbers.len() / 2 <= MOST_ENVELOPE_POINTS, ENVELOPE)?;
     demand(numbers.iter().chain(query).all(|x| usable(*x)), ENVELOPE)?;

@@ -3,10 +3,11 @@
 //! The answers come from camlib unchanged, but for nose cuts, which come from camlib with 01's length,
 //! and for `within` and the order, which unchanged camlib keeps to itself. What 01 says and camlib
 //! does not, stands here: the limits, the domain, the order of refusals, and that -0.0 is read as
-//! +0.0 and never stored.
+//! +0.0 and never stored. An envelope's radius has a second oracle, `full_look`, over all segments.
 mod changes;
 pub mod cuts;
 mod envelope;
+mod full;
 mod numbers;
 mod queries;
 pub mod rings;
@@ -56,6 +57,16 @@ fn usable(x: f64) -> bool {
 /// Finite, and not -0.0: what cells and stored rings may hold.
 fn storable(x: f64) -> bool {
     x.is_finite() && x.to_bits() != (-0_f64).to_bits()
+}
+
+/// What the full look answers, of a call that looks at a part of an envelope's points alone.
+pub fn full_look(call: &Call) -> Option<Outcome> {
+    let found = match call {
+        Call::RadiusAt { points, u } => full::radius_at(points, *u),
+        Call::RadiusRange { points, lo, hi } => full::radius_range(points, *lo, *hi),
+        _ => return None,
+    };
+    Some(found.map(Answer::Found))
 }
 
 /// What document 01 answers.
