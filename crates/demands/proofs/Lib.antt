@@ -10,3 +10,4 @@ pub mod Rings
 pub mod Written
 pub mod Second
 pub mod Once
+pub mod Profile

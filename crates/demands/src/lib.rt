@@ -16,6 +16,12 @@
 // Each promise allows one outcome (`proofs/Once`): two answers that meet it are the same, and so is each
 // lent buffer. Every public call is listed there with the law that covers it.
 //
+// Narrow look, full look (`proofs/Profile`): `radius_at` and `radius_range` look at a part of an
+// envelope's points. Whatever outcome meets their promise, or that of the methods of an `Envelope`
+// made by `new`, is refused exactly where the points or the query are outside the domain, and is
+// else, for lo <= hi, the look at all segments in order. Crate `envelope` has the law behind it,
+// once for every order (`narrow-full`).
+//
 // Demand 3, of cuts: below. Of rings (`proofs/Rings`): accepted rings cover the same points in every
 // order, and no two stored rings share one.
 //

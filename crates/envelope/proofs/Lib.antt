@@ -3,6 +3,7 @@ pub mod Halves
 pub mod Kept
 pub mod Chain
 pub mod Counted
+pub mod Loops
 pub mod Narrow
 pub mod Rules
 pub mod Finite

@@ -20,8 +20,9 @@ use Rattle.floats.proofs.Within.{number-l}
 use Rattle.refusals.specs.Paper.{Paper, answers, refuses, demand}
 use Rattle.envelope.specs.declared.Span.{Span}
 use Rattle.refusals.specs.Limits.{envelopeLimit}
-use Rattle.envelope.specs.Envelope.{uAt, vAt, count, usableTo, pointsGood, rises, falls, orderOf, orderedOf, span, spanOf, partOf, withinOf, numbersOf, wider, highestIn, highestTo, radiusAtOf, Radii, radiiIn, radiiTo, radiiOf, radiusRangeOf}
+use Rattle.envelope.specs.Envelope.{uAt, vAt, count, usableTo, pointsGood, rises, falls, orderOf, orderedOf, span, spanOf, partOf, withinOf, numbersOf, wider, highestIn, radiusAtOf, Radii, radiiIn, radiiOf, radiusRangeOf}
 use Rattle.envelope.specs.Halving.{isZ, keptOf, Kept, accepted, keptOrder, halvedSpan, straight, halvedPart, keptWithin, halvedAt, keptAt, halvedRadii, keptRange}
+use Rattle.envelope.specs.Full.{fullAt, fullRange}
 use Rattle.envelope.proofs.Kept.{Lies}
 use Rattle.envelope.proofs.Chain.{both, so, all-at}
 use Rattle.envelope.proofs.Counted.{span-counted, span-lies, span-exactly}
@@ -178,7 +179,7 @@ same-answer false x y h = refl
 
 module _ (ps : List Float) (held : (i : ℕ) → T (fits binary64 (getD ps i nan))) where
   -- the highest radius at u is that over all segments in order
-  pub full-at : (u : Float) → T (fits binary64 u) → radiusAtOf ps u ≡ demand (pointsGood ps && usable u) 14 (answers (highestTo ps (cleanOf u) 0 (count ps - 1)))
+  pub full-at : (u : Float) → T (fits binary64 u) → radiusAtOf ps u ≡ demand (pointsGood ps && usable u) 14 (answers (fullAt ps (cleanOf u)))
   unfolding radiusAtOf
   full-at u fu =
       same-answer (pointsGood ps && usable u) _ _
@@ -186,13 +187,13 @@ module _ (ps : List Float) (held : (i : ℕ) → T (fits binary64 (getD ps i nan
 
   -- where lo <= hi, the lowest and the highest radius are those over all segments in order
   pub full-range : (lo hi : Float) → T (fits binary64 lo) → T (fits binary64 hi)
-      → radiusRangeOf ps lo hi ≡ demand (pointsGood ps && (usable lo && usable hi)) 14 (answers (pick (le (cleanOf lo) (cleanOf hi)) (radiiTo ps (cleanOf lo) (cleanOf hi) 0 (count ps - 1)) none))
+      → radiusRangeOf ps lo hi ≡ demand (pointsGood ps && (usable lo && usable hi)) 14 (answers (pick (le (cleanOf lo) (cleanOf hi)) (fullRange ps (cleanOf lo) (cleanOf hi)) none))
   unfolding radiusRangeOf radiiOf
   full-range lo hi flo fhi =
       same-answer (pointsGood ps && (usable lo && usable hi)) _ _
       (λ e. let g = both (pointsGood ps) (usable lo && usable hi) e in go (g .0) (number-lo ps held lo hi flo fhi (g .1)) (number-hi ps held lo hi flo fhi (g .1)) (le (cleanOf lo) (cleanOf hi)) refl)
     where
       go : pointsGood ps ≡ true → Number binary64 (cleanOf lo) → Number binary64 (cleanOf hi) → (b : Bool) → le (cleanOf lo) (cleanOf hi) ≡ b
-          → pick b (radiiIn ps (wider (spanOf ps (cleanOf lo) (cleanOf hi)) (count ps)) (cleanOf lo) (cleanOf hi)) none ≡ pick b (radiiTo ps (cleanOf lo) (cleanOf hi) 0 (count ps - 1)) none
+          → pick b (radiiIn ps (wider (spanOf ps (cleanOf lo) (cleanOf hi)) (count ps)) (cleanOf lo) (cleanOf hi)) none ≡ pick b (fullRange ps (cleanOf lo) (cleanOf hi)) none
       go good nlo nhi true h = ap (λ r. pick true r none) (radii-full ps (u-number ps good held) (cleanOf lo) (cleanOf hi) nlo nhi h)
       go good nlo nhi false h = unfold pick in refl

@@ -1,2 +1,3 @@
 pub mod Envelope
 pub mod Halving
+pub mod Full
