@@ -25,8 +25,8 @@ use Rattle.stock.specs.Cell.{cellAt, sameCell, putCell}
 use Rattle.stock.proofs.Stored.{stored-same, stored-other}
 use Rattle.reach.proofs.Fit.{CellFit, fit-test, same-test, same-cell}
 use Rattle.reach.proofs.Removes.{Removes, Cuts}
-use Rattle.records.specs.Change.{changeOf, changeAt, changesTo, indicesOf}
-use Rattle.records.proofs.Rising.{RisingTo, rising}
+use Rattle.changes.specs.Change.{changeOf, changeAt, changesTo, indicesOf}
+use Rattle.changes.proofs.Rising.{RisingTo, rising}
 use Rattle.changes.specs.Commit.{onlyRemoves, appliesTo, passes, eachPasses, risesAfter, rises, passAll, putAll, commitIn, commitOf}
 use Rattle.changes.proofs.Passed.{put-length}
 use Rattle.changes.proofs.Stocks.{Good, good-stock}

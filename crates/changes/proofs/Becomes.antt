@@ -16,7 +16,7 @@ use Rattle.stock.proofs.Count.{demanded, same-answer, stock-is, stocked}
 use Rattle.stock.proofs.Bins.{HeldSpec, HeldList}
 use Rattle.stock.proofs.Stored.{same-cells}
 use Rattle.reach.proofs.Removes.{Cuts}
-use Rattle.records.specs.Change.{changesTo, settled}
+use Rattle.changes.specs.Change.{changesTo, settled}
 use Rattle.changes.specs.Commit.{onlyRemoves, putAll, commitOf}
 use Rattle.changes.specs.Difference.{otherCell, differenceOf}
 use Rattle.changes.proofs.Stocks.{stock-good}

@@ -10,7 +10,7 @@ use Rattle.stock.specs.declared.TurnChange.{TurnChange}
 use Rattle.stock.specs.Spec.{cleanSpec}
 use Rattle.stock.specs.Cell.{cellsFit, stockOf}
 use Rattle.stock.proofs.Count.{stock-is, stocked, demanded, no-answer}
-use Rattle.records.specs.Change.{changesTo, settled}
+use Rattle.changes.specs.Change.{changesTo, settled}
 use Rattle.changes.specs.Difference.{otherCell, differenceOf}
 
 three : {r : ℕ} → _≡_ {A = Paper ℕ} (refuses 3) (refuses r) → 3 ≡ r

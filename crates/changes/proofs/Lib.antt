@@ -1,4 +1,9 @@
+pub mod Placed
+pub mod Rising
+pub mod ReadBack
+pub mod Proposals
 pub mod Passed
+pub mod Decided
 pub mod Written
 pub mod Differences
 pub mod Stocks

@@ -1,7 +1,7 @@
--- Changes that pass, from the front of a list on. Assumes nothing.
-use mathlib.Core.Path.{_≡_, refl, sym, ap, ap₂, _∙_}
+-- The first changes of the lent lists: one more, that their indices rise, and their after-cells put. Assumes nothing.
+use mathlib.Core.Path.{_≡_, refl, sym, ap, _∙_}
 use mathlib.Core.Bool.{Bool, true, false, _&&_}
-use mathlib.Core.List.{List, [], _∷_, _++_, append-assoc, append-nil, foldl, foldl-append}
+use mathlib.Core.List.{List, [], _∷_, _++_, append-assoc, append-nil, foldl-append}
 use Prim.Native.Nat.{ℕ, zero, suc, _+_, _-_, _*_, _/_, _≤_, _<_}
 use native.Mathlib.Nat.{add-zero, add-suc}
 use native.Mathlib.Numerals.{add-one}
@@ -10,14 +10,12 @@ use lib.Dec.{ltb}
 use lib.ListN.{length, getD}
 use lib.Seq.{sets, length-sets}
 use lib.Ieee.{Float}
-use Rattle.refusals.specs.Paper.{Paper, answers, refuses, onward, onward-answers, onward-refuses}
-use Rattle.stock.specs.declared.TurnStockSpec.{TurnStockSpec}
 use Rattle.stock.specs.declared.TurnChange.{TurnChange}
 use Rattle.floats.specs.Pick.{pick, pick-true, pick-false}
 use Rattle.stock.specs.declared.TurnCell.{TurnCell}
 use Rattle.stock.specs.Cell.{fourOf, putCell}
-use Rattle.records.specs.Change.{changeFrom, changesFrom}
-use Rattle.changes.specs.Commit.{passes, eachPasses, risesAfter, rises, putAll}
+use Rattle.changes.specs.Change.{changeFrom, changesFrom}
+use Rattle.changes.specs.Commit.{risesAfter, rises, putAll}
 
 -- ---- the first changes of the lent lists
 module _ (is : List ℕ) (xs : List Float) where
@@ -44,37 +42,6 @@ module _ (is : List ℕ) (xs : List Float) where
   further j k h =
       let e : j + (k - j) ≡ k = omega arith in
       rw e at (onward-by j (k - j))
-
--- ---- change by change
-module _ (s : TurnStockSpec) (n : ℕ) (cs : List Float) where
-  pub each-append : (l l' : List TurnChange) → eachPasses s n cs (l ++ l') ≡ onward (eachPasses s n cs l) (λ _. eachPasses s n cs l')
-  unfolding eachPasses onward
-  each-append [] l' = refl
-  each-append (c ∷ l) l' = go (passes s n cs c) (each-append l l')
-    where
-      go : (p : Paper (Unit {0})) → eachPasses s n cs (l ++ l') ≡ onward (eachPasses s n cs l) (λ _. eachPasses s n cs l') → onward p (λ _. eachPasses s n cs (l ++ l')) ≡ onward (onward p (λ _. eachPasses s n cs l)) (λ _. eachPasses s n cs l')
-      go (answers a) h = h
-      go (refuses r) h = refl
-
-  one : (c : TurnChange) → eachPasses s n cs (c ∷ []) ≡ passes s n cs c
-  unfolding eachPasses onward
-  one c = go (passes s n cs c)
-    where
-      go : (p : Paper (Unit {0})) → onward p (λ _. answers tt) ≡ p
-      go (answers tt) = refl
-      go (refuses r) = refl
-
-  module _ (is : List ℕ) (xs : List Float) where
-    -- the first j pass, and so does the next
-    pub pass-next : (j : ℕ) → eachPasses s n cs (changesFrom is xs j) ≡ answers tt → passes s n cs (changeFrom is xs j) ≡ answers tt → eachPasses s n cs (changesFrom is xs (j + 1)) ≡ answers tt
-    pass-next j h g = ap (eachPasses s n cs) (from-next is xs j) ∙ each-append (changesFrom is xs j) (changeFrom is xs j ∷ []) ∙ simp (h, onward-answers) (one (changeFrom is xs j) ∙ g)
-
-    -- the first j pass, and the next does not: that is the refusal of any longer list
-    pub pass-stops : (j k r : ℕ) → j < k → eachPasses s n cs (changesFrom is xs j) ≡ answers tt → passes s n cs (changeFrom is xs j) ≡ refuses r → eachPasses s n cs (changesFrom is xs k) ≡ refuses r
-    pass-stops j k r l h g =
-        let o = further is xs (j + 1) k (omega arith) in
-        let e : eachPasses s n cs (changesFrom is xs (j + 1)) ≡ refuses r = ap (eachPasses s n cs) (from-next is xs j) ∙ each-append (changesFrom is xs j) (changeFrom is xs j ∷ []) ∙ simp (h, onward-answers) (one (changeFrom is xs j) ∙ g) in
-        ap (eachPasses s n cs) (o .is-more) ∙ each-append (changesFrom is xs (j + 1)) (o .rest) ∙ simp (e, onward-refuses)
 
 -- ---- rising indices
 and-swap : (a b c : Bool) → (a && (b && c)) ≡ ((a && b) && c)

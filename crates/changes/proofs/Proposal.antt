@@ -21,10 +21,10 @@ use Rattle.stock.proofs.Count.{no-answer, same-answer}
 use Rattle.reach.specs.Reach.{Act, actCell}
 use Rattle.reach.specs.Kinds.{PlainAct}
 use Rattle.reach.proofs.Removes.{Cuts, cut-cuts}
-use Rattle.records.specs.declared.Previewed.the-variants.{Changes}
-use Rattle.records.specs.Change.{changesTo, indicesOf, numbersOf, roomOf, settled, Proposed}
-use Rattle.records.proofs.Placed.{length-numbers}
-use Rattle.records.proofs.ReadBack.{read-back}
+use Rattle.changes.specs.declared.Previewed.the-variants.{Changes}
+use Rattle.changes.specs.Change.{changesTo, indicesOf, numbersOf, roomOf, settled, Proposed}
+use Rattle.changes.proofs.Placed.{length-numbers}
+use Rattle.changes.proofs.ReadBack.{read-back}
 use Rattle.changes.specs.Commit.{putAll, commitIn, commitOf, applyOf}
 use Rattle.changes.proofs.Stocks.{Good}
 use Rattle.changes.proofs.Accepted.{commit-accepts}

@@ -3,35 +3,20 @@ use mathlib.Core.Path.{_≡_, refl, sym, ap, _∙_, subst}
 use mathlib.Core.List.{List}
 use Prim.Native.Nat.{ℕ, _+_, _≤_, _<_, min}
 use native.Mathlib.Omega.{arith}
-use borrow.Author.Tests.{lt-ltb, le-ltb, le-leb, lt-leb}
+use borrow.Author.Tests.{le-leb, lt-leb}
 use lib.ListN.{length}
 use lib.Ieee.{Float}
 use Rattle.refusals.specs.declared.Refusal.{Refusal}
 use Rattle.refusals.specs.Number.{numberOf}
 use Rattle.refusals.specs.Paper.{Paper, answers, refuses, papers}
-use Rattle.refusals.specs.Limits.{lastGeneration}
 use Rattle.stock.specs.declared.TurnStockSpec.{TurnStockSpec}
 use Rattle.stock.specs.declared.TurnChange.{TurnChange}
 use Rattle.stock.specs.Spec.{cleanSpec}
 use Rattle.stock.specs.Cell.{stockOf}
-use Rattle.records.specs.Change.{roomOf, changesFrom}
+use Rattle.changes.specs.Change.{roomOf, changesFrom}
 use Rattle.changes.specs.declared.Applied.{Applied}
 use Rattle.changes.specs.declared.Applied.the-variants as applied
 use Rattle.changes.specs.Commit.{passAll, firstRefusal, putAll, putHeld, Committed, commitIn, commitHeld, applyOf, Applies}
-
--- ---- the rule of a commit on checked cells
-module _ (s : TurnStockSpec) (n : ℕ) (cs : List Float) (gen : ℕ) (l : List TurnChange) where
-  pub commit-stops : (r : ℕ) → passAll s n cs l ≡ refuses r → commitIn s n cs gen l ≡ refuses r
-  unfolding commitIn
-  commit-stops r e = simp (papers, e)
-
-  pub commit-spent : passAll s n cs l ≡ answers tt → gen ≡ lastGeneration → commitIn s n cs gen l ≡ refuses 12
-  unfolding commitIn
-  commit-spent e h = simp (papers, e, le-ltb gen lastGeneration (omega arith))
-
-  pub commit-goes : passAll s n cs l ≡ answers tt → gen < lastGeneration → commitIn s n cs gen l ≡ answers (record { cells = putAll cs l; generation = gen + 1 })
-  unfolding commitIn
-  commit-goes e h = simp (papers, e, lt-ltb gen lastGeneration h)
 
 -- ---- of k changes that the lists hold
 module _ (is : List ℕ) (xs : List Float) (k : ℕ) (h : k ≤ roomOf (length is) (length xs)) where
@@ -66,10 +51,6 @@ module _ (spec : TurnStockSpec) (cs : List Float) (gen : ℕ) (is : List ℕ) (x
 -- refused: the cells stay
 pub left : (p : Paper Committed) (r : Refusal) (cs : List Float) → p ≡ refuses (numberOf r) → Applies p (applied.Refused r) cs cs
 left p r cs e = rw e (record { answer = refl; cells = refl })
-
--- accepted
-pub done : (p : Paper Committed) (g : ℕ) (cs cs' : List Float) → p ≡ answers (record { cells = cs'; generation = g }) → Applies p (applied.Generation g) cs cs'
-done p g cs cs' e = rw e (record { answer = refl; cells = refl })
 
 -- a rule that comes to another has its outcome
 pub same-outcome : (p q : Paper Committed) (r : Applied) (cs cs' : List Float) → p ≡ q → Applies q r cs cs' → Applies p r cs cs'

@@ -6,15 +6,17 @@ use Prim.Native.Nat.{ℕ, _+_, min}
 use lib.Dec.{leb, ltb}
 use lib.ListN.{length}
 use lib.Ieee.{Float, le}
+use denote.Ref.{now}
 use Rattle.refusals.specs.Number.{numberOf}
 use Rattle.refusals.specs.Paper.{Paper, answers, refuses, demand, onward}
 use Rattle.refusals.specs.Limits.{lastGeneration}
+use Rattle.refusals.specs.Lent.{Lent}
 use Rattle.stock.specs.declared.TurnStockSpec.{TurnStockSpec}
 use Rattle.stock.specs.declared.TurnCell.{TurnCell}
 use Rattle.stock.specs.declared.TurnChange.{TurnChange}
 use Rattle.stock.specs.Spec.{cleanSpec}
 use Rattle.stock.specs.Cell.{cellAt, cellFits, sameCell, stockOf, putCell}
-use Rattle.records.specs.Change.{roomOf, changesFrom}
+use Rattle.changes.specs.Change.{roomOf, changesFrom}
 use Rattle.changes.specs.declared.Passing.{Passing}
 use Rattle.changes.specs.declared.Passing.the-variants as passing
 use Rattle.changes.specs.declared.Applied.{Applied}
@@ -117,3 +119,7 @@ cellsAfter (refuses n) cs = cs
 pub record Applies (p : Paper Committed) (r : Applied) (cs cs' : List Float) : Type 0 where
   pub answer : appliedPaper r ≡ generationOf p
   pub cells : cs' ≡ cellsAfter p cs
+
+-- of lent cells, at both moments
+abbrev pub Commits : Paper Committed → Applied → Lent Float → Type 0
+Commits p r cells = Applies p r (now (cells .entry)) (now (cells .exit))

@@ -8,7 +8,7 @@ use Rattle.stock.specs.declared.TurnCell.{TurnCell}
 use Rattle.stock.specs.declared.TurnChange.{TurnChange}
 use Rattle.stock.specs.Spec.{cleanSpec}
 use Rattle.stock.specs.Cell.{cellAt, cellsFit, stockOf}
-use Rattle.records.specs.Change.{changesTo, settled}
+use Rattle.changes.specs.Change.{changesTo, settled}
 
 -- the cell of bin i becomes the other stock's
 abbrev pub otherCell : List Float → ℕ → TurnCell → TurnCell

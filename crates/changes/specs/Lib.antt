@@ -1,2 +1,4 @@
+pub mod Change
 pub mod Commit
+pub mod Decide
 pub mod Difference

@@ -1,21 +1,76 @@
-// Committing a list of changes, and the list of what differs between two stocks.
+// The change list: as lent memory, committed, and as what differs between two stocks.
+//
+// Of each change an index stands in one lent list, and eight numbers in another, the cell before and
+// the cell after. What a cut changes, and how two stocks differ, is listed by rising index: a function
+// says what the cell of each bin becomes, and the bins whose cell is then another one are the changes.
 //
 // A commit decides everything before it writes: the indices rise, and each change in turn leaves a
-// cell that fits, names a bin that holds its before-cell, and only removes material. Then every
-// after-cell is written and the generation rises by one, also with no changes.
+// cell that fits, names a bin that holds its before-cell, and only removes material. A list is decided
+// by one fold, wherever its changes lie: it begins, goes a step for each change, and concludes. Then
+// every after-cell is written and the generation rises by one, also with no changes.
 ghost use mathlib.Core.Path.{_≡_};
 ghost use Prim.Native.Nat.{_+_, _*_, _≤_, _<_, min};
 ghost use lib.ListN.{length};
-ghost use Rattle.records.specs.Change.{changeFrom, changesFrom, changesTo, roomOf, Listing, settled, Proposed};
-ghost use Rattle.changes.specs.Commit.{onlyRemoves, appliesTo, passes, passingPaper, eachPasses, rises, firstRefusal, putHeld, commitHeld, applyOf, Applies};
+ghost use Rattle.refusals.specs.Paper.{onward};
+ghost use Rattle.changes.specs.Change.{roomOf, changeHeld, changesFrom, changesTo, settled, PutsChange, ListsChange, ListsBelow, RoomFor, Proposes};
+ghost use Rattle.changes.specs.Commit.{onlyRemoves, appliesTo, passes, passingPaper, rises, firstRefusal, putHeld, commitHeld, applyOf, appliedPaper, Commits};
+ghost use Rattle.changes.specs.Decide.{decidingPaper, onCells, beginOf, stepOf, stepsOf, outcomeOf, raisedOf, concludeOf, isAccepted};
 ghost use Rattle.changes.specs.Difference.{otherCell, differenceOf};
-use records::Previewed;
 use refusals::LAST_GENERATION;
 use refusals::Refusal;
 use stock::Counted;
 use stock::TurnCell;
 use stock::TurnChange;
 use stock::TurnStockSpec;
+
+// How many changes were written.
+pub enum Previewed {
+    Changes(usize),
+    Refused(Refusal),
+}
+
+// How many changes the two lists have room for.
+pub fn room(indices: usize, records: usize) -> usize
+    ensures { λ r. ⌜ r ≡ roomOf indices records ⌝ }
+{
+    let whole = records / 8;
+    if indices < whole { indices } else { whole }
+}
+
+// Change k, written at its place; nothing where there is no room for it.
+fn put_change(indices: &mut [usize], records: &mut [f64], k: usize, change: TurnChange)
+    ensures { λ _. ⌜ PutsChange k change indices records ⌝ }
+{
+    if room(indices.len(), records.len()) <= k {
+        return;
+    }
+    let at = 2 * k;
+    indices[k] = change.index;
+    stock::put_cell(records, at, change.before);
+    stock::put_cell(records, at + 1, change.after);
+}
+
+// The change, written behind k others where its cells differ and there is room; how many there are
+// then.
+pub fn list_change(
+    indices: &mut [usize],
+    records: &mut [f64],
+    k: usize,
+    change: TurnChange,
+) -> usize
+    ensures { λ r. ⌜ ListsChange k r change indices records ⌝ }
+{
+    let before = change.before;
+    let after = change.after;
+    if stock::same_cell(before, after) {
+        return k;
+    }
+    if room(indices.len(), records.len()) <= k {
+        return k;
+    }
+    put_change(indices, records, k, change);
+    k + 1
+}
 
 // Whether changes pass.
 pub enum Passing {
@@ -51,7 +106,7 @@ fn applies(n: usize, cells: &[f64], change: TurnChange) -> bool
 }
 
 // One change, against n cells: 8 before 9.
-pub fn change_passes(s: TurnStockSpec, n: usize, cells: &[f64], change: TurnChange) -> Passing
+fn change_passes(s: TurnStockSpec, n: usize, cells: &[f64], change: TurnChange) -> Passing
     ensures { λ r. ⌜ passingPaper r ≡ passes s n (now (cells .entry)) change ⌝ }
 {
     let after = change.after;
@@ -64,15 +119,144 @@ pub fn change_passes(s: TurnStockSpec, n: usize, cells: &[f64], change: TurnChan
     Passing::Refused(Refusal::ChangeDoesNotApply)
 }
 
-// Change j of the lent lists.
-fn change_at(indices: &[usize], numbers: &[f64], j: usize) -> TurnChange
-    requires { ⌜ j < roomOf (length (now indices)) (length (now numbers)) ⌝ }
-    ensures { λ r. ⌜ r ≡ changeFrom (now (indices .entry)) (now (numbers .entry)) j ⌝ }
+// How far a list of changes is decided: against n cells of a clean spec, with the last index seen,
+// if any.
+pub struct Deciding {
+    s: TurnStockSpec,
+    n: usize,
+    // whether the stock itself passes
+    stock: Passing,
+    any: bool,
+    last: usize,
+    rises: bool,
+    // the first change that does not pass
+    found: Passing,
+}
+
+// Before the first change, on n cells that are not asked.
+fn on_cells(s: TurnStockSpec, n: usize) -> Deciding
+    ensures { λ r. ⌜ decidingPaper r ≡ onCells s n ⌝ }
 {
+    Deciding {
+        s,
+        n,
+        stock: Passing::Pass,
+        any: false,
+        last: 0,
+        rises: true,
+        found: Passing::Pass,
+    }
+}
+
+// Before the first change; 1, 2, 3.
+pub fn begin(spec: TurnStockSpec, cells: &[f64]) -> Deciding
+    ensures { λ r. ⌜ decidingPaper r ≡ beginOf spec (now (cells .entry)) ⌝ }
+{
+    let counted = stock::cells_fit(spec, cells);
+    let s = stock::clean_spec(spec);
+    match counted {
+        Counted::Refused(r) => Deciding {
+            s,
+            n: 0,
+            stock: Passing::Refused(r),
+            any: false,
+            last: 0,
+            rises: true,
+            found: Passing::Pass,
+        },
+        Counted::Cells(n) => on_cells(s, n),
+    }
+}
+
+// The first refusal, one change on.
+fn found_next(
+    s: TurnStockSpec,
+    n: usize,
+    cells: &[f64],
+    found: Passing,
+    change: TurnChange,
+) -> Passing
+    ensures { λ r. ⌜ passingPaper r ≡ onward (passingPaper found) (λ _. passes s n (now (cells .entry)) change) ⌝ }
+{
+    match found {
+        Passing::Refused(r) => Passing::Refused(r),
+        Passing::Pass => change_passes(s, n, cells, change),
+    }
+}
+
+// One change on; 7, 8 and 9 are kept for the end.
+pub fn step(st: Deciding, cells: &[f64], change: TurnChange) -> Deciding
+    ensures { λ r. ⌜ decidingPaper r ≡ stepOf (now (cells .entry)) (decidingPaper st) change ⌝ }
+{
+    let s = st.s;
+    let n = st.n;
+    let stock = st.stock;
+    let before = st.found;
+    let index = change.index;
+    let found = found_next(s, n, cells, before, change);
+    let rises = st.rises & (!st.any | (st.last < index));
+    Deciding {
+        s,
+        n,
+        stock,
+        any: true,
+        last: index,
+        rises,
+        found,
+    }
+}
+
+// After the last change: the stock's refusal, 7, then the first change that does not pass.
+fn outcome(st: Deciding) -> Passing
+    ensures { λ r. ⌜ passingPaper r ≡ outcomeOf (decidingPaper st) ⌝ }
+{
+    let stock = st.stock;
+    let found = st.found;
+    if let Passing::Refused(r) = stock {
+        return Passing::Refused(r);
+    }
+    if !st.rises {
+        return Passing::Refused(Refusal::IndicesDoNotRise);
+    }
+    found
+}
+
+// The generation after changes that pass; 12.
+fn raised(found: Passing, generation: u64) -> Applied
+    ensures { λ r. ⌜ appliedPaper r ≡ raisedOf (passingPaper found) generation ⌝ }
+{
+    if let Passing::Refused(r) = found {
+        return Applied::Refused(r);
+    }
+    if generation == LAST_GENERATION {
+        return Applied::Refused(Refusal::GenerationsSpent);
+    }
+    Applied::Generation(generation + 1)
+}
+
+// After the last change: the stock's refusal, 7, then the first change that does not pass, 12.
+pub fn conclude(st: Deciding, generation: u64) -> Applied
+    ensures { λ r. ⌜ appliedPaper r ≡ concludeOf (decidingPaper st) generation ⌝ }
+{
+    raised(outcome(st), generation)
+}
+
+// Change j of the lent lists; one of no numbers where they hold none.
+pub fn change_at(indices: &[usize], records: &[f64], j: usize) -> TurnChange
+    ensures { λ r. ⌜ r ≡ changeHeld (now (indices .entry)) (now (records .entry)) j ⌝ }
+{
+    if room(indices.len(), records.len()) <= j {
+        let none = stock::cell_at(records, records.len());
+        return TurnChange {
+            index: 0,
+            before: none,
+            after: none,
+        };
+    }
     let at = 2 * j;
     let index = indices[j];
-    let before = stock::cell_at(numbers, at);
-    let after = stock::cell_at(numbers, at + 1);
+    let before = stock::cell_at(records, at);
+    let after = stock::cell_at(records, at + 1);
     TurnChange {
         index,
         before,
@@ -80,34 +264,10 @@ fn change_at(indices: &[usize], numbers: &[f64], j: usize) -> TurnChange
     }
 }
 
-// The first of k changes that does not pass.
-fn each_passes(
-    s: TurnStockSpec,
-    n: usize,
-    cells: &[f64],
-    indices: &[usize],
-    numbers: &[f64],
-    k: usize,
-) -> Passing
-    requires { ⌜ k ≤ roomOf (length (now indices)) (length (now numbers)) ⌝ }
-    ensures { λ r. ⌜ passingPaper r ≡ eachPasses s n (now (cells .entry)) (changesFrom (now (indices .entry)) (now (numbers .entry)) k) ⌝ }
-{
-    let mut i: usize = 0;
-    while i < k {
-        let change = change_at(indices, numbers, i);
-        let found = change_passes(s, n, cells, change);
-        if let Passing::Refused(r) = found {
-            return Passing::Refused(r);
-        }
-        i += 1;
-    }
-    Passing::Pass
-}
-
-// The first k indices strictly rise.
-fn indices_rise(indices: &[usize], numbers: &[f64], k: usize) -> bool
-    requires { ⌜ k ≤ roomOf (length (now indices)) (length (now numbers)) ⌝ }
-    ensures { λ r. ⌜ r ≡ rises (changesFrom (now (indices .entry)) (now (numbers .entry)) k) ⌝ }
+// The first k indices strictly rise. This pass has no branch; a step asks the same of its index.
+fn indices_rise(indices: &[usize], records: &[f64], k: usize) -> bool
+    requires { ⌜ k ≤ roomOf (length (now indices)) (length (now records)) ⌝ }
+    ensures { λ r. ⌜ r ≡ rises (changesFrom (now (indices .entry)) (now (records .entry)) k) ⌝ }
 {
     if k < 2 {
         return true;
@@ -121,11 +281,37 @@ fn indices_rise(indices: &[usize], numbers: &[f64], k: usize) -> bool
     ok
 }
 
-// Of k changes, as many as lists of these lengths hold.
-fn held_of(indices: usize, numbers: usize, k: usize) -> usize
-    ensures { λ r. ⌜ r ≡ min k (roomOf indices numbers) ⌝ }
+// The first of k changes that does not pass, step by step.
+fn first_found(
+    s: TurnStockSpec,
+    n: usize,
+    cells: &[f64],
+    indices: &[usize],
+    records: &[f64],
+    k: usize,
+) -> Passing
+    requires { ⌜ k ≤ roomOf (length (now indices)) (length (now records)) ⌝ }
+    ensures { λ r. ⌜ passingPaper r ≡ stepsOf (now (cells .entry)) (onCells s n) (changesFrom (now (indices .entry)) (now (records .entry)) k) .found ⌝ }
 {
-    let room = records::room(indices, numbers);
+    let mut st = on_cells(s, n);
+    let mut i: usize = 0;
+    while i < k {
+        let change = change_at(indices, records, i);
+        st = step(st, cells, change);
+        let found = st.found;
+        if let Passing::Refused(r) = found {
+            return Passing::Refused(r);
+        }
+        i += 1;
+    }
+    Passing::Pass
+}
+
+// Of k changes, as many as lists of these lengths hold.
+pub fn held_of(indices: usize, records: usize, k: usize) -> usize
+    ensures { λ r. ⌜ r ≡ min k (roomOf indices records) ⌝ }
+{
+    let room = room(indices, records);
     if k < room { k } else { room }
 }
 
@@ -135,54 +321,62 @@ pub fn first_refusal(
     n: usize,
     cells: &[f64],
     indices: &[usize],
-    numbers: &[f64],
+    records: &[f64],
     k: usize,
 ) -> Passing
-    ensures { λ r. ⌜ passingPaper r ≡ firstRefusal s n (now (cells .entry)) (now (indices .entry)) (now (numbers .entry)) k ⌝ }
+    ensures { λ r. ⌜ passingPaper r ≡ firstRefusal s n (now (cells .entry)) (now (indices .entry)) (now (records .entry)) k ⌝ }
 {
-    let held = held_of(indices.len(), numbers.len(), k);
-    if !indices_rise(indices, numbers, held) {
+    let held = held_of(indices.len(), records.len(), k);
+    if !indices_rise(indices, records, held) {
         return Passing::Refused(Refusal::IndicesDoNotRise);
     }
-    each_passes(s, n, cells, indices, numbers, held)
+    first_found(s, n, cells, indices, records, held)
 }
 
 // The after-cells of the first changes that the lists hold, k at most, each written into its bin.
-pub fn put_after(cells: &mut [f64], indices: &[usize], numbers: &[f64], k: usize)
-    ensures { λ _. ⌜ now (cells .exit) ≡ putHeld (now (cells .entry)) (now (indices .entry)) (now (numbers .entry)) k ⌝ }
+pub fn put_after(cells: &mut [f64], indices: &[usize], records: &[f64], k: usize)
+    ensures { λ _. ⌜ now (cells .exit) ≡ putHeld (now (cells .entry)) (now (indices .entry)) (now (records .entry)) k ⌝ }
 {
-    let held = held_of(indices.len(), numbers.len(), k);
+    let held = held_of(indices.len(), records.len(), k);
     let mut i: usize = 0;
     while i < held {
         let index = indices[i];
-        let after = stock::cell_at(numbers, 2 * i + 1);
+        let after = stock::cell_at(records, 2 * i + 1);
         stock::put_cell(cells, index, after);
         i += 1;
     }
 }
 
+// The changes may be written.
+pub fn is_accepted(answer: Applied) -> bool
+    ensures { λ r. ⌜ r ≡ isAccepted answer ⌝ }
+{
+    match answer {
+        Applied::Generation(_) => true,
+        Applied::Refused(_) => false,
+    }
+}
+
 // A commit on n cells that are not asked again, of the first changes that the lists hold, k at most.
 // `apply` is this after its check; a caller whose preview was accepted has had the same check.
-pub fn commit(
+pub fn commit_unasked(
     s: TurnStockSpec,
     n: usize,
     cells: &mut [f64],
     generation: u64,
     indices: &[usize],
-    numbers: &[f64],
+    records: &[f64],
     k: usize,
 ) -> Applied
-    ensures { λ r. ⌜ Applies (commitHeld s n (now (cells .entry)) generation (now (indices .entry)) (now (numbers .entry)) k) r (now (cells .entry)) (now (cells .exit)) ⌝ }
+    ensures { λ r. ⌜ Commits (commitHeld s n (now (cells .entry)) generation (now (indices .entry)) (now (records .entry)) k) r cells ⌝ }
 {
-    let found = first_refusal(s, n, cells, indices, numbers, k);
-    if let Passing::Refused(r) = found {
-        return Applied::Refused(r);
+    let found = first_refusal(s, n, cells, indices, records, k);
+    let answer = raised(found, generation);
+    if !is_accepted(answer) {
+        return answer;
     }
-    if generation == LAST_GENERATION {
-        return Applied::Refused(Refusal::GenerationsSpent);
-    }
-    put_after(cells, indices, numbers, k);
-    Applied::Generation(generation + 1)
+    put_after(cells, indices, records, k);
+    answer
 }
 
 // Commit k changes; 1, 2, 3, 6 where the lists hold fewer, 7, then change by change 8 before 9, 12.
@@ -191,20 +385,20 @@ pub fn apply(
     cells: &mut [f64],
     generation: u64,
     indices: &[usize],
-    numbers: &[f64],
+    records: &[f64],
     changes: usize,
 ) -> Applied
-    ensures { λ r. ⌜ Applies (applyOf spec (now (cells .entry)) generation (now (indices .entry)) (now (numbers .entry)) changes) r (now (cells .entry)) (now (cells .exit)) ⌝ }
+    ensures { λ r. ⌜ Commits (applyOf spec (now (cells .entry)) generation (now (indices .entry)) (now (records .entry)) changes) r cells ⌝ }
 {
     let counted = stock::cells_fit(spec, cells);
     match counted {
         Counted::Refused(r) => Applied::Refused(r),
         Counted::Cells(n) => {
-            if records::room(indices.len(), numbers.len()) < changes {
+            if room(indices.len(), records.len()) < changes {
                 return Applied::Refused(Refusal::ChangesOverRoom);
             }
             let s = stock::clean_spec(spec);
-            commit(s, n, cells, generation, indices, numbers, changes)
+            commit_unasked(s, n, cells, generation, indices, records, changes)
         }
     }
 }
@@ -232,10 +426,10 @@ fn write_differences(
     after: &[f64],
     n: usize,
     indices: &mut [usize],
-    numbers: &mut [f64],
+    records: &mut [f64],
 ) -> usize
-    requires { ⌜ length (changesTo (otherCell (now after)) (now cells) n) ≤ roomOf (length (now indices)) (length (now numbers)) ⌝ }
-    ensures { λ r. ⌜ Listing (otherCell (now (after .entry))) (now (cells .entry)) n r (now (indices .entry)) (now (indices .exit)) (now (numbers .entry)) (now (numbers .exit)) ⌝ }
+    requires { ⌜ RoomFor (otherCell (now after)) (now cells) n (now indices) (now records) ⌝ }
+    ensures { λ r. ⌜ ListsBelow (otherCell (now (after .entry))) (now (cells .entry)) n r indices records ⌝ }
 {
     let mut k: usize = 0;
     let mut i: usize = 0;
@@ -245,7 +439,7 @@ fn write_differences(
             before: stock::cell_at(cells, i),
             after: stock::cell_at(after, i),
         };
-        k = records::list_change(indices, numbers, k, change);
+        k = list_change(indices, records, k, change);
         i += 1;
     }
     k
@@ -257,16 +451,16 @@ fn list_differences(
     after: &[f64],
     n: usize,
     indices: &mut [usize],
-    numbers: &mut [f64],
+    records: &mut [f64],
 ) -> Previewed
-    ensures { λ r. ⌜ Proposed (settled (roomOf (length (now (indices .entry))) (length (now (numbers .entry)))) (changesTo (otherCell (now (after .entry))) (now (cells .entry)) n)) r (now (indices .entry)) (now (indices .exit)) (now (numbers .entry)) (now (numbers .exit)) ⌝ }
+    ensures { λ r. ⌜ Proposes (λ room. settled room (changesTo (otherCell (now (after .entry))) (now (cells .entry)) n)) r indices records ⌝ }
 {
-    let room = records::room(indices.len(), numbers.len());
+    let room = room(indices.len(), records.len());
     if n <= room {
-        return Previewed::Changes(write_differences(cells, after, n, indices, numbers));
+        return Previewed::Changes(write_differences(cells, after, n, indices, records));
     }
     if count_differences(cells, after, n) <= room {
-        return Previewed::Changes(write_differences(cells, after, n, indices, numbers));
+        return Previewed::Changes(write_differences(cells, after, n, indices, records));
     }
     Previewed::Refused(Refusal::ChangesOverRoom)
 }
@@ -277,9 +471,9 @@ pub fn changes_to(
     cells: &[f64],
     after: &[f64],
     indices: &mut [usize],
-    numbers: &mut [f64],
+    records: &mut [f64],
 ) -> Previewed
-    ensures { λ r. ⌜ Proposed (differenceOf spec (now (cells .entry)) (now (after .entry)) (roomOf (length (now (indices .entry))) (length (now (numbers .entry))))) r (now (indices .entry)) (now (indices .exit)) (now (numbers .entry)) (now (numbers .exit)) ⌝ }
+    ensures { λ r. ⌜ Proposes (differenceOf spec (now (cells .entry)) (now (after .entry))) r indices records ⌝ }
 {
     let counted = stock::cells_fit(spec, cells);
     let other = stock::cells_fit(spec, after);
@@ -287,7 +481,7 @@ pub fn changes_to(
         Counted::Refused(r) => Previewed::Refused(r),
         Counted::Cells(n) => match other {
             Counted::Refused(r) => Previewed::Refused(r),
-            Counted::Cells(_) => list_differences(cells, after, n, indices, numbers),
+            Counted::Cells(_) => list_differences(cells, after, n, indices, records),
         },
     }
 }

@@ -16,11 +16,11 @@ use Rattle.reach.specs.declared.Low.{Low}
 use Rattle.reach.specs.declared.Swept.{Swept}
 use Rattle.reach.specs.Low.{Found, lowPaper, sweptPaper}
 use Rattle.reach.specs.Reach.{Reached, passed, reachFrom}
-use Rattle.polygon.specs.declared.Bins.{Bins}
+use Rattle.stock.specs.declared.BinRange.{BinRange}
 use Rattle.polygon.specs.Polygon.{lowestOf, extentOf, spans, binsOf, skips, Sweeps, polygonReach, polygonAct}
 use Rattle.polygon.proofs.Visits.{visits-range, not-before, spanned, not-behind}
 use Rattle.polygon.proofs.Reaches.{reach-nothing, reach-unspanned, reach-skipped, reach-swept}
-use Rattle.cuts.specs.Rows.{noRow, Empty, Extends, PutRow, Crosses, Crossed, Says}
+use Rattle.cuts.specs.Rows.{noRow, Unfilled, Extends, PutRow, Crosses, Crossed, Says}
 
 -- an empty row says that the bin is passed over
 pub says-nothing : (side : TurnSide) (f : Found) → f ≡ noRow → reachFrom side (f .low) (f .high) ≡ passed
@@ -79,11 +79,11 @@ module _ (s : TurnStockSpec) (n : ℕ) (side : TurnSide) (excess : Float) (ps : 
 
   -- the bins of the range were walked, and the others are not visited
   module _ (lo hi : Float) (ex : Extends ps lo hi) {old new : ℕ → Found} (x : Float) (e : x ≡ cleanOf excess) where
-    pub says-crossed : (bins : Bins) → bins ≡ binsOf s lo hi n → Crossed side (polygonReach s side x ps) (bins .from) (bins .to) old new → Says (polygonAct s side excess ps) n (bins .from) (bins .to) new
+    pub says-crossed : (bins : BinRange) → bins ≡ binsOf s lo hi n → Crossed side (polygonReach s side x ps) (bins .from) (bins .to) old new → Says (polygonAct s side excess ps) n (bins .from) (bins .to) new
     unfolding polygonAct
     says-crossed bins eb w =
-        let from : bins .from ≡ binsOf s lo hi n .from = ap (λ (b : Bins). b .from) eb in
-        let to : bins .to ≡ binsOf s lo hi n .to = ap (λ (b : Bins). b .to) eb in
+        let from : bins .from ≡ binsOf s lo hi n .from = ap (λ (b : BinRange). b .from) eb in
+        let to : bins .to ≡ binsOf s lo hi n .to = ap (λ (b : BinRange). b .to) eb in
         let v = visits-range s lo hi n in
         record {
           ordered = omega (arith, from, to, v .ordered);

@@ -16,8 +16,8 @@ use Rattle.stock.specs.declared.TurnSide.{TurnSide}
 use Rattle.stock.specs.Cell.{cellAt, sameCell}
 use Rattle.reach.specs.declared.Reach.{Reach}
 use Rattle.reach.specs.Reach.{Reached, passed, low, both, lowOf, ownOf, cutBy, cutCell, reachPaper, Act, actCell}
-use Rattle.records.specs.Change.{changeAt, changeOf, changesTo, Listed, settled}
-use Rattle.records.proofs.Placed.{list-same}
+use Rattle.changes.specs.Change.{changeAt, changeOf, changesTo, Listed, settled}
+use Rattle.changes.proofs.Placed.{list-same}
 use Rattle.cuts.specs.Source.{cutChange, SameTo}
 use Rattle.cuts.specs.Preview.{proposed}
 

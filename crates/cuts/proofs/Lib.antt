@@ -3,6 +3,7 @@ pub mod Places
 pub mod Grades
 pub mod Sweeps
 pub mod Crossings
+pub mod Tools
 pub mod EachBin
 pub mod Spans
 pub mod Singles

@@ -10,7 +10,7 @@ use lib.Seq.{getD-set-same, getD-set-other}
 use lib.Ieee.{Float, nan}
 use Rattle.floats.specs.Pick.{pick, pick-true, pick-false}
 use Rattle.reach.specs.Low.{Found}
-use Rattle.cuts.specs.Rows.{lowAt, rowAt, Room, Empty, PutLow, PutRow}
+use Rattle.cuts.specs.Rows.{lowAt, rowAt, Room, Unfilled, PutLow, PutRow}
 
 module _ (xs : List Float) (is : List Bool) (k : ℕ) where
   -- past the end of the flags there is nothing
@@ -62,7 +62,7 @@ module _ (m n : ℕ) (x : Float) (h : 2 * n ≤ m) where
   pub fresh-room : Room n (replicate m x) (replicate m false)
   fresh-room = record { numbers = simp length-replicate h; flags = simp length-replicate h }
 
-  pub fresh-empty : Empty 0 n (rowAt (replicate m x) (replicate m false))
+  pub fresh-empty : Unfilled 0 n (rowAt (replicate m x) (replicate m false))
   unfolding lowAt
   fresh-empty j o l = λ d. record {
     low = pick-false (getD (replicate m false) (2 * j) false) (some (getD (replicate m x) (2 * j) nan)) none (getD-replicate m (2 * j) false false (omega arith)) d;

@@ -18,8 +18,8 @@ use Rattle.stock.specs.declared.TurnStockSpec.{TurnStockSpec}
 use Rattle.stock.specs.declared.TurnCell.{TurnCell}
 use Rattle.stock.specs.Bin.{binOf}
 use Rattle.reach.specs.Reach.{Reached, passed, low, lowOf, Act, actCell}
-use Rattle.records.specs.Change.{changeAt, changeOf, changesTo, numbersOf, Listing}
-use Rattle.records.proofs.Rising.{kept, changes-more}
+use Rattle.changes.specs.Change.{changeAt, changeOf, changesTo, numbersOf, Listing}
+use Rattle.changes.proofs.Rising.{kept, changes-more}
 use Rattle.cuts.specs.Cut.{misses, threadReach, drillReach}
 use Rattle.cuts.specs.Rows.{passedOf, Split, Between}
 use Rattle.cuts.specs.Source.{drillBoth, spanReach, spanAct, SameTo}

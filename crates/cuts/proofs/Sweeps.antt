@@ -16,12 +16,12 @@ use Rattle.stock.specs.declared.TurnSide.{TurnSide}
 use Rattle.stock.specs.declared.ZRange.{ZRange}
 use Rattle.stock.specs.Bin.{binOf}
 use Rattle.reach.specs.Low.{Found}
-use Rattle.polygon.specs.declared.Bins.{Bins}
+use Rattle.stock.specs.declared.BinRange.{BinRange}
 use Rattle.nose.specs.declared.Track.{Track}
 use Rattle.nose.specs.Nose.{segmentAt, segmentCount, noseTo, noseAct}
 use Rattle.nose.specs.Track.{Samples, sampleAt, stepOf, trackOf, withTrack}
 use Rattle.nose.proofs.Tracks.{nose-more, nose-at, track-under, track-over, track-step}
-use Rattle.cuts.specs.Rows.{PutRow, passedOf, Split, stepped, Stepped, Passed, noRow, Empty, Filled, Idle, Says}
+use Rattle.cuts.specs.Rows.{PutRow, passedOf, Split, stepped, Stepped, Passed, noRow, Unfilled, Filled, Idle, Says}
 use Rattle.cuts.proofs.Crossings.{says-nothing}
 
 -- each row is as long as it was
@@ -82,7 +82,7 @@ module _ (s : TurnStockSpec) (n : ℕ) (t : Track) (first last : ℕ) (A : Split
 
 -- ---- one segment more
 module _ (s : TurnStockSpec) (n : ℕ) (side : TurnSide) (rn : Float) (xs : List Float) where
-  pub filled-none : (old : ℕ → Found) → Empty 0 n old → Filled s n side rn xs 0 old
+  pub filled-none : (old : ℕ → Found) → Unfilled 0 n old → Filled s n side rn xs 0 old
   unfolding noseTo
   filled-none old h j l = h j (omega arith) l
 
@@ -92,7 +92,7 @@ module _ (s : TurnStockSpec) (n : ℕ) (side : TurnSide) (rn : Float) (xs : List
 -- ---- the bins that were visited
 module _ {n : ℕ} {old new : ℕ → Found} where
   -- one segment more
-  pub idle-more : {s : TurnStockSpec} {t : Track} {first last : ℕ} (seen bins : Bins) → last ≤ n → Idle n seen old → Stepped s t first last old new → bins .from ≡ min (seen .from) first → bins .to ≡ max (seen .to) last → Idle n bins new
+  pub idle-more : {s : TurnStockSpec} {t : Track} {first last : ℕ} (seen bins : BinRange) → last ≤ n → Idle n seen old → Stepped s t first last old new → bins .from ≡ min (seen .from) first → bins .to ≡ max (seen .to) last → Idle n bins new
   idle-more {s} {t} {first} {last} seen bins h w u ef el =
       let sw = w .within in
       record {
@@ -102,11 +102,11 @@ module _ {n : ℕ} {old new : ℕ → Found} where
       }
 
 -- before the first segment
-pub idle-none : (n : ℕ) (old : ℕ → Found) → Empty 0 n old → Idle n (record { from = n; to = 0 }) old
+pub idle-none : (n : ℕ) (old : ℕ → Found) → Unfilled 0 n old → Idle n (record { from = n; to = 0 }) old
 idle-none n old h = record { within = omega arith; under = λ j a l. h j (omega arith) l; over = λ j a l. h j (omega arith) l }
 
 -- none were
-pub idle-all : {n : ℕ} {new : ℕ → Found} (seen : Bins) → Idle n seen new → seen .to < seen .from → Idle n (record { from = 0; to = 0 }) new
+pub idle-all : {n : ℕ} {new : ℕ → Found} (seen : BinRange) → Idle n seen new → seen .to < seen .from → Idle n (record { from = 0; to = 0 }) new
 idle-all {n} {new} seen w h = record { within = omega arith; under = λ j a l. absurd (omega arith); over = λ j a l. go j l (decLe (seen .from) j) }
   where
     go : (j : ℕ) → j < n → Dec (seen .from ≤ j) → new j ≡ noRow
@@ -114,7 +114,7 @@ idle-all {n} {new} seen w h = record { within = omega arith; under = λ j a l. a
     go j l (no p) = w .under j (omega arith) l
 
 -- over all segments the rows say what the nose reaches
-pub says-nose : (s : TurnStockSpec) (n : ℕ) (side : TurnSide) (rn : Float) (xs : List Float) (new : ℕ → Found) (bins : Bins) → Filled s n side (cleanOf rn) xs (segmentCount xs) new → Idle n bins new → bins .from ≤ bins .to → Says (noseAct s side rn xs) n (bins .from) (bins .to) new
+pub says-nose : (s : TurnStockSpec) (n : ℕ) (side : TurnSide) (rn : Float) (xs : List Float) (new : ℕ → Found) (bins : BinRange) → Filled s n side (cleanOf rn) xs (segmentCount xs) new → Idle n bins new → bins .from ≤ bins .to → Says (noseAct s side rn xs) n (bins .from) (bins .to) new
 unfolding noseAct
 says-nose s n side rn xs new bins f w o =
     let h = w .within in

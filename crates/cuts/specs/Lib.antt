@@ -2,3 +2,4 @@ pub mod Cut
 pub mod Preview
 pub mod Rows
 pub mod Source
+pub mod Tool

@@ -10,7 +10,7 @@ use Rattle.stock.specs.declared.TurnSide.{TurnSide}
 use Rattle.stock.specs.Spec.{cleanSpec}
 use Rattle.stock.specs.Cell.{stockOf}
 use Rattle.reach.specs.Reach.{Act, actCell}
-use Rattle.records.specs.Change.{changesTo, settled}
+use Rattle.changes.specs.Change.{changesTo, settled}
 use Rattle.nose.specs.Nose.{segmentsGood, noseAct}
 use Rattle.polygon.specs.Polygon.{polygonGood, polygonAct}
 use Rattle.cuts.specs.declared.Cut.{Cut}
@@ -19,6 +19,10 @@ use Rattle.cuts.specs.Cut.{cleanCut, cutGood, isArc, cutAct}
 -- what a cut changes in n cells, if there is room for it
 abbrev pub proposed : Act → List Float → ℕ → ℕ → Paper (List TurnChange)
 proposed a cs room n = settled room (changesTo (actCell a) cs n)
+
+-- the same, as a rule of the room
+abbrev pub proposing : Act → List Float → ℕ → ℕ → Paper (List TurnChange)
+proposing a cs n room = proposed a cs room n
 
 -- a cut that is in its domain or not: 1, 2, 3, 5, 6
 unfoldable pub previewOf : TurnStockSpec → List Float → Bool → Act → ℕ → Paper (List TurnChange)

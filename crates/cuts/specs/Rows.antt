@@ -7,7 +7,9 @@ use Prim.Native.Nat.{ℕ, zero, suc, _+_, _*_, _≤_, _<_}
 use lib.Dec.{T, ltb}
 use lib.ListN.{length, getD}
 use lib.Ieee.{Float, binary64, nan, le, lt}
+use denote.Ref.{now}
 use Rattle.refusals.specs.Limits.{cellLimit}
+use Rattle.refusals.specs.Lent.{Lent}
 use Rattle.floats.specs.Pick.{pick}
 use Rattle.floats.specs.Kinds.{Number}
 use Rattle.stock.specs.declared.TurnStockSpec.{TurnStockSpec}
@@ -18,9 +20,9 @@ use Rattle.reach.specs.Reach.{Reached, passed, reachFrom, Act}
 use Rattle.nose.specs.declared.Track.{Track}
 use Rattle.nose.specs.Nose.{noseTo}
 use Rattle.nose.specs.Track.{sampleAt, stepOf, withTrack}
-use Rattle.polygon.specs.declared.Bins.{Bins}
-use Rattle.polygon.specs.Polygon.{lowestOf, extentOf}
-use Rattle.cuts.specs.declared.across.Held.{Held}
+use Rattle.stock.specs.declared.BinRange.{BinRange}
+use Rattle.polygon.specs.Polygon.{lowestOf, extentOf, spans}
+use Rattle.cuts.specs.declared.polygon_rows.Held.{Held}
 
 -- ---- the rows
 -- the radius at place k, or none
@@ -30,6 +32,13 @@ lowAt values there k = pick (getD there k false) (some (getD values k nan)) none
 -- low and high of bin i
 abbrev pub rowAt : List Float → List Bool → ℕ → Found
 rowAt values there i = record { low = lowAt values there (2 * i); high = lowAt values there (2 * i + 1) }
+
+-- those of two lent rows, as a call finds them and as it leaves them
+abbrev pub rowsFound : Lent Float → Lent Bool → ℕ → Found
+rowsFound values there = rowAt (now (values .entry)) (now (there .entry))
+
+abbrev pub rowsLeft : Lent Float → Lent Bool → ℕ → Found
+rowsLeft values there = rowAt (now (values .exit)) (now (there .exit))
 
 -- the cut that they say
 abbrev pub rowsAct : TurnSide → List Float → List Bool → Act
@@ -54,9 +63,9 @@ pub record PutRow (old new : ℕ → Found) (i : ℕ) (f : Found) : Type 0 where
 abbrev pub noRow : Found
 noRow = record { low = none; high = none }
 
--- the bins from i to before n are empty
-abbrev pub Empty : ℕ → ℕ → (ℕ → Found) → Type 0
-Empty i n old = (j : ℕ) → i ≤ j → j < n → old j ≡ noRow
+-- the rows from i to before n are not filled
+abbrev pub Unfilled : ℕ → ℕ → (ℕ → Found) → Type 0
+Unfilled i n old = (j : ℕ) → i ≤ j → j < n → old j ≡ noRow
 
 -- ---- where a line falls among the bins
 -- bin j ends before e; or it does not start after e. Where touching e is not reaching it, a bin that ends on e is passed, and one that starts on e is not
@@ -113,8 +122,8 @@ Passed s n t old new = (j : ℕ) → j < n → new j ≡ withTrack (old j) t (bi
 abbrev pub Filled : TurnStockSpec → ℕ → TurnSide → Float → List Float → ℕ → (ℕ → Found) → Type 0
 Filled s n side rn xs k new = (j : ℕ) → j < n → new j ≡ noseTo side rn xs (binOf s j) k
 
--- of n bins those before the first and from the last on are empty
-pub record Idle (n : ℕ) (bins : Bins) (new : ℕ → Found) : Type 0 where
+-- of n bins those before the first and from the last on are not filled
+pub record Idle (n : ℕ) (bins : BinRange) (new : ℕ → Found) : Type 0 where
   pub within : bins .to ≤ n
   pub under : (j : ℕ) → j < bins .from → j < n → new j ≡ noRow
   pub over : (j : ℕ) → bins .to ≤ j → j < n → new j ≡ noRow
@@ -127,6 +136,16 @@ Extends ps lo hi = extentOf ps ≡ some (record { lo = lo; hi = hi })
 -- the sample in hand is the lowest on its line
 abbrev pub Sampled : List Float → TurnSide → Held → Type 0
 Sampled ps side h = lowPaper (h .low) ≡ lowestOf ps side (h .at)
+
+-- bin i of its extent, which is not filled, with the sample in hand
+abbrev pub ToCross : TurnStockSpec → List Float → TurnSide → Float → Float → Held → ℕ → List Float → List Bool → Type 0
+ToCross s ps side lo hi held i values there =
+    Extends ps lo hi × (spans s lo hi i ≡ true) × Sampled ps side held × Room (i + 1) values there × (i ≤ cellLimit) × (rowAt values there i ≡ noRow)
+
+-- the bins from first to before last of its extent, which are not filled
+abbrev pub ToSweep : TurnStockSpec → List Float → Float → Float → ℕ → ℕ → List Float → List Bool → Type 0
+ToSweep s ps lo hi first last values there =
+    Extends ps lo hi × ((j : ℕ) → first ≤ j → j < last → spans s lo hi j ≡ true) × (first ≤ last) × (last ≤ cellLimit) × Room last values there × Unfilled first last (rowAt values there)
 
 -- the row of bin i says what is reached there, and the others what they said
 pub record Crosses (side : TurnSide) (reach : ℕ → Reached) (old new : ℕ → Found) (i : ℕ) : Type 0 where

@@ -2,7 +2,7 @@
 use mathlib.Core.Path.{_≡_}
 use mathlib.Core.Bool.{Bool, true, _&&_}
 use mathlib.Core.List.{List}
-use Prim.Native.Nat.{ℕ}
+use Prim.Native.Nat.{ℕ, _<_}
 use lib.Dec.{leb, ltb}
 use lib.Ieee.{Float, lt, le}
 use Rattle.floats.specs.Pick.{pick}
@@ -16,11 +16,11 @@ use Rattle.stock.specs.declared.ZRange.{ZRange}
 use Rattle.stock.specs.Bin.{binOf}
 use Rattle.stock.specs.Cell.{cellAt, sameCell}
 use Rattle.reach.specs.declared.Reach.{Reach}
-use Rattle.reach.specs.Reach.{Reached, passed, low, both, reachPaper, reachFrom, cutCell, Act}
+use Rattle.reach.specs.Reach.{Reached, passed, low, both, reachPaper, reachFrom, cutCell, Act, actCell}
 use Rattle.cuts.specs.declared.list.Source.{Source}
 use Rattle.cuts.specs.declared.list.Source.the-variants as source
 use Rattle.cuts.specs.Cut.{drillAt, threadReach, drillReach}
-use Rattle.cuts.specs.Rows.{rowAt}
+use Rattle.cuts.specs.Rows.{rowAt, Graded}
 
 unfoldable pub sourceSide : Source → TurnSide
 sourceSide (source.Thread side r) = side
@@ -56,6 +56,10 @@ spanReach first last reach i = pick (leb first i) (pick (ltb i last) (reach i) p
 abbrev pub spanAct : ℕ → ℕ → Act → Act
 spanAct first last a = record { side = a .side; at = spanReach first last (a .at) }
 
+-- what it makes of the cell of each bin
+abbrev pub spanCell : ℕ → ℕ → TurnStockSpec → Source → List Float → List Bool → ℕ → TurnCell → TurnCell
+spanCell first last s src values there = actCell (spanAct first last (sourceAct s src values there))
+
 -- a thread, and a drill
 abbrev pub threadAct : TurnStockSpec → TurnSide → Float → Float → Float → Act
 threadAct s side z0 z1 r = record { side = side; at = λ i. threadReach (binOf s i) z0 z1 r }
@@ -70,3 +74,11 @@ cutChange side before reached i = record { index = i; before = before; after = c
 -- the cell of bin i is the same as itself: none of its numbers is a NaN
 abbrev pub SameTo : List Float → ℕ → Type 0
 SameTo cs i = sameCell (cellAt cs i) (cellAt cs i) ≡ true
+
+-- so of each bin below n
+abbrev pub SameBelow : List Float → ℕ → Type 0
+SameBelow cs n = (i : ℕ) → i < n → SameTo cs i
+
+-- a stock whose n cells are checked is ready for the loops
+abbrev pub ReadyFor : TurnStockSpec → ℕ → List Float → Type 0
+ReadyFor s n cs = Graded s n × SameBelow cs n

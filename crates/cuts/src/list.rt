@@ -1,20 +1,20 @@
 // The changes of a cut over the bins: counted, and written out. One loop of each serves every kind.
 ghost use mathlib.Core.Path.{_≡_};
-ghost use Prim.Native.Nat.{ℕ, _+_, _≤_, _<_};
+ghost use Prim.Native.Nat.{_+_, _≤_};
 ghost use lib.ListN.{length};
 ghost use Rattle.refusals.specs.Limits.{cellLimit};
 ghost use Rattle.stock.specs.declared.TurnSide.the-variants.{Outer, Inner};
 ghost use Rattle.reach.specs.Reach.{reachPaper, reachFrom, actCell};
-ghost use Rattle.records.specs.Change.{changeAt, changeOf, changesTo, roomOf, Listed, Listing, Proposed};
-ghost use Rattle.cuts.specs.Source.{sourceSide, sourceReach, sourceAct, spanAct, cutChange, SameTo};
+ghost use Rattle.changes.specs.Change.{changeAt, changeOf, changesTo, ListsChange, ListsBelow, RoomFor, Proposes};
+ghost use Rattle.cuts.specs.Source.{sourceSide, sourceReach, sourceAct, spanAct, spanCell, cutChange, SameTo, SameBelow};
 ghost use Rattle.cuts.specs.Rows.{rowAt};
-ghost use Rattle.cuts.specs.Preview.{proposed};
-use crate::idle;
+ghost use Rattle.cuts.specs.Preview.{proposing};
 use crate::rows;
 use crate::single;
+use crate::unchanged;
+use changes::Previewed;
 use reach::Low;
 use reach::Reach;
-use records::Previewed;
 use refusals::Refusal;
 use stock::TurnCell;
 use stock::TurnChange;
@@ -103,7 +103,7 @@ fn count_bin(
     ensures { λ r. ⌜ r ≡ k + length (changeAt (actCell (sourceAct s source (now (values .entry)) (now (there .entry)))) (now (cells .entry)) i) ⌝ }
 {
     let before = stock::cell_at(cells, i);
-    if idle::leaves(source, before) {
+    if unchanged::leaves(source, before) {
         return k;
     }
     let reached = reach_at(s, source, values, there, i);
@@ -128,8 +128,8 @@ fn count(
     first: usize,
     last: usize,
 ) -> usize
-    requires { ⌜ (first ≤ last) × (last ≤ cellLimit) × ((i : ℕ) → i < last → SameTo (now cells) i) ⌝ }
-    ensures { λ r. ⌜ r ≡ length (changesTo (actCell (spanAct first last (sourceAct s source (now (values .entry)) (now (there .entry))))) (now (cells .entry)) last) ⌝ }
+    requires { ⌜ (first ≤ last) × (last ≤ cellLimit) × SameBelow (now cells) last ⌝ }
+    ensures { λ r. ⌜ r ≡ length (changesTo (spanCell first last s source (now (values .entry)) (now (there .entry))) (now (cells .entry)) last) ⌝ }
 {
     let mut k: usize = 0;
     let mut i: usize = first;
@@ -146,10 +146,10 @@ fn put_outer(
     reached: Reach,
     i: usize,
     indices: &mut [usize],
-    numbers: &mut [f64],
+    records: &mut [f64],
     k: usize,
 ) -> usize
-    ensures { λ r. ⌜ Listed k r (cutChange Outer before reached i) (now (indices .entry)) (now (indices .exit)) (now (numbers .entry)) (now (numbers .exit)) ⌝ }
+    ensures { λ r. ⌜ ListsChange k r (cutChange Outer before reached i) indices records ⌝ }
 {
     let after = reach::cut_cell(TurnSide::Outer, before, reached);
     let change = TurnChange {
@@ -157,7 +157,7 @@ fn put_outer(
         before,
         after,
     };
-    records::list_change(indices, numbers, k, change)
+    changes::list_change(indices, records, k, change)
 }
 
 // The same of a cut of the inside.
@@ -166,10 +166,10 @@ fn put_inner(
     reached: Reach,
     i: usize,
     indices: &mut [usize],
-    numbers: &mut [f64],
+    records: &mut [f64],
     k: usize,
 ) -> usize
-    ensures { λ r. ⌜ Listed k r (cutChange Inner before reached i) (now (indices .entry)) (now (indices .exit)) (now (numbers .entry)) (now (numbers .exit)) ⌝ }
+    ensures { λ r. ⌜ ListsChange k r (cutChange Inner before reached i) indices records ⌝ }
 {
     let after = reach::cut_cell(TurnSide::Inner, before, reached);
     let change = TurnChange {
@@ -177,7 +177,7 @@ fn put_inner(
         before,
         after,
     };
-    records::list_change(indices, numbers, k, change)
+    changes::list_change(indices, records, k, change)
 }
 
 // The change of bin i, written behind k others where the cut makes one; how many there are then. A
@@ -190,14 +190,14 @@ fn write_bin(
     cells: &[f64],
     i: usize,
     indices: &mut [usize],
-    numbers: &mut [f64],
+    records: &mut [f64],
     k: usize,
 ) -> usize
     requires { ⌜ (i ≤ cellLimit) × SameTo (now cells) i ⌝ }
-    ensures { λ r. ⌜ Listed k r (changeOf (actCell (sourceAct s source (now (values .entry)) (now (there .entry)))) (now (cells .entry)) i) (now (indices .entry)) (now (indices .exit)) (now (numbers .entry)) (now (numbers .exit)) ⌝ }
+    ensures { λ r. ⌜ ListsChange k r (changeOf (actCell (sourceAct s source (now (values .entry)) (now (there .entry)))) (now (cells .entry)) i) indices records ⌝ }
 {
     let before = stock::cell_at(cells, i);
-    if idle::leaves(source, before) {
+    if unchanged::leaves(source, before) {
         return k;
     }
     let reached = write_reach(s, source, values, there, i);
@@ -207,8 +207,8 @@ fn write_bin(
     };
     let side = side_of(source);
     match side {
-        TurnSide::Outer => put_outer(before, reached, i, indices, numbers, k),
-        TurnSide::Inner => put_inner(before, reached, i, indices, numbers, k),
+        TurnSide::Outer => put_outer(before, reached, i, indices, records, k),
+        TurnSide::Inner => put_inner(before, reached, i, indices, records, k),
     }
 }
 
@@ -223,15 +223,15 @@ fn write(
     first: usize,
     last: usize,
     indices: &mut [usize],
-    numbers: &mut [f64],
+    records: &mut [f64],
 ) -> usize
-    requires { ⌜ (first ≤ last) × (last ≤ cellLimit) × ((i : ℕ) → i < last → SameTo (now cells) i) × (length (changesTo (actCell (spanAct first last (sourceAct s source (now values) (now there)))) (now cells) last) ≤ roomOf (length (now indices)) (length (now numbers))) ⌝ }
-    ensures { λ r. ⌜ Listing (actCell (spanAct first last (sourceAct s source (now (values .entry)) (now (there .entry))))) (now (cells .entry)) last r (now (indices .entry)) (now (indices .exit)) (now (numbers .entry)) (now (numbers .exit)) ⌝ }
+    requires { ⌜ (first ≤ last) × (last ≤ cellLimit) × SameBelow (now cells) last × RoomFor (spanCell first last s source (now values) (now there)) (now cells) last (now indices) (now records) ⌝ }
+    ensures { λ r. ⌜ ListsBelow (spanCell first last s source (now (values .entry)) (now (there .entry))) (now (cells .entry)) last r indices records ⌝ }
 {
     let mut k: usize = 0;
     let mut i: usize = first;
     while i < last {
-        k = write_bin(s, source, values, there, cells, i, indices, numbers, k);
+        k = write_bin(s, source, values, there, cells, i, indices, records, k);
         i += 1;
     }
     k
@@ -249,12 +249,12 @@ pub fn list(
     last: usize,
     n: usize,
     indices: &mut [usize],
-    numbers: &mut [f64],
+    records: &mut [f64],
 ) -> Previewed
-    requires { ⌜ (first ≤ last) × (last ≤ n) × (n ≤ cellLimit) × ((i : ℕ) → i < n → SameTo (now cells) i) ⌝ }
-    ensures { λ r. ⌜ Proposed (proposed (spanAct first last (sourceAct s source (now (values .entry)) (now (there .entry)))) (now (cells .entry)) (roomOf (length (now (indices .entry))) (length (now (numbers .entry)))) n) r (now (indices .entry)) (now (indices .exit)) (now (numbers .entry)) (now (numbers .exit)) ⌝ }
+    requires { ⌜ (first ≤ last) × (last ≤ n) × (n ≤ cellLimit) × SameBelow (now cells) n ⌝ }
+    ensures { λ r. ⌜ Proposes (proposing (spanAct first last (sourceAct s source (now (values .entry)) (now (there .entry)))) (now (cells .entry)) n) r indices records ⌝ }
 {
-    let room = records::room(indices.len(), numbers.len());
+    let room = changes::room(indices.len(), records.len());
     if last - first <= room {
         return Previewed::Changes(write(
             s,
@@ -265,7 +265,7 @@ pub fn list(
             first,
             last,
             indices,
-            numbers,
+            records,
         ));
     }
     if count(s, source, values, there, cells, first, last) <= room {
@@ -278,7 +278,7 @@ pub fn list(
             first,
             last,
             indices,
-            numbers,
+            records,
         ));
     }
     Previewed::Refused(Refusal::ChangesOverRoom)

@@ -24,9 +24,9 @@ use Rattle.reach.specs.Kinds.{PlainAct, OnSide, OnlyAt}
 use Rattle.reach.specs.Closed.{closed, ownsAt}
 use Rattle.reach.proofs.OneByOne.{cellAfter, cuts-of-bin}
 use Rattle.reach.proofs.AnyOrder.{mem-map, bin-any-order, bin-however-often}
-use Rattle.records.specs.declared.Previewed.the-variants.{Changes}
-use Rattle.records.specs.Change.{changesTo, roomOf, countOf, Proposed}
-use Rattle.records.proofs.Proposals.{same-proposal}
+use Rattle.changes.specs.declared.Previewed.the-variants.{Changes}
+use Rattle.changes.specs.Change.{changesTo, roomOf, countOf, Proposed}
+use Rattle.changes.proofs.Proposals.{same-proposal}
 use Rattle.cuts.specs.Preview.{proposed}
 use Rattle.changes.specs.declared.Applied.the-variants.{Generation}
 use Rattle.changes.specs.Commit.{putAll, Committed, applyOf, Applies}
@@ -34,7 +34,7 @@ use Rattle.changes.proofs.Written.{same-outcome}
 use Rattle.changes.proofs.Stocks.{Good, stock-good, good-stock}
 use Rattle.changes.proofs.Accepted.{commit-is, put-good, good-bins}
 use Rattle.changes.proofs.Proposal.{lent-is, act-cuts}
-use Rattle.demands.specs.Tool.{Tool, toolAct, previewTool, HeldTool, ToolsOf, ToolsAt}
+use Rattle.demands.specs.Tool.{Cutter, cutterAct, cutterPreview, HeldCutter, ToolsOf, ToolsAt}
 use Rattle.demands.specs.Run.{Ran, start, cut}
 use Rattle.demands.proofs.InTurn.{next, start-ordered}
 use Rattle.demands.proofs.Third.{all-sides, perm-length}
@@ -58,22 +58,22 @@ kept true k g cs cs' a = record { cells = a .cells; generation = same-answer (a 
 kept false k g cs cs' a = absurd (no-answer 12 g (sym (a .answer)))
 
 -- the cut is in its domain, the cells afterwards fit, each is what the cut makes of it, and the generation is one more
-record Called (spec : TurnStockSpec) (n : ℕ) (t : Tool) (cs cs' : List Float) (gen g : ℕ) : Type 0 where
+record Called (spec : TurnStockSpec) (n : ℕ) (t : Cutter) (cs cs' : List Float) (gen g : ℕ) : Type 0 where
   good : Good spec n cs'
-  bins : (i : ℕ) → i < n → cellAt cs' i ≡ actCell (toolAct spec t) i (cellAt cs i)
-  plain : PlainAct n (toolAct spec t)
+  bins : (i : ℕ) → i < n → cellAt cs' i ≡ actCell (cutterAct spec t) i (cellAt cs i)
+  plain : PlainAct n (cutterAct spec t)
   generation : g ≡ gen + 1
 
-called : {spec : TurnStockSpec} {n : ℕ} → HeldSpec spec → (t : Tool) → HeldTool t → {cs cs' : List Float} → Good spec n cs → (gen g c : ℕ) (is is' : List ℕ) (xs xs' : List Float) → Proposed (previewTool spec t cs (roomOf (length is) (length xs))) (Changes c) is is' xs xs'
+called : {spec : TurnStockSpec} {n : ℕ} → HeldSpec spec → (t : Cutter) → HeldCutter t → {cs cs' : List Float} → Good spec n cs → (gen g c : ℕ) (is is' : List ℕ) (xs xs' : List Float) → Proposed (cutterPreview spec t cs (roomOf (length is) (length xs))) (Changes c) is is' xs xs'
     → Applies (applyOf spec cs gen is' xs' c) (Generation g) cs cs' → Called spec n t cs cs' gen g
 called {spec} {n} hs t ht {cs} {cs'} b gen g c is is' xs xs' p a =
     let room = roomOf (length is) (length xs) in
-    let f = actCell (toolAct spec t) in
+    let f = actCell (cutterAct spec t) in
     let l : List TurnChange = changesTo f cs n in
-    let y = answered (previewTool spec t cs room) c (p .answer) in
+    let y = answered (cutterPreview spec t cs room) c (p .answer) in
     let s = tool-sound spec n hs (b .count) t ht (accepted-good spec t cs room (y .0) (y .1)) in
-    let cuts = act-cuts b (toolAct spec t) (s .plain) in
-    let q = same-proposal (proposed (toolAct spec t) cs room n) (previewTool spec t cs room) (Changes c) is is' xs xs' (sym (s .rule cs room (good-stock b))) p in
+    let cuts = act-cuts b (cutterAct spec t) (s .plain) in
+    let q = same-proposal (proposed (cutterAct spec t) cs room n) (cutterPreview spec t cs room) (Changes c) is is' xs xs' (sym (s .rule cs room (good-stock b))) p in
     let e = lent-is spec cs gen c l is is' xs xs' q ∙ commit-is b f cuts gen in
     let k : Committed = record { cells = putAll cs l; generation = gen + 1 } in
     let w = kept (ltb gen lastGeneration) k g cs cs' (same-outcome (demand (ltb gen lastGeneration) 12 (answers k)) (applyOf spec cs gen is' xs' c) (Generation g) cs cs' (sym e) a) in
@@ -85,62 +85,62 @@ called {spec} {n} hs t ht {cs} {cs'} b gen g c is is' xs xs' p a =
     }
 
 -- ---- a run of them
-record After (spec : TurnStockSpec) (n : ℕ) (k : Committed) (l : List Tool) (m : Committed) : Type 0 where
+record After (spec : TurnStockSpec) (n : ℕ) (k : Committed) (l : List Cutter) (m : Committed) : Type 0 where
   good : Good spec n (m .cells)
-  bins : (i : ℕ) → i < n → cellAt (m .cells) i ≡ cellAfter i (cellAt (k .cells) i) (map (toolAct spec) l)
-  plain : Each (PlainAct n) (map (toolAct spec) l)
+  bins : (i : ℕ) → i < n → cellAt (m .cells) i ≡ cellAfter i (cellAt (k .cells) i) (map (cutterAct spec) l)
+  plain : Each (PlainAct n) (map (cutterAct spec) l)
   generation : m .generation ≡ k .generation + length l
 
-after : {spec : TurnStockSpec} {n : ℕ} → HeldSpec spec → {k m : Committed} {l : List Tool} → Ran spec k l m → Each HeldTool l → Good spec n (k .cells) → After spec n k l m
+after : {spec : TurnStockSpec} {n : ℕ} → HeldSpec spec → {k m : Committed} {l : List Cutter} → Ran spec k l m → Each HeldCutter l → Good spec n (k .cells) → After spec n k l m
 after hs {k} start ht b = record { good = b; bins = λ i h. refl; plain = tt; generation = sym (add-zero (k .generation)) }
 after {spec} {n} hs (cut {t} {l} {cs} {cs'} {gen} {g} {c} {is} {is'} {xs} {xs'} {m} p a r) ht b =
     let w = called hs t (ht .0) b gen g c is is' xs xs' p a in
     let v = after hs r (ht .1) (w .good) in
     record {
       good = v .good;
-      bins = λ i h. v .bins i h ∙ ap (λ (x : TurnCell). cellAfter i x (map (toolAct spec) l)) (w .bins i h);
+      bins = λ i h. v .bins i h ∙ ap (λ (x : TurnCell). cellAfter i x (map (cutterAct spec) l)) (w .bins i h);
       plain = (w .plain, v .plain);
       generation = v .generation ∙ ap (λ (x : ℕ). x + length l) (w .generation) ∙ next gen (length l);
     }
 
 -- ---- THE DEMAND, over calls. The numbers handed over are values of f64, and the stock at the start is not refused.
-module _ {spec : TurnStockSpec} {n : ℕ} {k m : Committed} {l : List Tool} (hs : HeldSpec spec) (hc : HeldList (k .cells)) (e : stockOf spec (k .cells) ≡ answers n) (ht : Each HeldTool l) (r : Ran spec k l m) where
+module _ {spec : TurnStockSpec} {n : ℕ} {k m : Committed} {l : List Cutter} (hs : HeldSpec spec) (hc : HeldList (k .cells)) (e : stockOf spec (k .cells) ≡ answers n) (ht : Each HeldCutter l) (r : Ran spec k l m) where
   good : Good spec n (k .cells)
   good = stock-good hs hc e
 
   -- THE CLOSED FORM: a run leaves it in each bin that one side only reaches
-  pub run-leaves : (σ : TurnSide) (i : ℕ) → i < n → ToolsAt spec σ i l → cellAt (m .cells) i ≡ closed σ (cellAt (k .cells) i) (ownsAt σ (cellAt (k .cells) i) i (map (toolAct spec) l))
+  pub run-leaves : (σ : TurnSide) (i : ℕ) → i < n → ToolsAt spec σ i l → cellAt (m .cells) i ≡ closed σ (cellAt (k .cells) i) (ownsAt σ (cellAt (k .cells) i) i (map (cutterAct spec) l))
   run-leaves σ i h os =
       let a = after hs r ht good in
-      a .bins i h ∙ cuts-of-bin σ n i h (cellAt (k .cells) i) (map (toolAct spec) l) (start-ordered good σ i h) (a .plain) (tools-each spec (OnlyAt σ i) l os)
+      a .bins i h ∙ cuts-of-bin σ n i h (cellAt (k .cells) i) (map (cutterAct spec) l) (start-ordered good σ i h) (a .plain) (tools-each spec (OnlyAt σ i) l os)
 
-  bin-same : {m' : Committed} {l' : List Tool} → List·Permᴰ l l' → Ran spec k l' m' → (σ : TurnSide) (i : ℕ) → i < n → Each (OnlyAt σ i) (map (toolAct spec) l) → cellAt (m .cells) i ≡ cellAt (m' .cells) i
+  bin-same : {m' : Committed} {l' : List Cutter} → List·Permᴰ l l' → Ran spec k l' m' → (σ : TurnSide) (i : ℕ) → i < n → Each (OnlyAt σ i) (map (cutterAct spec) l) → cellAt (m .cells) i ≡ cellAt (m' .cells) i
   bin-same d r' σ i h os =
       let a = after hs r ht good in
-      let b = after hs r' (each-perm HeldTool d ht) good in
-      a .bins i h ∙ bin-any-order σ n i h (cellAt (k .cells) i) (start-ordered good σ i h) (Permᴰ·map (toolAct spec) d) (a .plain) os ∙ sym (b .bins i h)
+      let b = after hs r' (each-perm HeldCutter d ht) good in
+      a .bins i h ∙ bin-any-order σ n i h (cellAt (k .cells) i) (start-ordered good σ i h) (Permᴰ·map (cutterAct spec) d) (a .plain) os ∙ sym (b .bins i h)
 
   -- ANY ORDER, of cuts of both sides: two runs leave the same cell in each bin that one side only reaches
-  pub run-any-order-bin : {m' : Committed} {l' : List Tool} → List·Permᴰ l l' → Ran spec k l' m' → (σ : TurnSide) (i : ℕ) → i < n → ToolsAt spec σ i l → cellAt (m .cells) i ≡ cellAt (m' .cells) i
+  pub run-any-order-bin : {m' : Committed} {l' : List Cutter} → List·Permᴰ l l' → Ran spec k l' m' → (σ : TurnSide) (i : ℕ) → i < n → ToolsAt spec σ i l → cellAt (m .cells) i ≡ cellAt (m' .cells) i
   run-any-order-bin d r' σ i h os = bin-same d r' σ i h (tools-each spec (OnlyAt σ i) l os)
 
   -- ANY ORDER, of cuts of one side: two runs leave the same cells and the same generation
-  pub run-any-order : {m' : Committed} {l' : List Tool} → List·Permᴰ l l' → Ran spec k l' m' → (σ : TurnSide) → ToolsOf spec σ l → m ≡ m'
+  pub run-any-order : {m' : Committed} {l' : List Cutter} → List·Permᴰ l l' → Ran spec k l' m' → (σ : TurnSide) → ToolsOf spec σ l → m ≡ m'
   run-any-order {m'} d r' σ os =
       let a = after hs r ht good in
-      let b = after hs r' (each-perm HeldTool d ht) good in
-      let ec = same-cells n (m .cells) (m' .cells) (a .good .long) (b .good .long) (λ i h. bin-same d r' σ i h (all-sides σ i (map (toolAct spec) l) (tools-each spec (OnSide σ) l os))) in
+      let b = after hs r' (each-perm HeldCutter d ht) good in
+      let ec = same-cells n (m .cells) (m' .cells) (a .good .long) (b .good .long) (λ i h. bin-same d r' σ i h (all-sides σ i (map (cutterAct spec) l) (tools-each spec (OnSide σ) l os))) in
       let eg = a .generation ∙ ap (λ (x : ℕ). k .generation + x) (perm-length d) ∙ sym (b .generation) in
       λ i. record { cells = ec i; generation = eg i }
 
   -- HOWEVER OFTEN: two runs of the same cuts of one side, each made as often as one likes, leave the same cells
-  pub run-however-often : {m' : Committed} {l' : List Tool} → Each HeldTool l' → Ran spec k l' m' → ((t : Tool) → List·Memᴰ t l → List·Memᴰ t l') → ((t : Tool) → List·Memᴰ t l' → List·Memᴰ t l) → (σ : TurnSide) → ToolsOf spec σ l → ToolsOf spec σ l' → m .cells ≡ m' .cells
+  pub run-however-often : {m' : Committed} {l' : List Cutter} → Each HeldCutter l' → Ran spec k l' m' → ((t : Cutter) → List·Memᴰ t l → List·Memᴰ t l') → ((t : Cutter) → List·Memᴰ t l' → List·Memᴰ t l) → (σ : TurnSide) → ToolsOf spec σ l → ToolsOf spec σ l' → m .cells ≡ m' .cells
   run-however-often {m'} {l'} ht' r' h h' σ os os' =
       let a = after hs r ht good in
       let b = after hs r' ht' good in
-      let as₀ = map (toolAct spec) l in
-      let as₁ = map (toolAct spec) l' in
+      let as₀ = map (cutterAct spec) l in
+      let as₁ = map (cutterAct spec) l' in
       same-cells n (m .cells) (m' .cells) (a .good .long) (b .good .long) (λ i p.
       a .bins i p
-      ∙ bin-however-often σ n i p (cellAt (k .cells) i) (start-ordered good σ i p) as₀ as₁ (mem-map (toolAct spec) l l' h) (mem-map (toolAct spec) l' l h') (a .plain) (b .plain) (all-sides σ i as₀ (tools-each spec (OnSide σ) l os)) (all-sides σ i as₁ (tools-each spec (OnSide σ) l' os'))
+      ∙ bin-however-often σ n i p (cellAt (k .cells) i) (start-ordered good σ i p) as₀ as₁ (mem-map (cutterAct spec) l l' h) (mem-map (cutterAct spec) l' l h') (a .plain) (b .plain) (all-sides σ i as₀ (tools-each spec (OnSide σ) l os)) (all-sides σ i as₁ (tools-each spec (OnSide σ) l' os'))
       ∙ sym (b .bins i p))

@@ -18,13 +18,14 @@ use Rattle.stock.specs.Spec.{cleanSpec, specGood, cellsOf}
 use Rattle.stock.specs.Bin.{binOf}
 use Rattle.stock.specs.Cell.{cellFits, fitTo, cellsFit, stockOf, putCell}
 use Rattle.reach.specs.Reach.{deeper, shallower, deepOf, sureOf, limitOf, withPair, ownOf, cutBy, cutCell}
-use Rattle.records.specs.Change.{changeAt, changesTo}
+use Rattle.changes.specs.Change.{changeAt, changesTo}
 use Rattle.cuts.specs.declared.Cut.the-variants.{Thread, Drill}
 use Rattle.cuts.specs.Cut.{misses, drillAt, threadReach, drillReach, cutReach, cutGood, cleanCut}
 use Rattle.cuts.specs.Preview.{previewCut}
+use Rattle.cuts.specs.Tool.{toolAct, toolGood, previewTool}
 use Rattle.changes.specs.Commit.{appliesTo, passes, eachPasses, risesAfter, rises, passAll, Committed, commitIn, commitOf}
 use Rattle.demands.specs.Job.{turned, turnedAll}
-use Rattle.demands.specs.Tool.{Tool, single, toolGood, turnedTools, ToolsJob}
+use Rattle.demands.specs.Tool.{Cutter, single, turnedTools, ToolsJob}
 use Rattle.demands.proofs.Tools.{tools-any-order}
 
 abbrev three : Float
@@ -50,10 +51,10 @@ abbrev whole : Committed
 whole = record { cells = ten ∷ ten ∷ zero64 ∷ zero64 ∷ ten ∷ ten ∷ zero64 ∷ zero64 ∷ ten ∷ ten ∷ zero64 ∷ zero64 ∷ []; generation = 0 }
 
 -- a thread all along, and a deeper one from 3 on
-abbrev long : Tool
+abbrev long : Cutter
 long = single (Thread zero64 nine four)
 
-abbrev short : Tool
+abbrev short : Cutter
 short = single (Thread three nine three)
 
 held : (xs : List Float) → Each (λ (x : Float). T (fits binary64 x)) xs → HeldList xs
@@ -78,24 +79,24 @@ job =
 
 -- so either order gives the same
 pub same : turnedTools bar 3 whole (long ∷ short ∷ []) ≡ turnedTools bar 3 whole (short ∷ long ∷ [])
-unfolding cleanCut
+unfolding cleanCut toolAct
 same = tools-any-order (List·Permᴰ·swap refl refl) job Outer (refl, (refl, tt))
 
 -- and this is what they leave, worked out by the rules: lower is 4 in the first bin and 3 in the two others
 pub left : turnedTools bar 3 whole (long ∷ short ∷ []) ≡ answers (record { cells = four ∷ ten ∷ zero64 ∷ zero64 ∷ three ∷ ten ∷ zero64 ∷ zero64 ∷ three ∷ ten ∷ zero64 ∷ zero64 ∷ []; generation = 2 })
-unfolding turnedAll turned previewCut commitOf commitIn passAll rises risesAfter eachPasses passes appliesTo putCell changesTo changeAt cutCell cutBy ownOf withPair deeper shallower deepOf sureOf limitOf cutReach threadReach misses binOf stockOf onward demand cellsOf cleanSpec specGood cleanOf minusZero pick wholeUp cellsFit fitTo cellFits cutGood cleanCut leastOf greatestOf Ieee.ofBits Ieee.ofFields Ieee.odd Ieee.eq Ieee.lt Ieee.le Ieee.div Ieee.sub Ieee.add Ieee.mul Ieee.neg Ieee.sum Ieee.round Ieee.units Ieee.ofInt Ieee.size Ieee.span Ieee.climb
+unfolding turnedAll turned toolAct previewTool previewCut commitOf commitIn passAll rises risesAfter eachPasses passes appliesTo putCell changesTo changeAt cutCell cutBy ownOf withPair deeper shallower deepOf sureOf limitOf cutReach threadReach misses binOf stockOf onward demand cellsOf cleanSpec specGood cleanOf minusZero pick wholeUp cellsFit fitTo cellFits cutGood cleanCut leastOf greatestOf Ieee.ofBits Ieee.ofFields Ieee.odd Ieee.eq Ieee.lt Ieee.le Ieee.div Ieee.sub Ieee.add Ieee.mul Ieee.neg Ieee.sum Ieee.round Ieee.units Ieee.ofInt Ieee.size Ieee.span Ieee.climb
 left = refl
 
 -- ---- a bin that both sides reach: the first to reach it is floor or ceiling of the second
-abbrev bored : Tool
+abbrev bored : Cutter
 bored = single (Drill (ofBits binary64 0xBFF0000000000000) seven zero64)
 
 -- threaded first, the thread goes to 4
 pub threaded-first : turnedTools bar 3 whole (long ∷ bored ∷ []) ≡ answers (record { cells = four ∷ ten ∷ seven ∷ seven ∷ four ∷ ten ∷ seven ∷ seven ∷ four ∷ ten ∷ seven ∷ seven ∷ []; generation = 2 })
-unfolding turnedAll turned previewCut commitOf commitIn passAll rises risesAfter eachPasses passes appliesTo putCell changesTo changeAt cutCell cutBy ownOf withPair deeper shallower deepOf sureOf limitOf cutReach threadReach drillReach drillAt misses binOf stockOf onward demand cellsOf cleanSpec specGood cleanOf minusZero pick wholeUp cellsFit fitTo cellFits cutGood cleanCut leastOf greatestOf Ieee.ofBits Ieee.ofFields Ieee.odd Ieee.eq Ieee.lt Ieee.le Ieee.div Ieee.sub Ieee.add Ieee.mul Ieee.neg Ieee.sum Ieee.round Ieee.units Ieee.ofInt Ieee.size Ieee.span Ieee.climb
+unfolding turnedAll turned toolAct previewTool previewCut commitOf commitIn passAll rises risesAfter eachPasses passes appliesTo putCell changesTo changeAt cutCell cutBy ownOf withPair deeper shallower deepOf sureOf limitOf cutReach threadReach drillReach drillAt misses binOf stockOf onward demand cellsOf cleanSpec specGood cleanOf minusZero pick wholeUp cellsFit fitTo cellFits cutGood cleanCut leastOf greatestOf Ieee.ofBits Ieee.ofFields Ieee.odd Ieee.eq Ieee.lt Ieee.le Ieee.div Ieee.sub Ieee.add Ieee.mul Ieee.neg Ieee.sum Ieee.round Ieee.units Ieee.ofInt Ieee.size Ieee.span Ieee.climb
 threaded-first = refl
 
 -- bored first, it stops at 7
 pub bored-first : turnedTools bar 3 whole (bored ∷ long ∷ []) ≡ answers (record { cells = seven ∷ ten ∷ seven ∷ seven ∷ seven ∷ ten ∷ seven ∷ seven ∷ seven ∷ ten ∷ seven ∷ seven ∷ []; generation = 2 })
-unfolding turnedAll turned previewCut commitOf commitIn passAll rises risesAfter eachPasses passes appliesTo putCell changesTo changeAt cutCell cutBy ownOf withPair deeper shallower deepOf sureOf limitOf cutReach threadReach drillReach drillAt misses binOf stockOf onward demand cellsOf cleanSpec specGood cleanOf minusZero pick wholeUp cellsFit fitTo cellFits cutGood cleanCut leastOf greatestOf Ieee.ofBits Ieee.ofFields Ieee.odd Ieee.eq Ieee.lt Ieee.le Ieee.div Ieee.sub Ieee.add Ieee.mul Ieee.neg Ieee.sum Ieee.round Ieee.units Ieee.ofInt Ieee.size Ieee.span Ieee.climb
+unfolding turnedAll turned toolAct previewTool previewCut commitOf commitIn passAll rises risesAfter eachPasses passes appliesTo putCell changesTo changeAt cutCell cutBy ownOf withPair deeper shallower deepOf sureOf limitOf cutReach threadReach drillReach drillAt misses binOf stockOf onward demand cellsOf cleanSpec specGood cleanOf minusZero pick wholeUp cellsFit fitTo cellFits cutGood cleanCut leastOf greatestOf Ieee.ofBits Ieee.ofFields Ieee.odd Ieee.eq Ieee.lt Ieee.le Ieee.div Ieee.sub Ieee.add Ieee.mul Ieee.neg Ieee.sum Ieee.round Ieee.units Ieee.ofInt Ieee.size Ieee.span Ieee.climb
 bored-first = refl

@@ -1,7 +1,12 @@
 -- THE FIRST DEMAND: each refusal number exactly when 01's table says so, in 01's order; and a refusal leaves every lent buffer as it was.
 -- `Exactly rule asks` says it of a rule: `asks` is the list of its tests in 01's order, each with its number (specs/Refused). The rule refuses with k exactly when the first
 -- of them that does not hold has the number k, and answers exactly when all of them hold. Each call's promise says that it answers by its rule. Assumes nothing.
-use mathlib.Core.Path.{_≡_, refl, ap₂, _∙_}
+--
+-- Below each law names the calls that it is of. Calls over lent records have the rule of the flat call, with the number of records as the room: `change_slices::apply` (`commit-exactly`),
+-- `change_slices::propose` (`preview-tool-exactly`). What the methods of an `Envelope` made by `new` answer is the rule of the flat call too (proofs/Profile): `envelope::held::Envelope::order`,
+-- `envelope::held::Envelope::radius_at`, `envelope::held::Envelope::radius_range`.
+use mathlib.Core.Path.{_≡_, refl, sym, ap, ap₂, _∙_}
+use mathlib.Core.Logic.{inl, inr}
 use mathlib.Core.Bool.{Bool, true, false, not, _&&_, _||_, false≢true}
 use mathlib.Core.List.{List, [], _∷_, _++_}
 use mathlib.Core.Option.{Option, none, some}
@@ -32,11 +37,14 @@ use Rattle.stock.proofs.Count.{and-both}
 use Rattle.reach.specs.Reach.{Act, actCell}
 use Rattle.nose.specs.Nose.{segmentsGood, noseAct}
 use Rattle.polygon.specs.Polygon.{polygonGood, polygonAct}
-use Rattle.records.specs.Change.{changesTo, changesFrom, settled}
-use Rattle.records.specs.Change as change
+use Rattle.changes.specs.Change.{changesTo, changesFrom, settled}
+use Rattle.changes.specs.Change as change
 use Rattle.cuts.specs.declared.Cut.{Cut}
 use Rattle.cuts.specs.Cut.{isArc, cleanCut, cutGood, cutAct}
 use Rattle.cuts.specs.Preview.{previewOf, previewNose, previewPolygon, previewCut}
+use Rattle.cuts.specs.declared.Tool.{Tool}
+use Rattle.cuts.specs.declared.Tool.the-variants.{Single, Nose, Polygon}
+use Rattle.cuts.specs.Tool.{previewTool}
 use Rattle.changes.specs.Commit.{appliesTo, rises, passes, eachPasses, passAll, commitIn, commitOf, applyOf}
 use Rattle.changes.specs.Difference.{otherCell, differenceOf}
 use Rattle.rings.specs.declared.Ring.{Ring}
@@ -47,8 +55,8 @@ use Rattle.moves.specs.Move.{generationAfter, moveIn, moveOf, partsOf}
 use Rattle.queries.specs.Envelope.{envelopeAt}
 use Rattle.queries.specs.Volume.{volumeOf}
 use Rattle.envelope.specs.Envelope.{pointsGood, orderedOf, withinOf, withinRefusalOf, radiusAtOf, radiusRangeOf}
-use Rattle.demands.specs.Refused.{ask, Exactly, rootAsks, lengthAsks, countGood, specAsks, binAsks, newAsks, stockAsks, roomGood, previewCutAsks, previewAsks, previewNoseAsks, previewPolygonAsks, eachAsks, passAsks, commitAsks, applyAsks, differenceAsks, removeAsks, roomForAll, allStored, removeRingsAsks, partsAsks, moveAsks, volumeAsks, pointsAsks, radiusAsks, withinAsks}
-use Rattle.demands.proofs.Asking.{Asks, exactly, asks-none, asks-more, asks-of, asks-on, asks-then, asks-as, asks-holds, asks-fails, onward-demand}
+use Rattle.demands.specs.Refused.{ask, Exactly, rootAsks, lengthAsks, countGood, specAsks, binAsks, newAsks, stockAsks, roomGood, previewCutAsks, previewAsks, previewNoseAsks, previewPolygonAsks, previewToolAsks, eachAsks, passAsks, commitAsks, applyAsks, differenceAsks, removeAsks, roomForAll, allStored, removeRingsAsks, partsAsks, moveAsks, volumeAsks, pointsAsks, radiusAsks, withinAsks}
+use Rattle.demands.proofs.Asking.{refusalOf, Asks, exactly, exactly-as, asks-none, asks-more, asks-of, asks-on, asks-then, asks-as, asks-holds, asks-fails, onward-demand}
 
 -- ---- the root and the length
 
@@ -164,6 +172,13 @@ preview-nose-exactly spec cs side rn xs room = preview-exactly spec cs (segments
 -- `preview_polygon`
 pub preview-polygon-exactly : (spec : TurnStockSpec) (cs : List Float) (side : TurnSide) (excess : Float) (ps : List Float) (room : ℕ) → Exactly (previewPolygon spec cs side excess ps room) (previewPolygonAsks spec cs side excess ps room)
 preview-polygon-exactly spec cs side excess ps room = preview-exactly spec cs (polygonGood ps excess) (polygonAct (cleanSpec spec) side excess ps) room
+
+-- `preview_tool`, by the kind of the tool
+pub preview-tool-exactly : (spec : TurnStockSpec) (cs : List Float) (t : Tool) (ys : List Float) (room : ℕ) → Exactly (previewTool spec cs t ys room) (previewToolAsks spec cs t ys room)
+unfolding previewTool
+preview-tool-exactly spec cs (Single cut) ys room = preview-cut-exactly spec cs cut room
+preview-tool-exactly spec cs (Nose side rn) ys room = preview-nose-exactly spec cs side rn ys room
+preview-tool-exactly spec cs (Polygon side excess) ys room = preview-polygon-exactly spec cs side excess ys room
 
 -- `changes_to`, the difference: 1, 2, 3 of either list, 6
 pub difference-exactly : (spec : TurnStockSpec) (cs ds : List Float) (room : ℕ) → Exactly (differenceOf spec cs ds room) (differenceAsks spec cs ds room)

@@ -25,10 +25,10 @@ use Rattle.stock.specs.declared.TurnSide.{TurnSide}
 use Rattle.reach.proofs.Sides.{Ordered}
 use Rattle.reach.proofs.Removes.{ordered}
 use Rattle.reach.proofs.OneByOne.{cellAfter, cuts-of-bin}
-use Rattle.records.specs.declared.Previewed.the-variants.{Changes}
-use Rattle.records.specs.Change.{changesTo, roomOf, Proposed}
-use Rattle.records.proofs.Rising.{at-most}
-use Rattle.records.proofs.Proposals.{same-proposal}
+use Rattle.changes.specs.declared.Previewed.the-variants.{Changes}
+use Rattle.changes.specs.Change.{changesTo, roomOf, Proposed}
+use Rattle.changes.proofs.Rising.{at-most}
+use Rattle.changes.proofs.Proposals.{same-proposal}
 use Rattle.cuts.specs.Preview.{proposed, previewOf}
 use Rattle.changes.specs.Commit.{putAll, Committed, commitOf, applyOf}
 use Rattle.changes.proofs.Stocks.{Good, stock-good, good-stock}

@@ -15,9 +15,9 @@ use Rattle.stock.specs.declared.TurnChange.{TurnChange}
 use Rattle.stock.specs.declared.Counted.the-variants as counted
 use Rattle.stock.specs.Cell.{newOf, newCells, Filled}
 use Rattle.stock.proofs.Count.{no-answer}
-use Rattle.records.specs.declared.Previewed.{Previewed}
-use Rattle.records.specs.declared.Previewed.the-variants as previewed
-use Rattle.records.specs.Change.{previewedPaper, countOf, numbersOf, Proposed}
+use Rattle.changes.specs.declared.Previewed.{Previewed}
+use Rattle.changes.specs.declared.Previewed.the-variants as previewed
+use Rattle.changes.specs.Change.{previewedPaper, countOf, numbersOf, Proposed}
 use Rattle.changes.specs.declared.Applied.{Applied}
 use Rattle.changes.specs.declared.Applied.the-variants as applied
 use Rattle.changes.specs.Commit.{Committed, appliedPaper, generationOf, Applies}
@@ -33,8 +33,8 @@ use Rattle.moves.specs.declared.Moved.the-variants as moved
 use Rattle.moves.specs.Move as moves
 use Rattle.moves.specs.Move.{Left, movedPaper, Moves}
 use Rattle.envelope.specs.Halving.{keptOf, Kept}
-use Rattle.job_lines.specs.declared.Carried.the-variants as carried
-use Rattle.job_lines.specs.Job.{Stand, Carries}
+use Rattle.job_run.specs.declared.line.Carried.the-variants as carried
+use Rattle.job_run.specs.Job.{Stand, Carries}
 use Rattle.demands.specs.Refused.{Asked, Exactly}
 use Rattle.demands.proofs.Asking.{refusalOf, same-number, exactly-as}
 

@@ -5,18 +5,16 @@
 -- equal: the promise is `answer ≡ rule`, or `buffer afterwards ≡ rule`
 --   refusals  number
 --   floats    least, greatest, abs, clean, is_minus_zero, is_usable
---   numbers   whole_part
+--   numbers   whole_part, lesser, greater
 --   stock     clean_spec, bin_of, cell_at, put_cell, cell_fits, same_cell
 --   reach     flip, cut_cell
---   records   room
 --   nose      segment_at, segments_good, track_of, alike
 --   polygon   polygon_good, index_range
---   changes   put_after
+--   changes   room, change_at, held_of, is_accepted, put_after
 --   rings     rings_fit, rings_good, raised_by
 --   envelope  within, of the numbers of the part that is lent back
---   text      part, of the bytes that are lent back; part_count, same
---   figures   read_whole, read_number
---   words     read_line
+--   text      part, front, of the bytes that are lent back; part_count, same, read_whole
+--   job_words read_line, read_number
 --   job_run   fresh, finish
 --
 -- alike: the promise is `paper answer ≡ rule`, and the paper is one to one
@@ -25,24 +23,22 @@
 --   reach     lower, upper, low_of (same-low), reach_from (same-reach)
 --   nose      sampled (same-sample), step (same-swept)
 --   polygon   lowest (same-low), extent_of (same-extent)
---   changes   first_refusal, change_passes (same-passing)
+--   changes   first_refusal (same-passing), begin, step (same-deciding), conclude (same-applied)
 --   envelope  order_of (same-ordered), within_span (same-spanned), within_refusal (same-looked), radius_at (same-radius-at), radius_range (same-radius-range)
 --   queries   volume, envelope_at (Outcomes.volume-once, Outcomes.envelope-once of queries)
 --
 -- a record of equations: the answer and each lent buffer
 --   stock     fill (filled-once)
---   records   list_change (listed-once)
 --   polygon   swept_in (swept-once)
---   cuts      preview_cut, preview, preview_polygon, thread_cut, thread_cut_inner, drill (Proposals.once of records)
---   changes   apply, commit (applied-once), changes_to (Proposals.once of records)
---   slices    apply, read_changes, preview_cut, preview, preview_polygon, changes_to (Once of slices), apply_move (Once.moved-once of moves)
+--   cuts      preview_tool, preview_cut, preview, preview_polygon, thread_cut, thread_cut_inner, drill (Proposals.once of changes)
+--   changes   list_change (listed-once), apply, commit_unasked (applied-once), changes_to (Proposals.once of changes)
+--   change_slices apply, read_changes, propose (Once of change_slices), apply_move (Once.moved-once of moves)
 --   rings     remove_ring (removed-once), remove_rings (Once.stored-once of moves)
 --   moves     apply_move (Once.moved-once of moves), from_parts (Once.stored-once of moves)
 --   envelope  held::Envelope: new (new-once), order (order-once), within (within-once, of the numbers), radius_at (radius-at-once), radius_range (radius-range-once)
---   spelled   cell_line, ring_line, gen_line, refused_line (wrote-once)
---   answer    answer_line (wrote-once)
---   job_lines carry_out (Carrying.once of job_lines; its two lists by the equations of `Lists`)
---   job_run   take_part (taken-once), output_line (wrote-once)
+--   text      put, put_digits, put_decimal, put_hex, put_four (put-once), ring_line (wrote-once)
+--   job_answer cell_line, gen_line, refused_line, answer_line (wrote-once)
+--   job_run   carry_out (Carrying.once of job_run; its two lists by the equations of `ChangesOver`), take_part (taken-once), output_line (wrote-once)
 --
 -- The calls of the C boundary: proofs/Once of turning. What `streams` and `job_streams` read and write is not determined by a promise: docs/OPEN_ANSWERS.md.
 use mathlib.Core.Path.{_≡_, refl, sym, ap, ap₂, _∙_}
@@ -97,7 +93,7 @@ use Rattle.reach.specs.declared.Reach.the-variants as reach-case
 use Rattle.reach.specs.declared.Swept.{Swept}
 use Rattle.reach.specs.Low.{lowPaper, Found, sweptPaper}
 use Rattle.reach.specs.Reach.{reachPaper}
-use Rattle.records.specs.Change.{Listed}
+use Rattle.changes.specs.Change.{Listed}
 use Rattle.nose.specs.declared.Sample.{Sample}
 use Rattle.nose.specs.Track.{Samples, samplePaper}
 use Rattle.polygon.specs.declared.Extent.{Extent}
@@ -108,11 +104,13 @@ use Rattle.changes.specs.declared.Passing.{Passing}
 use Rattle.changes.specs.declared.Passing.the-variants as passing
 use Rattle.changes.specs.declared.Applied.{Applied}
 use Rattle.changes.specs.declared.Applied.the-variants as applied
+use Rattle.changes.specs.declared.Deciding.{Deciding}
 use Rattle.changes.specs.Commit.{passingPaper, Committed, appliedPaper, Applies}
+use Rattle.changes.specs.Decide.{Decides, decidingPaper}
 use Rattle.rings.specs.declared.Removed.{Removed}
 use Rattle.rings.specs.declared.Removed.the-variants as removed
 use Rattle.rings.specs.Remove.{RingStore, RingCount, removedPaper, Removes}
-use Rattle.spelled.specs.Wrote.{Wrote}
+use Rattle.text.specs.Wrote.{Wrote, Put}
 use Rattle.job_run.specs.declared.Run.{Run}
 use Rattle.job_run.specs.declared.Taken.{Taken}
 use Rattle.job_run.specs.Run.{State, Hold, byteOn, asFound, asLeft, TakesPart}
@@ -215,6 +213,13 @@ same-passing passing.Pass passing.Pass h = refl
 same-passing passing.Pass (passing.Refused d) h = absurd (no-answer _ _ (sym h))
 same-passing (passing.Refused c) passing.Pass h = absurd (no-answer _ _ h)
 same-passing (passing.Refused c) (passing.Refused d) h = ap passing.Refused (same-refusal c d h)
+
+-- how far a list is decided
+pub same-deciding : (r r' : Deciding) → decidingPaper r ≡ decidingPaper r' → r ≡ r'
+same-deciding r r' h =
+    let stock = same-passing (r .stock) (r' .stock) (ap (λ (d : Decides). d .stock) h) in
+    let found = same-passing (r .found) (r' .found) (ap (λ (d : Decides). d .found) h) in
+    λ i. record { s = h i .spec; n = h i .n; stock = stock i; any = h i .any; last = h i .last; rises = h i .rises; found = found i }
 
 pub same-applied : (r r' : Applied) → appliedPaper r ≡ appliedPaper r' → r ≡ r'
 same-applied (applied.Generation g) (applied.Generation k) h = ap applied.Generation (same-answer h)
@@ -319,6 +324,10 @@ pub radius-range-once : (ps : List Float) (z : ℤ) (lo hi : Float) (r r' : Radi
 radius-range-once ps z lo hi r r' a b = same-radius-range r r' (a .found ∙ sym (b .found))
 
 -- ---- a job
+
+-- a text put whole or not at all: the place after it, and the buffer
+pub put-once : (l : List ℕ) (i : ℕ) (t m m' : List ℕ) (j j' : ℕ) → Put l i t m j → Put l i t m' j' → (j ≡ j') × (m ≡ m')
+put-once l i t m m' j j' a b = (a .end ∙ sym (b .end), a .text ∙ sym (b .text))
 
 -- a line written to a lent buffer, and how many bytes it has
 pub wrote-once : (l : List ℕ) (i : ℕ) (t m m' : List ℕ) (j j' : ℕ) → Wrote l i t m j → Wrote l i t m' j' → (j ≡ j') × (m ≡ m')

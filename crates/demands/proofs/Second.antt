@@ -31,9 +31,9 @@ use Rattle.stock.specs.Cell.{cellAt, stockOf}
 use Rattle.stock.proofs.Count.{demanded, no-answer, same-answer, stocked}
 use Rattle.stock.proofs.Bins.{HeldSpec, HeldList}
 use Rattle.reach.specs.Reach.{actCell}
-use Rattle.records.specs.declared.Previewed.the-variants.{Changes}
-use Rattle.records.specs.Change.{changesTo, changesFrom, indicesOf, numbersOf, roomOf, Proposed}
-use Rattle.records.proofs.ReadBack.{read-back}
+use Rattle.changes.specs.declared.Previewed.the-variants.{Changes}
+use Rattle.changes.specs.Change.{changesTo, changesFrom, indicesOf, numbersOf, roomOf, Proposed}
+use Rattle.changes.proofs.ReadBack.{read-back}
 use Rattle.cuts.specs.Preview.{previewOf, previewCut}
 use Rattle.changes.specs.declared.Applied.the-variants.{Generation}
 use Rattle.changes.specs.Commit.{Committed, putAll, commitIn, applyOf, generationOf, cellsAfter, Applies}
@@ -47,7 +47,10 @@ use Rattle.rings.specs.Store.{extentOf, ringsOf}
 use Rattle.moves.specs.Move.{Left, generationAfter, moveOf}
 use Rattle.moves.proofs.Answered.{answered}
 use Rattle.moves.proofs.Accepted.{taken}
-use Rattle.demands.specs.Tool.{Tool, single, nose, polygon, toolAct, previewTool, toolGood, HeldTool}
+use Rattle.cuts.specs.declared.Tool.{Tool}
+use Rattle.cuts.specs.declared.Tool.the-variants.{Single, Nose, Polygon}
+use Rattle.cuts.specs.Tool.{previewTool}
+use Rattle.demands.specs.Tool.{Cutter, cutterAct, cutterPreview, cutterGood, HeldCutter}
 use Rattle.demands.specs.Wrote.{NearestRoot, Lists, Previews, Writes}
 use Rattle.demands.proofs.InTurn.{lent-commits}
 use Rattle.demands.proofs.Tools.{tool-sound, accepted-good, good-accepted, tool-rule}
@@ -63,28 +66,31 @@ root-is-nearest m e f = record { root = rootIn (unitsOf (fin false (suc m) e)); 
 -- ---- previews
 
 -- A PREVIEW DOES NOT REFUSE ALWAYS: of a cut that is no arc and in its domain, on a stock that is not refused, with room for a change in every cell, it answers.
-pub preview-accepts : (spec : TurnStockSpec) (n : ℕ) (t : Tool) (cs : List Float) (room : ℕ) → stockOf spec cs ≡ answers n → n ≤ room → toolGood t ≡ true → previewTool spec t cs room ≡ answers (changesTo (actCell (toolAct spec t)) cs n)
+pub preview-accepts : (spec : TurnStockSpec) (n : ℕ) (t : Cutter) (cs : List Float) (room : ℕ) → stockOf spec cs ≡ answers n → n ≤ room → cutterGood t ≡ true → cutterPreview spec t cs room ≡ answers (changesTo (actCell (cutterAct spec t)) cs n)
 preview-accepts = good-accepted
 
-preview-stock : (spec : TurnStockSpec) (t : Tool) (cs : List Float) (room : ℕ) (l : List TurnChange) → previewTool spec t cs room ≡ answers l → (n : ℕ) × (stockOf spec cs ≡ answers n)
-unfolding previewCut previewOf
-preview-stock spec (single u) cs room l e = let a = answered (stockOf spec cs) _ l e in (a .value, a .first)
-preview-stock spec (nose side rn xs) cs room l e = let a = answered (stockOf spec cs) _ l e in (a .value, a .first)
-preview-stock spec (polygon side excess ps) cs room l e = let a = answered (stockOf spec cs) _ l e in (a .value, a .first)
+stock-by : (spec : TurnStockSpec) (t : Tool) (ys cs : List Float) (room : ℕ) (l : List TurnChange) → previewTool spec cs t ys room ≡ answers l → (n : ℕ) × (stockOf spec cs ≡ answers n)
+unfolding previewTool previewCut previewOf
+stock-by spec (Single u) ys cs room l e = let a = answered (stockOf spec cs) _ l e in (a .value, a .first)
+stock-by spec (Nose side rn) ys cs room l e = let a = answered (stockOf spec cs) _ l e in (a .value, a .first)
+stock-by spec (Polygon side excess) ys cs room l e = let a = answered (stockOf spec cs) _ l e in (a .value, a .first)
+
+preview-stock : (spec : TurnStockSpec) (t : Cutter) (cs : List Float) (room : ℕ) (l : List TurnChange) → cutterPreview spec t cs room ≡ answers l → (n : ℕ) × (stockOf spec cs ≡ answers n)
+preview-stock spec t = stock-by spec (t .tool) (t .beside)
 
 -- An accepted preview is of a stock that is not refused, and what it lists are the changes of the cut.
-pub preview-is : (spec : TurnStockSpec) (t : Tool) (cs : List Float) (room : ℕ) (l : List TurnChange) → previewTool spec t cs room ≡ answers l → (n : ℕ) × (stockOf spec cs ≡ answers n) × (l ≡ changesTo (actCell (toolAct spec t)) cs n)
+pub preview-is : (spec : TurnStockSpec) (t : Cutter) (cs : List Float) (room : ℕ) (l : List TurnChange) → cutterPreview spec t cs room ≡ answers l → (n : ℕ) × (stockOf spec cs ≡ answers n) × (l ≡ changesTo (actCell (cutterAct spec t)) cs n)
 preview-is spec t cs room l e =
     let s = preview-stock spec t cs room l e in
-    let k : List TurnChange = changesTo (actCell (toolAct spec t)) cs (s .0) in
+    let k : List TurnChange = changesTo (actCell (cutterAct spec t)) cs (s .0) in
     let p = demanded (leb (length k) room) 6 (answers k) l (sym (tool-rule spec (s .0) t (accepted-good spec t cs room l e) cs room (s .1)) ∙ e) .1 in
     (s .0, s .1, sym (same-answer p))
 
 -- WHAT IT LISTS: the change of each bin whose cell the cut changes, with the cell before and the cell that the cut makes of it, and no other change; by rising index.
-pub preview-lists : (spec : TurnStockSpec) (t : Tool) (cs : List Float) (room : ℕ) (l : List TurnChange) → previewTool spec t cs room ≡ answers l → (n : ℕ) × (stockOf spec cs ≡ answers n) × Lists (actCell (toolAct spec t)) cs n l
+pub preview-lists : (spec : TurnStockSpec) (t : Cutter) (cs : List Float) (room : ℕ) (l : List TurnChange) → cutterPreview spec t cs room ≡ answers l → (n : ℕ) × (stockOf spec cs ≡ answers n) × Lists (actCell (cutterAct spec t)) cs n l
 preview-lists spec t cs room l e =
     let p = preview-is spec t cs room l e in
-    (p .0, p .1, subst (Lists (actCell (toolAct spec t)) cs (p .0)) (sym (p .2)) (changes-list (actCell (toolAct spec t)) cs (p .0)))
+    (p .0, p .1, subst (Lists (actCell (cutterAct spec t)) cs (p .0)) (sym (p .2)) (changes-list (actCell (cutterAct spec t)) cs (p .0)))
 
 -- a proposal that answered with a count: its changes are that many, and they read back from the first records
 record Read (p : Paper (List TurnChange)) (k : ℕ) (is is' : List ℕ) (xs xs' : List Float) : Type 0 where
@@ -104,10 +110,10 @@ read {k} {is} {is'} {xs} {xs'} (answers l) h =
     record { changes = l; answer = refl; count = e; records = (λ j. changesFrom (i j) (x j) (e j)) ∙ read-back l is xs; indices = i; numbers = x }
 
 -- WHAT IT WRITES: a preview that answers `Changes k` leaves k records, and those are the changes of the cut; the rest of the lists is as it was.
-pub preview-writes : (spec : TurnStockSpec) (t : Tool) (cs : List Float) (k : ℕ) (is is' : List ℕ) (xs xs' : List Float) → Proposed (previewTool spec t cs (roomOf (length is) (length xs))) (Changes k) is is' xs xs' → Previews spec t cs k is is' xs xs'
+pub preview-writes : (spec : TurnStockSpec) (t : Cutter) (cs : List Float) (k : ℕ) (is is' : List ℕ) (xs xs' : List Float) → Proposed (cutterPreview spec t cs (roomOf (length is) (length xs))) (Changes k) is is' xs xs' → Previews spec t cs k is is' xs xs'
 preview-writes spec t cs k is is' xs xs' h =
     let room = roomOf (length is) (length xs) in
-    let w = read (previewTool spec t cs room) h in
+    let w = read (cutterPreview spec t cs room) h in
     let p = preview-lists spec t cs room (w .changes) (w .answer) in
     record { bins = p .0; stock = p .1; changes = w .changes; lists = p .2; count = w .count; records = w .records; indices = w .indices; numbers = w .numbers }
 
@@ -145,16 +151,16 @@ commit-call-writes spec cs cs' gen g is xs k a = go (applyOf spec cs gen is xs k
     go (answers m) e b c = let w = commit-writes spec cs gen is xs k m e in (subst (Writes (changesFrom is xs k) cs) (sym c) (w .0), same-answer b ∙ w .1)
 
 -- PREVIEWS ALWAYS COMMIT: what a preview left in the lists, a commit on the same stock accepts while generations last; each cell is then what the cut makes of it.
-pub previews-commit : (spec : TurnStockSpec) (n : ℕ) (t : Tool) → HeldSpec spec → HeldTool t → (cs : List Float) → HeldList cs → stockOf spec cs ≡ answers n
-    → (gen k : ℕ) (is is' : List ℕ) (xs xs' : List Float) → gen < lastGeneration → Proposed (previewTool spec t cs (roomOf (length is) (length xs))) (Changes k) is is' xs xs'
-    → (m : Committed) × (applyOf spec cs gen is' xs' k ≡ answers m) × (m .generation ≡ gen + 1) × ((i : ℕ) → i < n → cellAt (m .cells) i ≡ actCell (toolAct spec t) i (cellAt cs i))
+pub previews-commit : (spec : TurnStockSpec) (n : ℕ) (t : Cutter) → HeldSpec spec → HeldCutter t → (cs : List Float) → HeldList cs → stockOf spec cs ≡ answers n
+    → (gen k : ℕ) (is is' : List ℕ) (xs xs' : List Float) → gen < lastGeneration → Proposed (cutterPreview spec t cs (roomOf (length is) (length xs))) (Changes k) is is' xs xs'
+    → (m : Committed) × (applyOf spec cs gen is' xs' k ≡ answers m) × (m .generation ≡ gen + 1) × ((i : ℕ) → i < n → cellAt (m .cells) i ≡ actCell (cutterAct spec t) i (cellAt cs i))
 previews-commit spec n t hs ht cs hc e gen k is is' xs xs' h p =
     let room = roomOf (length is) (length xs) in
-    let w = read (previewTool spec t cs room) p in
+    let w = read (cutterPreview spec t cs room) p in
     let s = tool-sound spec n hs (stocked spec cs n e .count) t ht (accepted-good spec t cs room (w .changes) (w .answer)) in
     let g = stock-good hs hc e in
-    let f = actCell (toolAct spec t) in
-    (record { cells = putAll cs (changesTo f cs n); generation = gen + 1 }, lent-commits s hs cs hc e gen k is is' xs xs' h p, refl, good-bins g f (act-cuts g (toolAct spec t) (s .plain)))
+    let f = actCell (cutterAct spec t) in
+    (record { cells = putAll cs (changesTo f cs n); generation = gen + 1 }, lent-commits s hs cs hc e gen k is is' xs xs' h p, refl, good-bins g f (act-cuts g (cutterAct spec t) (s .plain)))
 
 -- ---- moves
 

@@ -20,8 +20,8 @@ use Rattle.stock.specs.Spec.{cleanSpec}
 use Rattle.stock.specs.Cell.{cellAt, sameCell, stockOf, putCell}
 use Rattle.stock.proofs.Count.{demanded, and-both, stock-length}
 use Rattle.stock.proofs.Stored.{stored-same, stored-other}
-use Rattle.records.specs.Change.{changeOf, changeAt, changesTo}
-use Rattle.records.proofs.Rising.{rising}
+use Rattle.changes.specs.Change.{changeOf, changeAt, changesTo}
+use Rattle.changes.proofs.Rising.{rising}
 use Rattle.changes.specs.Commit.{passes, eachPasses, risesAfter, rises, passAll, putAll}
 use Rattle.changes.proofs.Passed.{put-length}
 use Rattle.moves.proofs.Answered.{answered}

@@ -22,9 +22,11 @@ use Rattle.stock.specs.Cell.{cellFits, cellsFit, stockOf}
 use Rattle.reach.specs.Reach.{Act, actCell}
 use Rattle.nose.specs.Nose.{segmentsGood, noseAct}
 use Rattle.polygon.specs.Polygon.{polygonGood, polygonAct}
-use Rattle.records.specs.Change.{changesTo, changesFrom}
-use Rattle.records.specs.Change as change
+use Rattle.changes.specs.Change.{changesTo, changesFrom}
+use Rattle.changes.specs.Change as change
 use Rattle.cuts.specs.declared.Cut.{Cut}
+use Rattle.cuts.specs.declared.Tool.{Tool}
+use Rattle.cuts.specs.declared.Tool.the-variants.{Single, Nose, Polygon}
 use Rattle.cuts.specs.Cut.{isArc, cleanCut, cutGood, cutAct}
 use Rattle.changes.specs.Commit.{appliesTo, rises}
 use Rattle.changes.specs.Difference.{otherCell}
@@ -123,6 +125,12 @@ previewNoseAsks spec cs side rn xs room = previewAsks spec cs (segmentsGood rn x
 
 abbrev pub previewPolygonAsks : TurnStockSpec → List Float → TurnSide → Float → List Float → ℕ → List Asked
 previewPolygonAsks spec cs side excess ps room = previewAsks spec cs (polygonGood ps excess) (polygonAct (cleanSpec spec) side excess ps) room
+
+-- of a tool, by its kind
+abbrev pub previewToolAsks : TurnStockSpec → List Float → Tool → List Float → ℕ → List Asked
+previewToolAsks spec cs (Single cut) ys room = previewCutAsks spec cs cut room
+previewToolAsks spec cs (Nose side rn) ys room = previewNoseAsks spec cs side rn ys room
+previewToolAsks spec cs (Polygon side excess) ys room = previewPolygonAsks spec cs side excess ys room
 
 -- ---- changes
 

@@ -15,9 +15,9 @@ use Rattle.stock.specs.declared.TurnCell.{TurnCell}
 use Rattle.stock.specs.declared.TurnChange.{TurnChange}
 use Rattle.stock.specs.Cell.{cellAt, sameCell, stockOf}
 use Rattle.reach.specs.Reach.{actCell}
-use Rattle.records.specs.Change.{changeOf, indicesOf, numbersOf, changesFrom}
-use Rattle.records.proofs.Rising.{RisingTo}
-use Rattle.demands.specs.Tool.{Tool, toolAct}
+use Rattle.changes.specs.Change.{changeOf, indicesOf, numbersOf, changesFrom}
+use Rattle.changes.proofs.Rising.{RisingTo}
+use Rattle.demands.specs.Tool.{Cutter, cutterAct}
 
 -- The root of x is r, a value of binary64, and it is nearer to the exact root than any other value. All are in units of 2 ^ -1074, the least value.
 pub record NearestRoot (x : Float) : Type 0 where
@@ -33,11 +33,11 @@ pub record Lists (f : ℕ → TurnCell → TurnCell) (cs : List Float) (n : ℕ)
   pub rising : RisingTo 0 n (indicesOf l)
 
 -- What a preview that answered `Changes k` left in the lists is', xs': the changes of the cut, k of them, that read back from the first k records; the rest as it was.
-pub record Previews (spec : TurnStockSpec) (t : Tool) (cs : List Float) (k : ℕ) (is is' : List ℕ) (xs xs' : List Float) : Type 0 where
+pub record Previews (spec : TurnStockSpec) (t : Cutter) (cs : List Float) (k : ℕ) (is is' : List ℕ) (xs xs' : List Float) : Type 0 where
   pub bins : ℕ
   pub stock : stockOf spec cs ≡ answers bins
   pub changes : List TurnChange
-  pub lists : Lists (actCell (toolAct spec t)) cs bins changes
+  pub lists : Lists (actCell (cutterAct spec t)) cs bins changes
   pub count : k ≡ length changes
   pub records : changesFrom is' xs' k ≡ changes
   pub indices : is' ≡ over (indicesOf changes) is

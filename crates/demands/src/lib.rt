@@ -22,6 +22,10 @@
 // else, for lo <= hi, the look at all segments in order. Crate `envelope` has the law behind it,
 // once for every order (`narrow-full`).
 //
+// The most that may remain at a height (`proofs/Sees`): what an accepted commit leaves shows nothing
+// there, or a band within the one before. Crate `queries` has what an answer says of the bins that are
+// looked at (`proofs/Sights`).
+//
 // Demand 3, of cuts: below. Of rings (`proofs/Rings`): accepted rings cover the same points in every
 // order, and no two stored rings share one.
 //
@@ -50,5 +54,7 @@
 // `difference-committed` (crate `changes`, `proofs/Becomes`).
 //
 // `proofs/Example` has a job to which this applies, with what it leaves, and a bin that both sides
-// reach, where the order does show. Crate `reach` says in `proofs/Forms` what a cut and the closed
-// form are for each side in least and greatest, and in `proofs/Deepest` what a deepest bound is.
+// reach, where the order does show. `proofs/LeastChord` computes a nose that the rules certify to
+// metal that it does not cut: the demands are about the rules, and this is what the rules say. Crate
+// `reach` says in `proofs/Forms` what a cut and the closed form are for each side in least and
+// greatest, and in `proofs/Deepest` what a deepest bound is.

@@ -1,8 +1,8 @@
 // What in a field is no number.
 ghost use Prim.Native.Nat.{_≤_};
 ghost use lib.ListN.{length};
-use spelled::put_count;
-use spelled::put_text;
+use text::put_count;
+use text::put_text;
 
 // Whether a byte is among those of f.
 pub fn has(f: &[u8], byte: u8) -> bool {

@@ -4,8 +4,8 @@ ghost use lib.ListN.{length};
 use crate::field::has;
 use crate::field::say_count;
 use crate::field::say_field;
-use figures::Number;
-use spelled::put_text;
+use job_words::Number;
+use text::put_text;
 
 // Whether a line begins as notes do elsewhere.
 fn is_comment(s: &[u8]) -> bool {
@@ -52,7 +52,7 @@ fn is_side(f: &[u8]) -> bool {
 }
 
 fn is_number(f: &[u8]) -> bool {
-    match figures::read_number(f) {
+    match job_words::read_number(f) {
         Number::Mm(_) => true,
         Number::NoNumber => false,
     }

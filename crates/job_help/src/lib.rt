@@ -7,10 +7,10 @@ ghost use lib.ListN.{length};
 use job_run::LINE_LIMIT;
 use job_streams::End;
 use job_streams::Ended;
-use spelled::front;
-use spelled::put_count;
-use spelled::put_text;
 use streams::GATHERED;
+use text::front;
+use text::put_count;
+use text::put_text;
 
 mod field;
 mod form;

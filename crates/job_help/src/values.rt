@@ -2,9 +2,9 @@
 ghost use Prim.Native.Nat.{_≤_};
 ghost use lib.ListN.{length};
 use cuts::Cut;
-use spelled::put_text;
+use job_words::Line;
 use stock::TurnStockSpec;
-use words::Line;
+use text::put_text;
 
 fn say_bar(out: &mut [u8], at: usize, s: TurnStockSpec) -> usize
     ensures { λ r. ⌜ r ≤ length (now (out .entry)) ⌝ }
@@ -90,7 +90,7 @@ fn say_cut(out: &mut [u8], at: usize, cut: Cut) -> usize
 pub fn say_values(out: &mut [u8], at: usize, line: &[u8]) -> usize
     ensures { λ r. ⌜ r ≤ length (now (out .entry)) ⌝ }
 {
-    let read = words::read_line(text::part(line, b'\n', 0));
+    let read = job_words::read_line(text::part(line, b'\n', 0));
     match read {
         Line::Bar(spec) => say_bar(out, at, spec),
         Line::Cutting(cut) => say_cut(out, at, cut),

@@ -1,3 +1,5 @@
+pub mod Carrying
+pub mod Made
 pub mod Hands
 pub mod Parts
 pub mod OneFile

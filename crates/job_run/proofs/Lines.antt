@@ -14,15 +14,15 @@ use Rattle.refusals.specs.Number.{numberOf}
 use Rattle.refusals.specs.Paper.{Paper, answers, refuses}
 use Rattle.text.proofs.Chosen.{yes, no}
 use Rattle.stock.proofs.Count.{no-answer, same-answer}
-use Rattle.job_lines.specs.declared.Job.{Job}
-use Rattle.job_lines.specs.declared.Carried.{Carried}
-use Rattle.job_lines.specs.declared.Carried.the-variants as carried
-use Rattle.job_lines.proofs.Carrying.{same-number}
-use Rattle.job_lines.specs.Job.{Stand, fullRoom, jobLine, Carries}
-use Rattle.spelled.specs.Text.{genLine}
-use Rattle.words.specs.Kind.{maxCells}
-use Rattle.answer.specs.Answer.{cellAt, ringAt, linesTo, answerOf}
-use Rattle.answer.proofs.Nth.{lines-length}
+use Rattle.job_run.specs.declared.line.Job.{Job}
+use Rattle.job_run.specs.declared.line.Carried.{Carried}
+use Rattle.job_run.specs.declared.line.Carried.the-variants as carried
+use Rattle.job_run.proofs.Carrying.{same-number}
+use Rattle.job_run.specs.Job.{Stand, fullRoom, jobLine, Carries}
+use Rattle.job_answer.specs.Lines.{genLine}
+use Rattle.job_words.specs.Kind.{maxCells}
+use Rattle.job_answer.specs.Answer.{cellLineAt, ringLineAt, linesTo, answerOf}
+use Rattle.job_answer.proofs.Nth.{lines-length}
 use Rattle.job_run.specs.declared.Run.{Run}
 use Rattle.job_run.specs.Run.{State, state, next, refusedWith, refusing, answered, onLine, onLong, hold, byteOn, finishOf, outputOf, maxRings, mostLines}
 
@@ -121,9 +121,9 @@ output-most r cs rs hc hr = by (eqb (r .refused) 0) refl
           hr,
           length-take (4 * r .job .cells) cs,
           length-take (4 * r .job .rings) rs,
-          length-append (linesTo (cellAt xs) (length xs / 4)) (linesTo (ringAt ys) (length ys / 4) ++ (genLine (r .job .generation) ∷ [])),
-          length-append (linesTo (ringAt ys) (length ys / 4)) (genLine (r .job .generation) ∷ []),
-          lines-length (cellAt xs) (length xs / 4),
-          lines-length (ringAt ys) (length ys / 4),
+          length-append (linesTo (cellLineAt xs) (length xs / 4)) (linesTo (ringLineAt ys) (length ys / 4) ++ (genLine (r .job .generation) ∷ [])),
+          length-append (linesTo (ringLineAt ys) (length ys / 4)) (genLine (r .job .generation) ∷ []),
+          lines-length (cellLineAt xs) (length xs / 4),
+          lines-length (ringLineAt ys) (length ys / 4),
         ))
     by false e = simp (e, no) (omega arith)

@@ -14,9 +14,9 @@ use Rattle.refusals.specs.Paper.{Paper, answers, refuses}
 use Rattle.refusals.specs.Lent.{Lent}
 use Rattle.floats.specs.Pick.{pick}
 use Rattle.floats.specs.Numbers.{zero64}
-use Rattle.words.specs.Kind.{maxCells}
-use Rattle.job_lines.specs.Job.{Stand, lineLimit, fullRoom, jobLine}
-use Rattle.answer.specs.Answer.{answerOf}
+use Rattle.job_words.specs.Kind.{maxCells}
+use Rattle.job_run.specs.Job.{Stand, lineLimit, fullRoom, jobLine}
+use Rattle.job_answer.specs.Answer.{answerOf}
 use Rattle.job_run.specs.declared.Run.{Run}
 use Rattle.job_run.specs.declared.Taken.{Taken}
 use Rattle.job_run.specs.File.{overPieces, piecesOf}
@@ -99,11 +99,17 @@ pub record JobRoom (cs rs : List Float) (l : List ℕ) : Type 0 where
   pub line : length l ≡ lineLimit
 
 -- a run as a call finds it in lent memory, and as it leaves it
+abbrev pub stateFound : Run → Lent Float → Lent Float → State
+stateFound r cells rings = state r (now (cells .entry)) (now (rings .entry))
+
+abbrev pub stateLeft : Run → Lent Float → Lent Float → State
+stateLeft r cells rings = state r (now (cells .exit)) (now (rings .exit))
+
 abbrev pub asFound : Run → ℕ → Lent Float → Lent Float → Lent ℕ → Hold
-asFound r n cells rings line = hold (state r (now (cells .entry)) (now (rings .entry))) (now (line .entry)) n
+asFound r n cells rings line = hold (stateFound r cells rings) (now (line .entry)) n
 
 abbrev pub asLeft : Run → ℕ → Lent Float → Lent Float → Lent ℕ → Hold
-asLeft r n cells rings line = hold (state r (now (cells .exit)) (now (rings .exit))) (now (line .exit)) n
+asLeft r n cells rings line = hold (stateLeft r cells rings) (now (line .exit)) n
 
 -- bytes taken by a run, in the room that a job has
 pub record TakesPart (run : Run) (len : ℕ) (cells rings : Lent Float) (line : Lent ℕ) (bytes : List ℕ) (r : Taken) : Type 0 where

@@ -2,28 +2,36 @@
 //
 // Lines are carried out one by one, to the first refusal. Only the unfinished line is held over, in
 // lent memory with room for it, so that a job has no size limit.
+mod line;
+
+pub use line::Carried;
+pub use line::INDICES;
+pub use line::Job;
+pub use line::LINE_LIMIT;
+pub use line::NUMBERS;
+pub use line::carry_out;
 ghost use mathlib.Core.Path.{_≡_};
 ghost use mathlib.Core.List.{[], foldl};
 ghost use Prim.Native.Nat.{_*_, _≤_};
 ghost use lib.ListN.{length, take, set, getD};
-ghost use Rattle.job_lines.specs.Job.{Full};
-ghost use Rattle.spelled.specs.Wrote.{Wrote};
-ghost use Rattle.job_run.specs.Run.{state, freshRun, refusing, onLine, byteOn, finishOf, outputOf, mostLines, asFound, asLeft, TakesPart};
-use job_lines::Carried;
-use job_lines::INDICES;
-use job_lines::Job;
-pub use job_lines::LINE_LIMIT;
-use job_lines::NUMBERS;
+ghost use Rattle.job_run.specs.Job.{Full};
+ghost use Rattle.text.specs.Wrote.{WritesLine};
+ghost use Rattle.job_run.specs.Run.{freshRun, refusing, onLine, byteOn, finishOf, outputOf, mostLines, stateFound, stateLeft, asFound, asLeft, TakesPart};
+use job_words::MAX_CELLS;
 use refusals::Refusal;
 use stock::TurnStockSpec;
+use text::LINE_ROOM;
 
-// The room of a job: four numbers for each of 512 cells, and for each of 64 rings.
-pub const CELL_NUMBERS: usize = 2048;
+// A job has so many rings at most.
+pub const MAX_RINGS: usize = 64;
 
-pub const RING_NUMBERS: usize = 256;
+// The room of a job: four numbers for each of its cells, and for each of its rings.
+pub const CELL_NUMBERS: usize = 4 * MAX_CELLS;
+
+pub const RING_NUMBERS: usize = 4 * MAX_RINGS;
 
 // So many lines an answer has at most: those of the cells, of the rings, and the generation.
-pub const ANSWER_LINES: usize = 577;
+pub const ANSWER_LINES: usize = MAX_CELLS + MAX_RINGS + 1;
 
 // A job, how many of its lines were taken, and the number that refused the last of them, or 0.
 pub struct Run {
@@ -84,10 +92,10 @@ fn on_line(
     numbers: &mut [f64],
 ) -> Run
     requires { ⌜ Full (now indices) (now numbers) ⌝ }
-    ensures { λ r. ⌜ state r (now (cells .exit)) (now (rings .exit)) ≡ onLine (state run (now (cells .entry)) (now (rings .entry))) (now (line .entry)) ⌝ }
+    ensures { λ r. ⌜ stateLeft r cells rings ≡ onLine (stateFound run cells rings) (now (line .entry)) ⌝ }
 {
     let job = run.job;
-    let carried = job_lines::carry_out(job, line, cells, rings, indices, numbers);
+    let carried = carry_out(job, line, cells, rings, indices, numbers);
     match carried {
         Carried::Refused(r) => refuse(run, r),
         Carried::Onward(next) => Run {
@@ -227,18 +235,17 @@ fn front(xs: &[f64], n: usize) -> &[f64]
 
 // Puts line k of what a run writes at its end, and answers its length; past the last line, 0.
 pub fn output_line(
-    out: &mut [u8; 128],
+    out: &mut [u8; LINE_ROOM],
     run: Run,
     cells: &[f64; CELL_NUMBERS],
     rings: &[f64; RING_NUMBERS],
     k: usize,
 ) -> usize
-    ensures { λ r. ⌜ Wrote (now (out .entry)) 0 (getD (outputOf (state run (now (cells .entry)) (now (rings .entry)))) k []) (now (out .exit)) r ⌝ }
-    ensures { λ r. ⌜ r ≤ 128 ⌝ }
-    ensures { λ _. ⌜ length (outputOf (state run (now (cells .entry)) (now (rings .entry)))) ≤ mostLines ⌝ }
+    ensures { λ r. ⌜ WritesLine out (getD (outputOf (stateFound run cells rings)) k []) r ⌝ }
+    ensures { λ _. ⌜ length (outputOf (stateFound run cells rings)) ≤ mostLines ⌝ }
 {
     let job = run.job;
-    answer::answer_line(
+    job_answer::answer_line(
         out,
         run.refused,
         run.lines,

@@ -7,7 +7,7 @@ use native.Mathlib.Numerals.{add-one}
 use native.Mathlib.Omega.{arith}
 use lib.ListN.{length, take, drop, getD}
 use lib.Seq.{sets-eq, take-all}
-use Rattle.spelled.specs.Wrote.{Wrote}
+use Rattle.text.specs.Wrote.{Wrote, WroteLine}
 use Rattle.streams.specs.declared.Out.{Out}
 use Rattle.streams.specs.Moves.{Gathers, Puts}
 use Rattle.job_run.specs.File.{joined}
@@ -23,10 +23,10 @@ pub wrote-front : {l t m : List ℕ} {j : ℕ} → length t ≤ length l → Wro
 wrote-front {l} {t} {m} {j} h w = let k : j ≡ length t = omega (arith, w .end) in rw (k, w .text, sets-eq t l 0 (omega (arith, h))) (take-front t (drop (0 + length t) l))
 
 -- the bytes of a line put behind what is gathered
-pub put-line : {ls : List (List ℕ)} {k j : ℕ} {out r : Out} {buf buf' l m : List ℕ} → length ls ≤ mostLines → j ≤ length l → Wrote l 0 (getD ls k []) m j → Puts out buf (take j m) r buf' → PutsLine ls k out buf r buf'
+pub put-line : {ls : List (List ℕ)} {k j : ℕ} {out r : Out} {buf buf' l m : List ℕ} → length ls ≤ mostLines → j ≤ length l → WroteLine l (getD ls k []) m j → Puts out buf (take j m) r buf' → PutsLine ls k out buf r buf'
 put-line {ls} {k} {j} {out} {r} {buf} {buf'} most h w p = record {
   most = most;
-  puts = subst (λ (t : List ℕ). Puts out buf t r buf') (wrote-front (omega (arith, h, w .end)) w) p;
+  puts = subst (λ (t : List ℕ). Puts out buf t r buf') (wrote-front (omega (arith, h, w .wrote .end)) (w .wrote)) p;
 }
 
 -- the bytes of one line more

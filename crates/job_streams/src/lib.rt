@@ -17,6 +17,7 @@ use job_run::Run;
 use streams::GATHERED;
 use streams::Got;
 use streams::Out;
+use text::LINE_ROOM;
 
 // How the input ended: behind a whole line or none, or a line was refused before; inside a line; or by
 // a read that failed.
@@ -40,7 +41,7 @@ struct Turn {
 }
 
 // So many bytes are read at a time at most.
-const PART: usize = 65536;
+pub const PART: usize = 65536;
 
 // ---- reading
 
@@ -206,7 +207,7 @@ fn put_line(
 ) -> Out
     ensures { λ r. ⌜ PutsLine (outputOf (state run (now (cells .entry)) (now (rings .entry)))) k out (now (gathered .entry)) r (now (gathered .exit)) ⌝ }
 {
-    let mut line = [0u8; LINE_LIMIT];
+    let mut line = [0u8; LINE_ROOM];
     let end = job_run::output_line(&mut line, run, cells, rings, k);
     streams::put(fd, out, gathered, &line[..end])
 }

@@ -14,7 +14,7 @@ use Rattle.stock.specs.declared.TurnStockSpec.{TurnStockSpec}
 use Rattle.stock.specs.Spec.{cleanSpec}
 use Rattle.stock.specs.Cell.{stockOf}
 use Rattle.stock.proofs.Count.{same-answer, demanded, checked, stocked}
-use Rattle.records.specs.Change.{roomOf, changesFrom}
+use Rattle.changes.specs.Change.{roomOf, changesFrom}
 use Rattle.rings.specs.declared.Ring.{Ring}
 use Rattle.rings.specs.Ring.{covered, filled, clip}
 use Rattle.rings.specs.Points.{Disjoint}

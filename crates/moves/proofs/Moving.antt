@@ -15,7 +15,7 @@ use Rattle.stock.specs.declared.TurnStockSpec.{TurnStockSpec}
 use Rattle.stock.specs.declared.TurnChange.{TurnChange}
 use Rattle.stock.specs.Spec.{cleanSpec}
 use Rattle.stock.specs.Cell.{stockOf}
-use Rattle.records.specs.Change.{roomOf, changesFrom}
+use Rattle.changes.specs.Change.{roomOf, changesFrom}
 use Rattle.rings.specs.declared.Ring.{Ring}
 use Rattle.rings.specs.declared.StoredAs.{StoredAs}
 use Rattle.rings.specs.declared.StoredAs.the-variants as stored

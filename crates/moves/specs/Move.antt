@@ -5,14 +5,16 @@ use Prim.Native.Nat.{ℕ, _+_, _/_}
 use lib.Dec.{leb}
 use lib.ListN.{length}
 use lib.Ieee.{Float}
+use denote.Ref.{now}
 use Rattle.refusals.specs.Number.{numberOf}
 use Rattle.refusals.specs.Paper.{Paper, answers, refuses, demand, onward}
 use Rattle.refusals.specs.Limits.{lastGeneration}
+use Rattle.refusals.specs.Lent.{Lent}
 use Rattle.stock.specs.declared.TurnStockSpec.{TurnStockSpec}
 use Rattle.stock.specs.declared.TurnChange.{TurnChange}
 use Rattle.stock.specs.Spec.{cleanSpec}
 use Rattle.stock.specs.Cell.{stockOf}
-use Rattle.records.specs.Change.{roomOf, changesFrom}
+use Rattle.changes.specs.Change.{roomOf, changesFrom}
 use Rattle.rings.specs.declared.Ring.{Ring}
 use Rattle.rings.specs.Store.{extentOf, ringsOf, storeAs, countFits, ringsGood, raisedBy}
 use Rattle.rings.specs.Remove.{RingCount, removeRings}
@@ -75,6 +77,10 @@ pub record Moves (p : Paper Left) (r : Moved) (cs cs' xs xs' : List Float) : Typ
   pub answer : movedPaper r ≡ countsOf p
   pub cells : cs' ≡ cellsAfter p cs
   pub rings : xs' ≡ ringsAfter p xs
+
+-- of lent cells and rings, at both moments
+abbrev pub MovesLent : Paper Left → Moved → Lent Float → Lent Float → Type 0
+MovesLent p r cells rings = Moves p r (now (cells .entry)) (now (cells .exit)) (now (rings .entry)) (now (rings .exit))
 
 -- ---- a stock from its parts
 

@@ -7,9 +7,9 @@
 // are taken into an empty store, and the generation is 0 again.
 ghost use Prim.Native.Nat.{_≤_};
 ghost use lib.ListN.{length};
-ghost use Rattle.records.specs.Change.{roomOf, changesFrom};
+ghost use Rattle.changes.specs.Change.{roomOf, changesFrom};
 ghost use Rattle.rings.specs.Remove.{StoresAs};
-ghost use Rattle.moves.specs.Move.{moveIn, moveOf, Moves, partsOf};
+ghost use Rattle.moves.specs.Move.{moveIn, moveOf, MovesLent, partsOf};
 use changes::Passing;
 use refusals::LAST_GENERATION;
 use refusals::Refusal;
@@ -33,12 +33,16 @@ fn move_in(
     count: usize,
     generation: u64,
     indices: &[usize],
-    numbers: &[f64],
+    records: &[f64],
     k: usize,
     removed: &[f64],
 ) -> Moved
-    requires { ⌜ k ≤ roomOf (length (now indices)) (length (now numbers)) ⌝ }
-    ensures { λ r. ⌜ Moves (moveIn spec n (now (cells .entry)) (now (rings .entry)) count generation (changesFrom (now (indices .entry)) (now (numbers .entry)) k) (now (removed .entry))) r (now (cells .entry)) (now (cells .exit)) (now (rings .entry)) (now (rings .exit)) ⌝ }
+    requires { ⌜ k ≤ roomOf (length (now indices)) (length (now records)) ⌝ }
+    ensures { λ r. ⌜ MovesLent
+        (moveIn spec n (now (cells .entry)) (now (rings .entry)) count generation
+        (changesFrom (now (indices .entry)) (now (records .entry)) k)
+        (now (removed .entry)))
+        r cells rings ⌝ }
 {
     if !rings::rings_fit(spec, rings, count) {
         return Moved::Refused(Refusal::StoredRings);
@@ -47,7 +51,7 @@ fn move_in(
         return Moved::Refused(Refusal::RingOutside);
     }
     let s = stock::clean_spec(spec);
-    let found = changes::first_refusal(s, n, cells, indices, numbers, k);
+    let found = changes::first_refusal(s, n, cells, indices, records, k);
     if let Passing::Refused(r) = found {
         return Moved::Refused(r);
     }
@@ -59,7 +63,7 @@ fn move_in(
     match stored {
         StoredAs::Refused(r) => Moved::Refused(r),
         StoredAs::Rings(m) => {
-            changes::put_after(cells, indices, numbers, k);
+            changes::put_after(cells, indices, records, k);
             Moved::Stored(m, generation + 1 + raised)
         }
     }
@@ -74,17 +78,17 @@ pub fn apply_move(
     count: usize,
     generation: u64,
     indices: &[usize],
-    numbers: &[f64],
+    records: &[f64],
     k: usize,
     removed: &[f64],
 ) -> Moved
-    ensures { λ r. ⌜ Moves (moveOf spec (now (cells .entry)) (now (rings .entry)) count generation (now (indices .entry)) (now (numbers .entry)) k (now (removed .entry))) r (now (cells .entry)) (now (cells .exit)) (now (rings .entry)) (now (rings .exit)) ⌝ }
+    ensures { λ r. ⌜ MovesLent (moveOf spec (now (cells .entry)) (now (rings .entry)) count generation (now (indices .entry)) (now (records .entry)) k (now (removed .entry))) r cells rings ⌝ }
 {
     let counted = stock::cells_fit(spec, cells);
     match counted {
         Counted::Refused(r) => Moved::Refused(r),
         Counted::Cells(n) => {
-            if records::room(indices.len(), numbers.len()) < k {
+            if changes::room(indices.len(), records.len()) < k {
                 return Moved::Refused(Refusal::ChangesOverRoom);
             }
             move_in(
@@ -95,7 +99,7 @@ pub fn apply_move(
                 count,
                 generation,
                 indices,
-                numbers,
+                records,
                 k,
                 removed,
             )

@@ -28,7 +28,7 @@ use Rattle.nose.specs.declared.Segment.{Segment}
 use Rattle.nose.specs.declared.Track.{Track}
 use Rattle.nose.specs.Capsule.{endAt, lineAt, sideAt, normalOf, capsuleMinR}
 use Rattle.nose.specs.Nose.{segmentAt, segmentCount, lowWith, highWith, withSegment, noseTo, noseReach, noseAct}
-use Rattle.nose.specs.Track.{normalHeld, wayOf, endOn, sideOn, wayAt, alikeOf, trackOf, sampleAt, stepOf, withTrack}
+use Rattle.nose.specs.Track.{normalHeld, capsuleOf, endOn, sideOn, capsuleAt, alikeOf, trackOf, sampleAt, stepOf, withTrack}
 
 -- ---- a capsule
 -- the lower of a radius and none is the radius
@@ -49,15 +49,15 @@ unfolding upperOf
 none-upper b = refl
 
 -- with a normal or with none
-way-by : (a b : Point) (rn c : Float) (n : Option Point) → wayAt (wayOf a b (normalHeld n) rn) c ≡ lowerOf (lowerOf (endAt a rn c) (endAt b rn c)) (sideAt a b rn c n)
-unfolding wayAt wayOf endOn sideOn endAt lineAt sideAt pick
-way-by a b rn c none = sym (lower-none _)
-way-by a b rn c (some n) = refl
+capsule-by : (a b : Point) (rn c : Float) (n : Option Point) → capsuleAt (capsuleOf a b (normalHeld n) rn) c ≡ lowerOf (lowerOf (endAt a rn c) (endAt b rn c)) (sideAt a b rn c n)
+unfolding capsuleAt capsuleOf endOn sideOn endAt lineAt sideAt pick
+capsule-by a b rn c none = sym (lower-none _)
+capsule-by a b rn c (some n) = refl
 
--- a way says what its capsule says
-pub way-is : (a b : Point) (rn c : Float) → wayAt (wayOf a b (normalHeld (normalOf a b)) rn) c ≡ capsuleMinR a b rn c
+-- it says what the capsule of its two ends says
+pub capsule-is : (a b : Point) (rn c : Float) → capsuleAt (capsuleOf a b (normalHeld (normalOf a b)) rn) c ≡ capsuleMinR a b rn c
 unfolding capsuleMinR
-way-is a b rn c = way-by a b rn c (normalOf a b)
+capsule-is a b rn c = capsule-by a b rn c (normalOf a b)
 
 -- ---- a number that is no zero is written in one way
 -- a test that is true holds
@@ -133,7 +133,7 @@ highs high s rn bin =
 -- a track says what its segment says
 pub by-track : (acc : Found) (s : Segment) (rn : Float) (bin : ZRange) → withTrack acc (trackOf s rn) bin ≡ withSegment acc s rn bin
 unfolding withTrack trackOf withSegment sampleAt stepOf lowWith shrunkAt
-by-track acc s rn bin = simp (way-is, highs (acc .high) s rn bin)
+by-track acc s rn bin = simp (capsule-is, highs (acc .high) s rn bin)
 
 -- one segment more, by its track
 pub nose-more : (side : TurnSide) (rn : Float) (xs : List Float) (bin : ZRange) (k : ℕ) → noseTo side rn xs bin (k + 1) ≡ withTrack (noseTo side rn xs bin k) (trackOf (segmentAt xs k side) rn) bin

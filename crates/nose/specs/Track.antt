@@ -10,7 +10,7 @@ use Rattle.reach.specs.Low.{Found, lowPaper, lowerOf, upperOf}
 use Rattle.nose.specs.declared.Point.{Point}
 use Rattle.nose.specs.declared.Segment.{Segment}
 use Rattle.nose.specs.declared.Normal.{Normal}
-use Rattle.nose.specs.declared.Way.{Way}
+use Rattle.nose.specs.declared.Capsule.{Capsule}
 use Rattle.nose.specs.declared.Track.{Track}
 use Rattle.nose.specs.declared.Sample.{Sample}
 use Rattle.nose.specs.Capsule.{pt, onLine, lessRoot, shifted, normalOf, capsuleLowest}
@@ -27,8 +27,8 @@ normalHeld none = noNormal
 normalHeld (some n) = record { long = true; n = n }
 
 -- what no line changes: the radius and its square, and of the straight side its start p, how far it goes on, and its lesser end
-unfoldable pub wayOf : Point → Point → Normal → Float → Way
-wayOf a b normal rn =
+unfoldable pub capsuleOf : Point → Point → Normal → Float → Capsule
+capsuleOf a b normal rn =
     let p = shifted a rn (normal .n) in
     let q = shifted b rn (normal .n) in
     record {
@@ -51,7 +51,7 @@ endOn p rn rr c =
     pick (le (sizeOf dz) rn) (lessRoot (p .r) (rootOf (greatestOf (rr -₆₄ dz *₆₄ dz) zero64))) none
 
 -- the straight side, on the line z = c
-unfoldable pub sideOn : Way → Float → Option Float
+unfoldable pub sideOn : Capsule → Float → Option Float
 sideOn w c =
     let t = (c -₆₄ w .p .z) /₆₄ w .dz in
     pick (w .sloped)
@@ -59,8 +59,8 @@ sideOn w c =
     (pick (le (sizeOf (w .p .z -₆₄ c)) onLine) (some (w .lowest)) none)
 
 -- the capsule, on the line z = c
-unfoldable pub wayAt : Way → Float → Option Float
-wayAt w c =
+unfoldable pub capsuleAt : Capsule → Float → Option Float
+capsuleAt w c =
     let ends = lowerOf (endOn (w .a) (w .rn) (w .rr) c) (endOn (w .b) (w .rn) (w .rr) c) in
     pick (w .long) (lowerOf ends (sideOn w c)) ends
 
@@ -76,8 +76,8 @@ trackOf s rn =
     let g = rn +₆₄ s .sag in
     let h = rn -₆₄ s .sag in
     record {
-      grown = wayOf (s .a) (s .b) normal g;
-      shrunk = wayOf (s .a) (s .b) normal h;
+      grown = capsuleOf (s .a) (s .b) normal g;
+      shrunk = capsuleOf (s .a) (s .b) normal h;
       same = lt rn (s .sag) || alikeOf g h;
       shy = lt rn (s .sag);
       low = capsuleLowest (s .a) (s .b) g;
@@ -96,7 +96,7 @@ samplePaper s = record { grown = lowPaper (s .grown); shrunk = lowPaper (s .shru
 
 -- a track on the line z = c; where the sag is more than rn, nothing asks for the shrunk capsule
 unfoldable pub sampleAt : Track → Float → Samples
-sampleAt t c = record { grown = wayAt (t .grown) c; shrunk = pick (t .same) (wayAt (t .grown) c) (wayAt (t .shrunk) c) }
+sampleAt t c = record { grown = capsuleAt (t .grown) c; shrunk = pick (t .same) (capsuleAt (t .grown) c) (capsuleAt (t .shrunk) c) }
 
 -- ---- a bin
 -- one segment more, by its samples at the ends of the bin

@@ -16,7 +16,7 @@ ghost use lib.ListN.{length};
 ghost use Rattle.reach.specs.Low.{lowPaper, sweptPaper};
 ghost use Rattle.nose.specs.Capsule.{facing, shifted, normalOf, leastPoint, capsuleLowest};
 ghost use Rattle.nose.specs.Nose.{cleanAt, segmentAt, noSegment, segmentGood, goodTo, segmentsGood, inBin};
-ghost use Rattle.nose.specs.Track.{noNormal, normalHeld, wayOf, endOn, sideOn, wayAt, alikeOf, trackOf, samplePaper, sampleAt, stepOf};
+ghost use Rattle.nose.specs.Track.{noNormal, normalHeld, capsuleOf, endOn, sideOn, capsuleAt, alikeOf, trackOf, samplePaper, sampleAt, stepOf};
 use numbers::Rooted;
 use reach::Low;
 use reach::Swept;
@@ -185,7 +185,7 @@ fn normal_of(a: Point, b: Point) -> Normal
 
 // What of a capsule of one radius no line changes: the radius and its square, the straight side
 // from p on, by how much it goes on, and its lesser end.
-pub struct Way {
+pub struct Capsule {
     pub a: Point,
     pub b: Point,
     pub rn: f64,
@@ -199,13 +199,13 @@ pub struct Way {
 }
 
 // The capsule about a segment with this normal.
-fn way_of(a: Point, b: Point, normal: Normal, rn: f64) -> Way
-    ensures { λ r. ⌜ r ≡ wayOf a b normal rn ⌝ }
+fn capsule_of(a: Point, b: Point, normal: Normal, rn: f64) -> Capsule
+    ensures { λ r. ⌜ r ≡ capsuleOf a b normal rn ⌝ }
 {
     let n = normal.n;
     let p = shifted(a, rn, n);
     let q = shifted(b, rn, n);
-    Way {
+    Capsule {
         a,
         b,
         rn,
@@ -235,7 +235,7 @@ fn end_on(p: Point, rn: f64, rr: f64, c: f64) -> Low
 }
 
 // The straight side, on the line z = c.
-fn side_on(w: Way, c: f64) -> Low
+fn side_on(w: Capsule, c: f64) -> Low
     ensures { λ r. ⌜ lowPaper r ≡ sideOn w c ⌝ }
 {
     if w.sloped {
@@ -252,8 +252,8 @@ fn side_on(w: Way, c: f64) -> Low
 }
 
 // The capsule, on the line z = c.
-fn way_at(w: Way, c: f64) -> Low
-    ensures { λ r. ⌜ lowPaper r ≡ wayAt w c ⌝ }
+fn capsule_at(w: Capsule, c: f64) -> Low
+    ensures { λ r. ⌜ lowPaper r ≡ capsuleAt w c ⌝ }
 {
     let ends = reach::lower(end_on(w.a, w.rn, w.rr, c), end_on(w.b, w.rn, w.rr, c));
     if w.long {
@@ -300,8 +300,8 @@ fn capsule_lowest(a: Point, b: Point, rn: f64) -> Point
 // be looked at or is the first (same), whether the sag is more than the nose (shy), the grown
 // capsule's lowest point, and the z from which and to which it reaches.
 pub struct Track {
-    pub grown: Way,
-    pub shrunk: Way,
+    pub grown: Capsule,
+    pub shrunk: Capsule,
     pub same: bool,
     pub shy: bool,
     pub low: Point,
@@ -318,8 +318,8 @@ pub fn track_of(s: Segment, rn: f64) -> Track
     let normal = normal_of(a, b);
     let g = rn + s.sag;
     let h = rn - s.sag;
-    let grown = way_of(a, b, normal, g);
-    let shrunk = way_of(a, b, normal, h);
+    let grown = capsule_of(a, b, normal, g);
+    let shrunk = capsule_of(a, b, normal, h);
     let low = capsule_lowest(a, b, g);
     let from = floats::least(a.z, b.z) - g;
     let to = floats::greatest(a.z, b.z) + g;
@@ -345,14 +345,14 @@ pub struct Sample {
 pub fn sampled(t: Track, c: f64) -> Sample
     ensures { λ r. ⌜ samplePaper r ≡ sampleAt t c ⌝ }
 {
-    let grown = way_at(t.grown, c);
+    let grown = capsule_at(t.grown, c);
     if t.same {
         return Sample {
             grown,
             shrunk: grown,
         };
     }
-    let shrunk = way_at(t.shrunk, c);
+    let shrunk = capsule_at(t.shrunk, c);
     Sample { grown, shrunk }
 }
 // A point's radius, where the point lies in the bin.

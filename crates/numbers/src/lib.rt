@@ -1,11 +1,12 @@
-// Root, length, whole part: what the Rust takes from the C library, worked out here.
+// Root, length, whole part: what the Rust takes from the C library, worked out here; and the lesser
+// and the greater of two counts.
 //
 // The root is decided over whole numbers. Floats guess it, and nothing is promised of the guess: a
 // test over whole numbers says whether it is the nearest. Where the test does not say so, the root is
 // taken one binary digit at a time. Its definition speaks of squares of whole numbers alone, and of
 // all values of f64 the answer is the nearest one.
 ghost use mathlib.Core.Path.{_≡_};
-ghost use Prim.Native.Nat.{_*_, _^_, _<_, _≤_};
+ghost use Prim.Native.Nat.{_*_, _^_, _<_, _≤_, min, max};
 ghost use mathlib.Core.Bool.{true};
 ghost use Rattle.numbers.specs.Root.{rootOf, rootedPaper};
 ghost use Rattle.numbers.specs.RootBits.{nearestRoot, alignedRoot, Pattern};
@@ -191,4 +192,16 @@ pub fn whole_up(q: f64, limit: u64) -> Whole
         return Whole::Of(t);
     }
     Whole::Over
+}
+
+pub fn lesser(a: usize, b: usize) -> usize
+    ensures { λ r. ⌜ r ≡ min a b ⌝ }
+{
+    if a < b { a } else { b }
+}
+
+pub fn greater(a: usize, b: usize) -> usize
+    ensures { λ r. ⌜ r ≡ max a b ⌝ }
+{
+    if a < b { b } else { a }
 }

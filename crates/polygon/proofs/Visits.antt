@@ -8,16 +8,16 @@ use lib.Ieee.{Float}
 use borrow.Author.Tests.{leb-true, leb-false, le-leb, lt-leb, lt-ltb, le-ltb}
 use Rattle.floats.specs.Pick.{pick}
 use Rattle.stock.specs.declared.TurnStockSpec.{TurnStockSpec}
-use Rattle.polygon.specs.declared.Bins.{Bins}
+use Rattle.stock.specs.declared.BinRange.{BinRange}
 use Rattle.polygon.specs.Polygon.{indexOf, beside, spans, noBins, pastOf, binsFrom, binsOf}
 
 -- a range of n bins
-pub record Range (n : ℕ) (b : Bins) : Type 0 where
+pub record Range (n : ℕ) (b : BinRange) : Type 0 where
   pub ordered : b .from ≤ b .to
   pub few : b .to ≤ n
 
 -- bin i is in the range
-abbrev pub In : ℕ → Bins → Bool
+abbrev pub In : ℕ → BinRange → Bool
 In i b = leb (b .from) i && ltb i (b .to)
 
 and-none : (b : Bool) → (b && false) ≡ false

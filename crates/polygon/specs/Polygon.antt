@@ -23,7 +23,7 @@ use Rattle.reach.specs.Reach.{Reached, passed, flipped, reachFrom, Act}
 use Rattle.polygon.specs.declared.Point.{Point}
 use Rattle.polygon.specs.declared.Extent.{Extent}
 use Rattle.polygon.specs.declared.Extent.the-variants.{Over, Nothing}
-use Rattle.polygon.specs.declared.Bins.{Bins}
+use Rattle.stock.specs.declared.BinRange.{BinRange}
 
 -- ---- refusal 5
 
@@ -112,15 +112,15 @@ unfoldable pub pastOf : ℕ → ℕ → ℕ
 pastOf last n = min (last + 1) n
 
 -- no bins
-abbrev pub noBins : Bins
+abbrev pub noBins : BinRange
 noBins = record { from = 0; to = 0 }
 
 -- from the first to before `past`; none where the first is not below it
-unfoldable pub binsFrom : ℕ → ℕ → Bins
+unfoldable pub binsFrom : ℕ → ℕ → BinRange
 binsFrom first past = pick (leb past first) noBins (record { from = first; to = past })
 
 -- of n bins, those that are visited
-unfoldable pub binsOf : TurnStockSpec → Float → Float → ℕ → Bins
+unfoldable pub binsOf : TurnStockSpec → Float → Float → ℕ → BinRange
 binsOf s lo hi n = pick (beside s lo hi) noBins (binsFrom (indexOf s lo) (pastOf (indexOf s hi) n))
 
 -- ---- what a bin gets

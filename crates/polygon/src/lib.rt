@@ -13,6 +13,7 @@ ghost use Rattle.polygon.specs.Polygon.{heightAt, pointAt, besideOf, edg
 use reach::Low;
 use reach::Swept;
 use refusals::POINT_LIMIT;
+use stock::BinRange;
 use stock::TurnSide;
 use stock::TurnStockSpec;
 use stock::ZRange;
@@ -21,12 +22,6 @@ use stock::ZRange;
 pub enum Extent {
     Over(f64, f64),
     Nothing,
-}
-
-// The bins from one index to before another.
-pub struct Bins {
-    pub from: usize,
-    pub to: usize,
 }
 
 // A point, its radius negated for the inside.
@@ -140,19 +135,19 @@ fn past_of(last: usize, n: usize) -> usize
 
 // The bins that a polygon from lo to hi may reach, in a spec whose numbers are checked. The first
 // is not brought down to n - 1: a polygon may start behind the last bin.
-pub fn index_range(s: TurnStockSpec, lo: f64, hi: f64, n: usize) -> Bins
+pub fn index_range(s: TurnStockSpec, lo: f64, hi: f64, n: usize) -> BinRange
     ensures { λ r. ⌜ r ≡ binsOf s lo hi n ⌝ }
 {
     if (hi < s.z_min_mm) | (s.z_max_mm < lo) {
-        return Bins { from: 0, to: 0 };
+        return BinRange { from: 0, to: 0 };
     }
     let first = numbers::whole_part((lo - s.z_min_mm) / s.cell_mm) as usize;
     let last = numbers::whole_part((hi - s.z_min_mm) / s.cell_mm) as usize;
     let past = past_of(last, n);
     if past <= first {
-        return Bins { from: 0, to: 0 };
+        return BinRange { from: 0, to: 0 };
     }
-    Bins {
+    BinRange {
         from: first,
         to: past,
     }

@@ -43,7 +43,7 @@ pub lt-le : (x y : Float) → T (lt x y) → T (le x y)
 unfolding le
 lt-le x y t = or-l (lt x y) (eq x y) t
 
-eq-le : (x y : Float) → T (eq x y) → T (le x y)
+pub eq-le : (x y : Float) → T (eq x y) → T (le x y)
 unfolding le
 eq-le x y t = or-r (lt x y) (eq x y) t
 

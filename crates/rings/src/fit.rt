@@ -66,15 +66,6 @@ fn apart_block(rings: &[f64], from: usize, to: usize, b: Ring, k: Ring, before: 
     lent::apart_on(rings, from, to, k, before)
 }
 
-fn lesser(a: usize, b: usize) -> usize
-    ensures { λ r. ⌜ r ≡ min a b ⌝ }
-{
-    if a < b {
-        return a;
-    }
-    b
-}
-
 // As `apart_from`, block by block.
 fn apart_blocks(rings: &[f64], n: usize, boxes: &[f64], k: Ring) -> bool
     requires { ⌜ (4 * n ≤ length (now rings)) × (n ≤ 256) × (length (now boxes) ≡ 64) ⌝ }
@@ -84,7 +75,7 @@ fn apart_blocks(rings: &[f64], n: usize, boxes: &[f64], k: Ring) -> bool
     let mut at: usize = 0;
     while BLOCK * at < n {
         let from = BLOCK * at;
-        let to = lesser(from + BLOCK, n);
+        let to = numbers::lesser(from + BLOCK, n);
         ok = apart_block(rings, from, to, lent::ring_at(boxes, at), k, ok);
         at += 1;
     }

@@ -19,13 +19,14 @@ use Rattle.nose.specs.Capsule.{endAt, facing, normalOf, shifted, lineAt, sideAt
 use Rattle.nose.specs.Nose.{cleanAt, segmentAt, segmentGood, goodTo, segmentsGood, inBin, lowWith, highWith, withSegment, noseTo, noseReach, noseAct}
 use Rattle.polygon.specs.Polygon as Polygon
 use Rattle.polygon.specs.Polygon.{usableTo, polygonGood, heightAt, pointAt, alongOf, edgeAt, lowestTo, lowestOf, widened, extentTo, extentOf, spans, pastOf, binsFrom, binsOf, lowsTo, lowsFrom, highFrom, lowIn, highIn, sweptReach, reachOver, polygonReach, polygonAct}
-use Rattle.records.specs.Change.{changeAt, changesTo}
+use Rattle.changes.specs.Change.{changeAt, changesTo}
 use Rattle.rings.specs.Ring.{kept, around, split, subtract, subtractAll, inHand, clip, left}
 use Rattle.rings.specs.Store.{ringsOf, flatOf, storeAs, ringFits, apartAll, storeFits, countFits}
 use Rattle.rings.specs.Remove.{roomFor, added, raised, removeIn, removeRing}
 use Rattle.queries.specs.Envelope.{shownOf, seenAt, envelopeAt}
 use Rattle.cuts.specs.Cut.{misses, drillAt, threadReach, drillReach, cutReach, cutGood, cleanCut}
 use Rattle.cuts.specs.Preview.{previewOf, previewCut}
+use Rattle.cuts.specs.Tool.{previewTool}
 use Rattle.changes.specs.Commit.{appliesTo, passes, eachPasses, risesAfter, rises, passAll, commitIn, commitOf}
 use Rattle.demands.specs.Job.{turned, turnedAll}
 use Rattle.sample_wheel.specs.Wheel.{newBar, afterCuts, takeRing, afterRings, answerOf}
@@ -42,17 +43,17 @@ roots = (refl, (refl, tt))
 
 -- a nose
 noses : Each Holds (P3 ∷ P4 ∷ P5 ∷ [])
-unfolding demand onward pick leastOf greatestOf sizeOf minusZero cleanOf rootBelow wholeRoot rootIn rootOf wholeUp cleanSpec specGood cellsOf binOf putCell cellFits fitTo cellsFit stockOf cellsLike deeper shallower deepOf sureOf limitOf withPair ownOf cutBy cutCell changeAt changesTo appliesTo passes eachPasses risesAfter rises passAll commitIn commitOf turned turnedAll newBar afterCuts answerOf previewOf previewCut lengthOf lowerOf upperOf flipped storedOf reachFrom endAt facing normalOf shifted lineAt sideAt capsuleMinR leastPoint capsuleLowest cleanAt segmentAt segmentGood goodTo segmentsGood inBin lowWith highWith withSegment noseTo noseReach noseAct Ieee.ofBits Ieee.ofFields Ieee.odd Ieee.eq Ieee.ne Ieee.lt Ieee.le Ieee.div Ieee.sub Ieee.add Ieee.mul Ieee.neg Ieee.sum Ieee.round Ieee.units Ieee.ofInt Ieee.size Ieee.span Ieee.climb Ieee.toUnsigned
+unfolding demand onward pick leastOf greatestOf sizeOf minusZero cleanOf rootBelow wholeRoot rootIn rootOf wholeUp cleanSpec specGood cellsOf binOf putCell cellFits fitTo cellsFit stockOf cellsLike deeper shallower deepOf sureOf limitOf withPair ownOf cutBy cutCell changeAt changesTo appliesTo passes eachPasses risesAfter rises passAll commitIn commitOf turned turnedAll newBar afterCuts answerOf previewOf previewTool previewCut lengthOf lowerOf upperOf flipped storedOf reachFrom endAt facing normalOf shifted lineAt sideAt capsuleMinR leastPoint capsuleLowest cleanAt segmentAt segmentGood goodTo segmentsGood inBin lowWith highWith withSegment noseTo noseReach noseAct Ieee.ofBits Ieee.ofFields Ieee.odd Ieee.eq Ieee.ne Ieee.lt Ieee.le Ieee.div Ieee.sub Ieee.add Ieee.mul Ieee.neg Ieee.sum Ieee.round Ieee.units Ieee.ofInt Ieee.size Ieee.span Ieee.climb Ieee.toUnsigned
 noses = (refl, (refl, (refl, tt)))
 
 -- a thread, a drill, a polygon
 others : Each Holds (P6 ∷ P7 ∷ P8 ∷ [])
-unfolding demand onward pick leastOf greatestOf sizeOf minusZero cleanOf wholeUp cleanSpec specGood cellsOf binOf putCell cellFits fitTo cellsFit stockOf cellsLike deeper shallower deepOf sureOf limitOf withPair ownOf cutBy cutCell changeAt changesTo appliesTo passes eachPasses risesAfter rises passAll commitIn commitOf turned turnedAll newBar afterCuts answerOf previewOf previewCut misses drillAt threadReach drillReach cutReach cutGood cleanCut usableTo polygonGood heightAt pointAt alongOf edgeAt lowestTo lowestOf widened extentTo extentOf spans pastOf binsFrom binsOf lowsTo lowsFrom Polygon.raised highFrom lowIn highIn sweptReach reachOver polygonReach polygonAct lowerOf upperOf flipped storedOf reachFrom Ieee.ofBits Ieee.ofFields Ieee.odd Ieee.eq Ieee.ne Ieee.lt Ieee.le Ieee.div Ieee.sub Ieee.add Ieee.mul Ieee.neg Ieee.sum Ieee.round Ieee.units Ieee.ofInt Ieee.size Ieee.span Ieee.climb Ieee.toUnsigned
+unfolding demand onward pick leastOf greatestOf sizeOf minusZero cleanOf wholeUp cleanSpec specGood cellsOf binOf putCell cellFits fitTo cellsFit stockOf cellsLike deeper shallower deepOf sureOf limitOf withPair ownOf cutBy cutCell changeAt changesTo appliesTo passes eachPasses risesAfter rises passAll commitIn commitOf turned turnedAll newBar afterCuts answerOf previewOf previewTool previewCut misses drillAt threadReach drillReach cutReach cutGood cleanCut usableTo polygonGood heightAt pointAt alongOf edgeAt lowestTo lowestOf widened extentTo extentOf spans pastOf binsFrom binsOf lowsTo lowsFrom Polygon.raised highFrom lowIn highIn sweptReach reachOver polygonReach polygonAct lowerOf upperOf flipped storedOf reachFrom Ieee.ofBits Ieee.ofFields Ieee.odd Ieee.eq Ieee.ne Ieee.lt Ieee.le Ieee.div Ieee.sub Ieee.add Ieee.mul Ieee.neg Ieee.sum Ieee.round Ieee.units Ieee.ofInt Ieee.size Ieee.span Ieee.climb Ieee.toUnsigned
 others = (refl, (refl, (refl, tt)))
 
 -- cuts in two orders
 orders : Each Holds (P9 ∷ P9b ∷ P10 ∷ P10b ∷ [])
-unfolding demand onward pick leastOf greatestOf sizeOf minusZero cleanOf rootBelow wholeRoot rootIn rootOf wholeUp cleanSpec specGood cellsOf binOf putCell cellFits fitTo cellsFit stockOf cellsLike deeper shallower deepOf sureOf limitOf withPair ownOf cutBy cutCell changeAt changesTo appliesTo passes eachPasses risesAfter rises passAll commitIn commitOf turned turnedAll newBar afterCuts answerOf previewOf previewCut lengthOf lowerOf upperOf flipped storedOf reachFrom endAt facing normalOf shifted lineAt sideAt capsuleMinR leastPoint capsuleLowest cleanAt segmentAt segmentGood goodTo segmentsGood inBin lowWith highWith withSegment noseTo noseReach noseAct misses drillAt threadReach drillReach cutReach cutGood cleanCut Ieee.ofBits Ieee.ofFields Ieee.odd Ieee.eq Ieee.ne Ieee.lt Ieee.le Ieee.div Ieee.sub Ieee.add Ieee.mul Ieee.neg Ieee.sum Ieee.round Ieee.units Ieee.ofInt Ieee.size Ieee.span Ieee.climb Ieee.toUnsigned
+unfolding demand onward pick leastOf greatestOf sizeOf minusZero cleanOf rootBelow wholeRoot rootIn rootOf wholeUp cleanSpec specGood cellsOf binOf putCell cellFits fitTo cellsFit stockOf cellsLike deeper shallower deepOf sureOf limitOf withPair ownOf cutBy cutCell changeAt changesTo appliesTo passes eachPasses risesAfter rises passAll commitIn commitOf turned turnedAll newBar afterCuts answerOf previewOf previewTool previewCut lengthOf lowerOf upperOf flipped storedOf reachFrom endAt facing normalOf shifted lineAt sideAt capsuleMinR leastPoint capsuleLowest cleanAt segmentAt segmentGood goodTo segmentsGood inBin lowWith highWith withSegment noseTo noseReach noseAct misses drillAt threadReach drillReach cutReach cutGood cleanCut Ieee.ofBits Ieee.ofFields Ieee.odd Ieee.eq Ieee.ne Ieee.lt Ieee.le Ieee.div Ieee.sub Ieee.add Ieee.mul Ieee.neg Ieee.sum Ieee.round Ieee.units Ieee.ofInt Ieee.size Ieee.span Ieee.climb Ieee.toUnsigned
 orders = (refl, (refl, (refl, (refl, tt))))
 
 -- rings
@@ -62,7 +63,7 @@ rings = (refl, (refl, (refl, tt)))
 
 -- what stands at a height
 heights : Each Holds (P13 ∷ P13b ∷ P13c ∷ [])
-unfolding demand onward pick leastOf greatestOf sizeOf minusZero cleanOf rootBelow wholeRoot rootIn rootOf wholeUp cleanSpec specGood cellsOf binOf putCell cellFits fitTo cellsFit stockOf cellsLike deeper shallower deepOf sureOf limitOf withPair ownOf cutBy cutCell changeAt changesTo appliesTo passes eachPasses risesAfter rises passAll commitIn commitOf turned turnedAll newBar afterCuts answerOf previewOf previewCut lengthOf lowerOf upperOf flipped storedOf reachFrom endAt facing normalOf shifted lineAt sideAt capsuleMinR leastPoint capsuleLowest cleanAt segmentAt segmentGood goodTo segmentsGood inBin lowWith highWith withSegment noseTo noseReach noseAct shownOf seenAt envelopeAt Ieee.ofBits Ieee.ofFields Ieee.odd Ieee.eq Ieee.ne Ieee.lt Ieee.le Ieee.div Ieee.sub Ieee.add Ieee.mul Ieee.neg Ieee.sum Ieee.round Ieee.units Ieee.ofInt Ieee.size Ieee.span Ieee.climb Ieee.toUnsigned
+unfolding demand onward pick leastOf greatestOf sizeOf minusZero cleanOf rootBelow wholeRoot rootIn rootOf wholeUp cleanSpec specGood cellsOf binOf putCell cellFits fitTo cellsFit stockOf cellsLike deeper shallower deepOf sureOf limitOf withPair ownOf cutBy cutCell changeAt changesTo appliesTo passes eachPasses risesAfter rises passAll commitIn commitOf turned turnedAll newBar afterCuts answerOf previewOf previewTool previewCut lengthOf lowerOf upperOf flipped storedOf reachFrom endAt facing normalOf shifted lineAt sideAt capsuleMinR leastPoint capsuleLowest cleanAt segmentAt segmentGood goodTo segmentsGood inBin lowWith highWith withSegment noseTo noseReach noseAct shownOf seenAt envelopeAt Ieee.ofBits Ieee.ofFields Ieee.odd Ieee.eq Ieee.ne Ieee.lt Ieee.le Ieee.div Ieee.sub Ieee.add Ieee.mul Ieee.neg Ieee.sum Ieee.round Ieee.units Ieee.ofInt Ieee.size Ieee.span Ieee.climb Ieee.toUnsigned
 heights = (refl, (refl, (refl, tt)))
 
 -- P1 TO P13: every row holds

@@ -8,7 +8,7 @@ use Rattle.stock.specs.declared.TurnSide.the-variants.{Outer}
 use Rattle.rings.specs.declared.Ring.{Ring}
 use Rattle.rings.specs.Ring.{ring}
 use Rattle.cuts.specs.declared.Cut.the-variants.{Thread, Drill}
-use Rattle.demands.specs.Tool.{Tool, single, nose, polygon}
+use Rattle.demands.specs.Tool.{Cutter, single, nose, polygon}
 use Rattle.sample_wheel.specs.Wheel.{Ask, root, turned, ringed, seen, Says, says}
 
 -- ---- the numbers, by their bits
@@ -74,18 +74,18 @@ abbrev barS : TurnStockSpec
 barS = record { «z_min_mm» = n0; «z_max_mm» = n4; «outer_radius_mm» = n10; «bore_radius_mm» = n0; «cell_mm» = n1; «max_cells» = 4096 }
 
 -- the outside nose of radius 5 from (r 9, z 3) to (9, 6), with a sag
-abbrev noseWith : Float → Tool
+abbrev noseWith : Float → Cutter
 noseWith sag = nose Outer n5 (n9 ∷ n3 ∷ n9 ∷ n6 ∷ sag ∷ [])
 
-abbrev thread : Tool
+abbrev thread : Cutter
 thread = single (Thread n0 n9 n3)
 
 -- a flat drill through the bar
-abbrev drilled : Tool
+abbrev drilled : Cutter
 drilled = single (Drill less1 n7 n0)
 
 -- (z, r)
-abbrev square : Tool
+abbrev square : Cutter
 square = polygon Outer half (n0 ∷ n4 ∷ n3 ∷ n4 ∷ n3 ∷ n12 ∷ n0 ∷ n12 ∷ [])
 
 abbrev ringA : Ring

@@ -16,14 +16,14 @@ use Rattle.rings.specs.Remove.{removeRing}
 use Rattle.queries.specs.declared.Band.{Band}
 use Rattle.queries.specs.Envelope.{envelopeAt}
 use Rattle.changes.specs.Commit.{Committed}
-use Rattle.demands.specs.Tool.{Tool, turnedTools}
+use Rattle.demands.specs.Tool.{Cutter, turnedTools}
 
 -- the root of a number; the cells of a new bar after cuts; the rings of a bar after rings taken; what stands at a height of a new bar after cuts
 pub data Ask : Type 0 where
   root : Float → Ask
-  turned : TurnStockSpec → List Tool → Ask
+  turned : TurnStockSpec → List Cutter → Ask
   ringed : TurnStockSpec → List Ring → Ask
-  seen : TurnStockSpec → List Tool → Float → Ask
+  seen : TurnStockSpec → List Cutter → Float → Ask
 
 -- numbers, and a generation
 pub record Says : Type 0 where
@@ -40,7 +40,7 @@ unfoldable pub newBar : TurnStockSpec → Paper Committed
 newBar spec = onward (cellsOf spec) (λ n. answers (record { cells = cellsLike (freshCell (cleanSpec spec)) n; generation = 0 }))
 
 -- after cuts, each previewed and committed, with room for a change of every cell
-unfoldable pub afterCuts : TurnStockSpec → List Tool → Paper Committed
+unfoldable pub afterCuts : TurnStockSpec → List Cutter → Paper Committed
 afterCuts spec l = onward (newBar spec) (λ k. turnedTools spec (length (k .cells)) k l)
 
 -- ---- rings

@@ -6,9 +6,9 @@
 // `proofs/Holds` the one statement: every row's question has the row's answer.
 //
 // The program runs 01's other examples and writes what it finds, a line each.
+use changes::Previewed;
 use cuts::Cut;
 use numbers::Rooted;
-use records::Previewed;
 use refusals::Refusal;
 use stock::Counted;
 use stock::TurnSide;

@@ -5,8 +5,8 @@
 // from it on. Heads are parted by tabs.
 ghost use Prim.Native.Nat.{_≤_};
 ghost use lib.ListN.{length};
-use spelled::put_millimetres;
-use spelled::put_text;
+use text::put_millimetres;
+use text::put_text;
 
 // So many columns a table has at most.
 const COLUMNS: usize = 6;

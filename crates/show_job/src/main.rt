@@ -5,10 +5,10 @@ use job_run::LINE_LIMIT;
 use job_run::RING_NUMBERS;
 use job_run::Run;
 use page::WIDTHS;
-use spelled::front;
 use stock::TurnStockSpec;
 use streams::GATHERED;
 use streams::Out;
+use text::front;
 
 mod column;
 mod page;
@@ -92,7 +92,7 @@ fn main() {
     let mut cells = [0.0f64; CELL_NUMBERS];
     let mut rings = [0.0f64; RING_NUMBERS];
     let mut line = [0u8; LINE_LIMIT];
-    let ended = job_streams::read_job(0, 65536, &mut cells, &mut rings, &mut line);
+    let ended = job_streams::read_job(0, job_streams::PART, &mut cells, &mut rings, &mut line);
     let run = ended.run;
     if run.refused != 0 {
         job_help::write_why(1, ended, &line);

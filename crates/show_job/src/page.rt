@@ -14,13 +14,13 @@ use crate::column::widen;
 use crate::column::widen_for;
 use crate::column::widen_for_heads;
 use crate::column::width_at;
-use spelled::put_count;
-use spelled::put_millimetres;
-use spelled::put_text;
 use stock::Binned;
 use stock::RadiusBounds;
 use stock::TurnStockSpec;
 use stock::ZRange;
+use text::put_count;
+use text::put_millimetres;
+use text::put_text;
 
 // Two widths for each of six columns, and one for what is certainly metal.
 pub const WIDTHS: usize = 13;

@@ -56,6 +56,12 @@ pub struct ZRange {
     pub zb: f64,
 }
 
+// The bins from one index to before another.
+pub struct BinRange {
+    pub from: usize,
+    pub to: usize,
+}
+
 // How many cells a stock has.
 pub enum Counted {
     Cells(usize),

@@ -1,3 +1,10 @@
 pub mod Chosen
 pub mod Parting
 pub mod Compare
+pub mod Wholes
+pub mod Sets
+pub mod Spelling
+pub mod Chain
+pub mod Nan
+pub mod Distinct
+pub mod Nine

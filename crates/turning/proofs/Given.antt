@@ -16,8 +16,8 @@ use Rattle.stock.specs.Spec.{countedPaper}
 use Rattle.stock.specs.declared.TurnSide.{TurnSide}
 use Rattle.stock.specs.declared.TurnSide.the-variants.{Outer, Inner}
 use Rattle.stock.specs.Cell.{newOf, Filled, stockOf}
-use Rattle.records.specs.declared.Previewed.{Previewed}
-use Rattle.records.specs.Change.{countOf, previewedPaper, Proposed}
+use Rattle.changes.specs.declared.Previewed.{Previewed}
+use Rattle.changes.specs.Change.{countOf, previewedPaper, Proposed}
 use Rattle.changes.specs.declared.Applied.{Applied}
 use Rattle.changes.specs.Commit.{Committed, appliedPaper, generationOf, applyOf, Applies}
 use Rattle.changes.specs.Difference.{differenceOf}

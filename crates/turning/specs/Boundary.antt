@@ -6,20 +6,22 @@ use lib.ListN.{length}
 use lib.Ieee.{Float}
 use mathlib.Core.Option.{Option, none, some}
 use lib.Dec.{eqb}
-use lib.IntN.{ℤ}
+use denote.Ref.{RefT, now}
+use denote.Triple.Both.{Both}
 use Rattle.floats.specs.Pick.{pick}
 use Rattle.refusals.specs.declared.Refusal.{Refusal}
 use Rattle.refusals.specs.Number.{numberOf}
 use Rattle.refusals.specs.Paper.{Paper, answers, refuses, onward}
-use Rattle.refusals.specs.Lent.{over}
+use Rattle.refusals.specs.Lent.{Lent, over}
 use Rattle.stock.specs.declared.TurnStockSpec.{TurnStockSpec}
 use Rattle.stock.specs.declared.TurnChange.{TurnChange}
 use Rattle.stock.specs.declared.ZRange.{ZRange}
 use Rattle.stock.specs.declared.TurnSide.{TurnSide}
 use Rattle.stock.specs.declared.TurnSide.the-variants.{Outer, Inner}
-use Rattle.stock.specs.Cell.{newCells, stockOf}
-use Rattle.records.specs.Change.{indicesOf, numbersOf, writtenOf}
+use Rattle.stock.specs.Cell.{newOf, newCells, stockOf}
+use Rattle.changes.specs.Change.{roomIn, indicesOf, numbersOf, writtenOf}
 use Rattle.changes.specs.Commit.{Committed, cellsAfter}
+use Rattle.cuts.specs.Preview.{previewNose, previewPolygon}
 use Rattle.rings.specs.declared.Ring.{Ring}
 use Rattle.rings.specs.Remove.{RingStore, ringsAfter, storeAfter}
 use Rattle.moves.specs.Move as Move
@@ -82,6 +84,13 @@ pub record GivesStock (p : Paper Committed) (r : ℕ) (cs cs' : List Float) (g g
 unfoldable pub bySide : TurnStockSpec → List Float → ℕ → (TurnSide → Paper (List TurnChange)) → Paper (List TurnChange)
 bySide spec cs side p = pick (eqb side 0) (p Outer) (pick (eqb side 1) (p Inner) (onward (stockOf spec cs) (λ n. refuses 5)))
 
+-- a nose along segments, and a polygon
+abbrev pub noseBySide : TurnStockSpec → List Float → ℕ → Float → List Float → ℕ → Paper (List TurnChange)
+noseBySide spec cs side rn xs room = bySide spec cs side (λ (s : TurnSide). previewNose spec cs s rn xs room)
+
+abbrev pub polygonBySide : TurnStockSpec → List Float → ℕ → Float → List Float → ℕ → Paper (List TurnChange)
+polygonBySide spec cs side excess ps room = bySide spec cs side (λ (s : TurnSide). previewPolygon spec cs s excess ps room)
+
 -- a refusal in place of changes
 abbrev pub noChanges : Refusal → Paper (List TurnChange)
 noChanges c = refuses (numberOf c)
@@ -140,3 +149,45 @@ pub record GivesFoundTwo {A : Type 0} (first second : A → Float) (p : Paper (O
   pub found : f' ≡ outOf (λ (a : Option A). foundOf a) p f
   pub one : x' ≡ outFound first p x
   pub other : y' ≡ outFound second p y
+
+-- ---- the same of what is lent to a call, at its two moments: what contracts say
+
+-- a number that is lent to be written
+abbrev pub Out : Type 0 → Type 0
+Out A = Both (RefT A) (RefT A)
+
+abbrev pub Hands : {A : Type 0} → Paper A → ℕ → Out A → Type 0
+Hands p r x = Gives p r (now (x .entry)) (now (x .exit))
+
+abbrev pub HandsTwo : {A B C : Type 0} → (A → B) → (A → C) → Paper A → ℕ → Out B → Out C → Type 0
+HandsTwo first second p r x y = GivesTwo first second p r (now (x .entry)) (now (x .exit)) (now (y .entry)) (now (y .exit))
+
+abbrev pub HandsBin : Paper ZRange → ℕ → Out Float → Out Float → Type 0
+HandsBin p r za zb = GivesBin p r (now (za .entry)) (now (za .exit)) (now (zb .entry)) (now (zb .exit))
+
+abbrev pub HandsCells : TurnStockSpec → ℕ → Lent Float → Type 0
+HandsCells spec r cells = GivesCells spec (newOf spec (length (now (cells .entry)))) r (now (cells .entry)) (now (cells .exit))
+
+-- with as much room for changes as the two lists have
+abbrev pub HandsChanges : (ℕ → Paper (List TurnChange)) → ℕ → Out ℕ → Lent ℕ → Lent Float → Type 0
+HandsChanges rule r count indices records =
+    GivesChanges (rule (roomIn indices records)) r (now (count .entry)) (now (count .exit)) (now (indices .entry)) (now (indices .exit)) (now (records .entry)) (now (records .exit))
+
+abbrev pub HandsStock : Paper Committed → ℕ → Lent Float → Out ℕ → Type 0
+HandsStock p r cells generation = GivesStock p r (now (cells .entry)) (now (cells .exit)) (now (generation .entry)) (now (generation .exit))
+
+abbrev pub HandsRings : Paper RingStore → ℕ → Lent Float → Out ℕ → Out ℕ → Type 0
+HandsRings p r rings count generation = GivesRings p r (now (rings .entry)) (now (rings .exit)) (now (count .entry)) (now (count .exit)) (now (generation .entry)) (now (generation .exit))
+
+abbrev pub HandsMove : Paper Left → ℕ → Lent Float → Lent Float → Out ℕ → Out ℕ → Type 0
+HandsMove p r cells rings count generation =
+    GivesMove p r (now (cells .entry)) (now (cells .exit)) (now (rings .entry)) (now (rings .exit)) (now (count .entry)) (now (count .exit)) (now (generation .entry)) (now (generation .exit))
+
+abbrev pub HandsStore : Paper (List Ring) → ℕ → Lent Float → Out ℕ → Type 0
+HandsStore p r rings count = GivesStore p r (now (rings .entry)) (now (rings .exit)) (now (count .entry)) (now (count .exit))
+
+abbrev pub HandsFound : {A : Type 0} → Paper (Option A) → ℕ → Out ℕ → Out A → Type 0
+HandsFound p r found x = GivesFound p r (now (found .entry)) (now (found .exit)) (now (x .entry)) (now (x .exit))
+
+abbrev pub HandsFoundTwo : {A : Type 0} → (A → Float) → (A → Float) → Paper (Option A) → ℕ → Out ℕ → Out Float → Out Float → Type 0
+HandsFoundTwo first second p r found x y = GivesFoundTwo first second p r (now (found .entry)) (now (found .exit)) (now (x .entry)) (now (x .exit)) (now (y .entry)) (now (y .exit))

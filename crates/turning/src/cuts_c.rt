@@ -1,19 +1,18 @@
 // Previews, commits and the difference of two stocks.
 ghost use mathlib.Core.Path.{_≡_};
-ghost use lib.ListN.{length};
-ghost use Rattle.records.specs.Change.{roomOf, previewedPaper};
+ghost use Rattle.changes.specs.Change.{previewedPaper};
 ghost use Rattle.changes.specs.Commit.{appliedPaper, applyOf};
 ghost use Rattle.changes.specs.Difference.{differenceOf};
 ghost use Rattle.cuts.specs.declared.Cut.the-variants.{Thread, ThreadInner, Drill};
 ghost use Rattle.cuts.specs.Preview.{previewCut};
-ghost use Rattle.turning.specs.Boundary.{specFrom, Gives, GivesChanges, GivesStock};
+ghost use Rattle.turning.specs.Boundary.{specFrom, Hands, HandsChanges, HandsStock};
 use crate::stock_c;
 use changes::Applied;
-use records::Previewed;
+use changes::Previewed;
 
 // How many changes were written, or the number of the refusal.
 pub fn give_changes(answer: Previewed, count: &mut usize) -> u32
-    ensures { λ r. ⌜ Gives (previewedPaper answer) r (now (count .entry)) (now (count .exit)) ⌝ }
+    ensures { λ r. ⌜ Hands (previewedPaper answer) r count ⌝ }
 {
     match answer {
         Previewed::Refused(r) => refusals::number(r),
@@ -26,7 +25,7 @@ pub fn give_changes(answer: Previewed, count: &mut usize) -> u32
 
 // The generation after a commit, or the number of the refusal.
 fn give_generation(answer: Applied, generation: &mut u64) -> u32
-    ensures { λ r. ⌜ Gives (appliedPaper answer) r (now (generation .entry)) (now (generation .exit)) ⌝ }
+    ensures { λ r. ⌜ Hands (appliedPaper answer) r generation ⌝ }
 {
     match answer {
         Applied::Refused(r) => refusals::number(r),
@@ -53,7 +52,9 @@ pub extern "C" fn turning_thread_cut(
     records: &mut [f64],
     count: &mut usize,
 ) -> u32
-    ensures { λ r. ⌜ GivesChanges (previewCut (specFrom «z_min» «z_max» outer bore cell «max_cells») (now (cells .entry)) (Thread z0 z1 radius) (roomOf (length (now (indices .entry))) (length (now (records .entry))))) r (now (count .entry)) (now (count .exit)) (now (indices .entry)) (now (indices .exit)) (now (records .entry)) (now (records .exit)) ⌝ }
+    ensures { λ r. ⌜ HandsChanges
+        (previewCut (specFrom «z_min» «z_max» outer bore cell «max_cells») (now (cells .entry)) (Thread z0 z1 radius))
+        r count indices records ⌝ }
 {
     let spec = stock_c::spec_of(z_min, z_max, outer, bore, cell, max_cells);
     let answer = cuts::thread_cut(spec, cells, z0, z1, radius, indices, records);
@@ -76,7 +77,9 @@ pub extern "C" fn turning_thread_cut_inner(
     records: &mut [f64],
     count: &mut usize,
 ) -> u32
-    ensures { λ r. ⌜ GivesChanges (previewCut (specFrom «z_min» «z_max» outer bore cell «max_cells») (now (cells .entry)) (ThreadInner z0 z1 radius) (roomOf (length (now (indices .entry))) (length (now (records .entry))))) r (now (count .entry)) (now (count .exit)) (now (indices .entry)) (now (indices .exit)) (now (records .entry)) (now (records .exit)) ⌝ }
+    ensures { λ r. ⌜ HandsChanges
+        (previewCut (specFrom «z_min» «z_max» outer bore cell «max_cells») (now (cells .entry))
+        (ThreadInner z0 z1 radius)) r count indices records ⌝ }
 {
     let spec = stock_c::spec_of(z_min, z_max, outer, bore, cell, max_cells);
     let answer = cuts::thread_cut_inner(spec, cells, z0, z1, radius, indices, records);
@@ -99,7 +102,9 @@ pub extern "C" fn turning_drill(
     records: &mut [f64],
     count: &mut usize,
 ) -> u32
-    ensures { λ r. ⌜ GivesChanges (previewCut (specFrom «z_min» «z_max» outer bore cell «max_cells») (now (cells .entry)) (Drill «tip_z» radius cone) (roomOf (length (now (indices .entry))) (length (now (records .entry))))) r (now (count .entry)) (now (count .exit)) (now (indices .entry)) (now (indices .exit)) (now (records .entry)) (now (records .exit)) ⌝ }
+    ensures { λ r. ⌜ HandsChanges
+        (previewCut (specFrom «z_min» «z_max» outer bore cell «max_cells») (now (cells .entry))
+        (Drill «tip_z» radius cone)) r count indices records ⌝ }
 {
     let spec = stock_c::spec_of(z_min, z_max, outer, bore, cell, max_cells);
     let answer = cuts::drill(spec, cells, tip_z, radius, cone, indices, records);
@@ -120,7 +125,8 @@ pub extern "C" fn turning_apply(
     records: &[f64],
     changes: usize,
 ) -> u32
-    ensures { λ r. ⌜ GivesStock (applyOf (specFrom «z_min» «z_max» outer bore cell «max_cells») (now (cells .entry)) (now (generation .entry)) (now (indices .entry)) (now (records .entry)) changes) r (now (cells .entry)) (now (cells .exit)) (now (generation .entry)) (now (generation .exit)) ⌝ }
+    ensures { λ r. ⌜ HandsStock (applyOf (specFrom «z_min» «z_max» outer bore cell «max_cells») (now (cells .entry))
+        (now (generation .entry)) (now (indices .entry)) (now (records .entry)) changes) r cells generation ⌝ }
 {
     let spec = stock_c::spec_of(z_min, z_max, outer, bore, cell, max_cells);
     let before = *generation;
@@ -142,7 +148,9 @@ pub extern "C" fn turning_changes_to(
     records: &mut [f64],
     count: &mut usize,
 ) -> u32
-    ensures { λ r. ⌜ GivesChanges (differenceOf (specFrom «z_min» «z_max» outer bore cell «max_cells») (now (cells .entry)) (now (after .entry)) (roomOf (length (now (indices .entry))) (length (now (records .entry))))) r (now (count .entry)) (now (count .exit)) (now (indices .entry)) (now (indices .exit)) (now (records .entry)) (now (records .exit)) ⌝ }
+    ensures { λ r. ⌜ HandsChanges
+        (differenceOf (specFrom «z_min» «z_max» outer bore cell «max_cells») (now (cells .entry))
+        (now (after .entry))) r count indices records ⌝ }
 {
     let spec = stock_c::spec_of(z_min, z_max, outer, bore, cell, max_cells);
     let answer = changes::changes_to(spec, cells, after, indices, records);

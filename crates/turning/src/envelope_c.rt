@@ -3,7 +3,7 @@ ghost use mathlib.Core.Path.{_≡_};
 ghost use Prim.Native.Nat.{_-_};
 ghost use Rattle.envelope.specs.declared.Span.{Span};
 ghost use Rattle.envelope.specs.Envelope.{Radii, orderedOf, orderedPaper, withinOf, spannedPaper, radiusAtOf, radiusAtPaper, radiusRangeOf, radiusRangePaper};
-ghost use Rattle.turning.specs.Boundary.{Gives, GivesTwo, GivesFound, GivesFoundTwo};
+ghost use Rattle.turning.specs.Boundary.{Hands, HandsTwo, HandsFound, HandsFoundTwo};
 use envelope::Ordered;
 use envelope::RadiusAt;
 use envelope::RadiusRange;
@@ -11,7 +11,7 @@ use envelope::Spanned;
 
 #[no_mangle]
 pub extern "C" fn turning_envelope_order(points: &[f64], order: &mut i32) -> u32
-    ensures { λ r. ⌜ Gives (orderedOf (now (points .entry))) r (now (order .entry)) (now (order .exit)) ⌝ }
+    ensures { λ r. ⌜ Hands (orderedOf (now (points .entry))) r order ⌝ }
 {
     give_order(envelope::order_of(points), order)
 }
@@ -26,7 +26,7 @@ fn put_order(o: i8, order: &mut i32) -> u32
 
 // The order, or the number of the refusal.
 fn give_order(answer: Ordered, order: &mut i32) -> u32
-    ensures { λ r. ⌜ Gives (orderedPaper answer) r (now (order .entry)) (now (order .exit)) ⌝ }
+    ensures { λ r. ⌜ Hands (orderedPaper answer) r order ⌝ }
 {
     match answer {
         Ordered::Refused(r) => refusals::number(r),
@@ -36,7 +36,8 @@ fn give_order(answer: Ordered, order: &mut i32) -> u32
 
 // The first point of a part and how many there are, or the number of the refusal.
 fn give_part(answer: Spanned, first: &mut usize, count: &mut usize) -> u32
-    ensures { λ r. ⌜ GivesTwo (λ (s : Span). s .start) (λ (s : Span). s .end - s .start) (spannedPaper answer) r (now (first .entry)) (now (first .exit)) (now (count .entry)) (now (count .exit)) ⌝ }
+    ensures { λ r. ⌜ HandsTwo (λ (s : Span). s .start) (λ (s : Span). s .end - s .start) (spannedPaper answer) r first
+        count ⌝ }
 {
     match answer {
         Spanned::Refused(r) => refusals::number(r),
@@ -56,14 +57,15 @@ pub extern "C" fn turning_within(
     first: &mut usize,
     count: &mut usize,
 ) -> u32
-    ensures { λ r. ⌜ GivesTwo (λ (s : Span). s .start) (λ (s : Span). s .end - s .start) (withinOf (now (points .entry)) lo hi) r (now (first .entry)) (now (first .exit)) (now (count .entry)) (now (count .exit)) ⌝ }
+    ensures { λ r. ⌜ HandsTwo (λ (s : Span). s .start) (λ (s : Span). s .end - s .start)
+        (withinOf (now (points .entry)) lo hi) r first count ⌝ }
 {
     give_part(envelope::within_span(points, lo, hi), first, count)
 }
 
 // The radius if there is one, or the number of the refusal.
 fn give_radius(answer: RadiusAt, found: &mut u32, radius: &mut f64) -> u32
-    ensures { λ r. ⌜ GivesFound (radiusAtPaper answer) r (now (found .entry)) (now (found .exit)) (now (radius .entry)) (now (radius .exit)) ⌝ }
+    ensures { λ r. ⌜ HandsFound (radiusAtPaper answer) r found radius ⌝ }
 {
     match answer {
         RadiusAt::Refused(r) => refusals::number(r),
@@ -86,14 +88,15 @@ pub extern "C" fn turning_radius_at(
     found: &mut u32,
     radius: &mut f64,
 ) -> u32
-    ensures { λ r. ⌜ GivesFound (radiusAtOf (now (points .entry)) u) r (now (found .entry)) (now (found .exit)) (now (radius .entry)) (now (radius .exit)) ⌝ }
+    ensures { λ r. ⌜ HandsFound (radiusAtOf (now (points .entry)) u) r found radius ⌝ }
 {
     give_radius(envelope::radius_at(points, u), found, radius)
 }
 
 // The lowest and the highest radius if there is one, or the number of the refusal.
 fn give_range(answer: RadiusRange, found: &mut u32, lowest: &mut f64, highest: &mut f64) -> u32
-    ensures { λ r. ⌜ GivesFoundTwo (λ (a : Radii). a .lowest) (λ (a : Radii). a .highest) (radiusRangePaper answer) r (now (found .entry)) (now (found .exit)) (now (lowest .entry)) (now (lowest .exit)) (now (highest .entry)) (now (highest .exit)) ⌝ }
+    ensures { λ r. ⌜ HandsFoundTwo (λ (a : Radii). a .lowest) (λ (a : Radii). a .highest) (radiusRangePaper answer) r
+        found lowest highest ⌝ }
 {
     match answer {
         RadiusRange::Refused(r) => refusals::number(r),
@@ -119,7 +122,8 @@ pub extern "C" fn turning_radius_range(
     lowest: &mut f64,
     highest: &mut f64,
 ) -> u32
-    ensures { λ r. ⌜ GivesFoundTwo (λ (a : Radii). a .lowest) (λ (a : Radii). a .highest) (radiusRangeOf (now (points .entry)) lo hi) r (now (found .entry)) (now (found .exit)) (now (lowest .entry)) (now (lowest .exit)) (now (highest .entry)) (now (highest .exit)) ⌝ }
+    ensures { λ r. ⌜ HandsFoundTwo (λ (a : Radii). a .lowest) (λ (a : Radii). a .highest)
+        (radiusRangeOf (now (points .entry)) lo hi) r found lowest highest ⌝ }
 {
     give_range(
         envelope::radius_range(points, lo, hi),

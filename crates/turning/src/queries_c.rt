@@ -4,14 +4,15 @@ ghost use Rattle.queries.specs.declared.Band.{Band};
 ghost use Rattle.queries.specs.declared.Volumes.{Volumes};
 ghost use Rattle.queries.specs.Envelope.{envelopeAt, seenPaper};
 ghost use Rattle.queries.specs.Volume.{volumeOf, measuredPaper};
-ghost use Rattle.turning.specs.Boundary.{specFrom, GivesTwo, GivesFoundTwo};
+ghost use Rattle.turning.specs.Boundary.{specFrom, HandsTwo, HandsFoundTwo};
 use crate::stock_c;
 use queries::Measured;
 use queries::Seen;
 
 // The two volumes, or the number of the refusal.
 fn give_volumes(answer: Measured, least: &mut f64, greatest: &mut f64) -> u32
-    ensures { λ r. ⌜ GivesTwo (λ (v : Volumes). v .least) (λ (v : Volumes). v .greatest) (measuredPaper answer) r (now (least .entry)) (now (least .exit)) (now (greatest .entry)) (now (greatest .exit)) ⌝ }
+    ensures { λ r. ⌜ HandsTwo (λ (v : Volumes). v .least) (λ (v : Volumes). v .greatest) (measuredPaper answer) r
+        least greatest ⌝ }
 {
     match answer {
         Measured::Refused(r) => refusals::number(r),
@@ -37,7 +38,9 @@ pub extern "C" fn turning_volume(
     least: &mut f64,
     greatest: &mut f64,
 ) -> u32
-    ensures { λ r. ⌜ GivesTwo (λ (v : Volumes). v .least) (λ (v : Volumes). v .greatest) (volumeOf (specFrom «z_min» «z_max» outer bore cell «max_cells») (now (cells .entry)) (now (rings .entry)) «rings_count») r (now (least .entry)) (now (least .exit)) (now (greatest .entry)) (now (greatest .exit)) ⌝ }
+    ensures { λ r. ⌜ HandsTwo (λ (v : Volumes). v .least) (λ (v : Volumes). v .greatest)
+        (volumeOf (specFrom «z_min» «z_max» outer bore cell «max_cells») (now (cells .entry)) (now (rings .entry))
+        «rings_count») r least greatest ⌝ }
 {
     let spec = stock_c::spec_of(z_min, z_max, outer, bore, cell, max_cells);
     let answer = queries::volume(spec, cells, rings, rings_count);
@@ -46,7 +49,8 @@ pub extern "C" fn turning_volume(
 
 // The two radii if there is material, or the number of the refusal.
 fn give_seen(answer: Seen, found: &mut u32, bore_lower: &mut f64, outer_upper: &mut f64) -> u32
-    ensures { λ r. ⌜ GivesFoundTwo (λ (b : Band). b .bore) (λ (b : Band). b .outer) (seenPaper answer) r (now (found .entry)) (now (found .exit)) (now («bore_lower» .entry)) (now («bore_lower» .exit)) (now («outer_upper» .entry)) (now («outer_upper» .exit)) ⌝ }
+    ensures { λ r. ⌜ HandsFoundTwo (λ (b : Band). b .bore) (λ (b : Band). b .outer) (seenPaper answer) r found
+        «bore_lower» «outer_upper» ⌝ }
 {
     match answer {
         Seen::Refused(r) => refusals::number(r),
@@ -77,7 +81,9 @@ pub extern "C" fn turning_envelope_at(
     bore_lower: &mut f64,
     outer_upper: &mut f64,
 ) -> u32
-    ensures { λ r. ⌜ GivesFoundTwo (λ (b : Band). b .bore) (λ (b : Band). b .outer) (envelopeAt (specFrom «z_min» «z_max» outer bore cell «max_cells») (now (cells .entry)) z) r (now (found .entry)) (now (found .exit)) (now («bore_lower» .entry)) (now («bore_lower» .exit)) (now («outer_upper» .entry)) (now («outer_upper» .exit)) ⌝ }
+    ensures { λ r. ⌜ HandsFoundTwo (λ (b : Band). b .bore) (λ (b : Band). b .outer)
+        (envelopeAt (specFrom «z_min» «z_max» outer bore cell «max_cells») (now (cells .entry)) z) r found
+        «bore_lower» «outer_upper» ⌝ }
 {
     let spec = stock_c::spec_of(z_min, z_max, outer, bore, cell, max_cells);
     let answer = queries::envelope_at(spec, cells, z);

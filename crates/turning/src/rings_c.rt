@@ -1,11 +1,9 @@
 // Rings, moves, rebuilding.
 ghost use mathlib.Core.Path.{_≡_};
-ghost use lib.ListN.{length};
-ghost use Prim.Native.Nat.{ℕ};
 ghost use Rattle.rings.specs.Ring.{ring};
 ghost use Rattle.rings.specs.Remove.{RingCount, removedPaper, removeRing, storedPaper};
 ghost use Rattle.moves.specs.Move.{movedPaper, moveOf, partsOf};
-ghost use Rattle.turning.specs.Boundary.{specFrom, Gives, GivesTwo, GivesRings, GivesMove, GivesStore};
+ghost use Rattle.turning.specs.Boundary.{specFrom, Hands, HandsTwo, HandsRings, HandsMove, HandsStore};
 use crate::stock_c;
 use moves::Moved;
 use rings::Removed;
@@ -14,7 +12,8 @@ use rings::StoredAs;
 
 // The count of rings and the generation afterwards, or the number of the refusal.
 fn give_removed(answer: Removed, count: &mut usize, generation: &mut u64) -> u32
-    ensures { λ r. ⌜ GivesTwo (λ (c : RingCount). c .rings) (λ (c : RingCount). c .generation) (removedPaper answer) r (now (count .entry)) (now (count .exit)) (now (generation .entry)) (now (generation .exit)) ⌝ }
+    ensures { λ r. ⌜ HandsTwo (λ (c : RingCount). c .rings) (λ (c : RingCount). c .generation) (removedPaper answer) r
+        count generation ⌝ }
 {
     match answer {
         Removed::Refused(r) => refusals::number(r),
@@ -42,7 +41,9 @@ pub extern "C" fn turning_remove_ring(
     r0: f64,
     r1: f64,
 ) -> u32
-    ensures { λ r. ⌜ GivesRings (removeRing (specFrom «z_min» «z_max» outer bore cell «max_cells») (now (rings .entry)) (now («rings_count» .entry)) (now (generation .entry)) (ring z0 z1 r0 r1)) r (now (rings .entry)) (now (rings .exit)) (now («rings_count» .entry)) (now («rings_count» .exit)) (now (generation .entry)) (now (generation .exit)) ⌝ }
+    ensures { λ r. ⌜ HandsRings
+        (removeRing (specFrom «z_min» «z_max» outer bore cell «max_cells») (now (rings .entry))
+        (now («rings_count» .entry)) (now (generation .entry)) (ring z0 z1 r0 r1)) r rings «rings_count» generation ⌝ }
 {
     let spec = stock_c::spec_of(z_min, z_max, outer, bore, cell, max_cells);
     let count = *rings_count;
@@ -53,7 +54,8 @@ pub extern "C" fn turning_remove_ring(
 
 // The count of rings and the generation after a move, or the number of the refusal.
 fn give_moved(answer: Moved, count: &mut usize, generation: &mut u64) -> u32
-    ensures { λ r. ⌜ GivesTwo (λ (c : RingCount). c .rings) (λ (c : RingCount). c .generation) (movedPaper answer) r (now (count .entry)) (now (count .exit)) (now (generation .entry)) (now (generation .exit)) ⌝ }
+    ensures { λ r. ⌜ HandsTwo (λ (c : RingCount). c .rings) (λ (c : RingCount). c .generation) (movedPaper answer) r
+        count generation ⌝ }
 {
     match answer {
         Moved::Refused(r) => refusals::number(r),
@@ -82,7 +84,9 @@ pub extern "C" fn turning_apply_move(
     changes: usize,
     removed: &[f64],
 ) -> u32
-    ensures { λ r. ⌜ GivesMove (moveOf (specFrom «z_min» «z_max» outer bore cell «max_cells») (now (cells .entry)) (now (rings .entry)) (now («rings_count» .entry)) (now (generation .entry)) (now (indices .entry)) (now (records .entry)) changes (now (removed .entry))) r (now (cells .entry)) (now (cells .exit)) (now (rings .entry)) (now (rings .exit)) (now («rings_count» .entry)) (now («rings_count» .exit)) (now (generation .entry)) (now (generation .exit)) ⌝ }
+    ensures { λ r. ⌜ HandsMove (moveOf (specFrom «z_min» «z_max» outer bore cell «max_cells») (now (cells .entry))
+        (now (rings .entry)) (now («rings_count» .entry)) (now (generation .entry)) (now (indices .entry))
+        (now (records .entry)) changes (now (removed .entry))) r cells rings «rings_count» generation ⌝ }
 {
     let spec = stock_c::spec_of(z_min, z_max, outer, bore, cell, max_cells);
     let count = *rings_count;
@@ -103,7 +107,7 @@ pub extern "C" fn turning_apply_move(
 
 // The count of rings of a rebuilt stock, or the number of the refusal.
 fn give_stored(answer: StoredAs, count: &mut usize) -> u32
-    ensures { λ r. ⌜ Gives (storedPaper answer) r (now (count .entry)) (now (count .exit)) ⌝ }
+    ensures { λ r. ⌜ Hands (storedPaper answer) r count ⌝ }
 {
     match answer {
         StoredAs::Refused(r) => refusals::number(r),
@@ -127,7 +131,8 @@ pub extern "C" fn turning_from_parts(
     rings: &mut [f64],
     rings_count: &mut usize,
 ) -> u32
-    ensures { λ r. ⌜ GivesStore (partsOf (specFrom «z_min» «z_max» outer bore cell «max_cells») (now (cells .entry)) (now (given .entry)) (now (rings .entry))) r (now (rings .entry)) (now (rings .exit)) (now («rings_count» .entry)) (now («rings_count» .exit)) ⌝ }
+    ensures { λ r. ⌜ HandsStore (partsOf (specFrom «z_min» «z_max» outer bore cell «max_cells») (now (cells .entry))
+        (now (given .entry)) (now (rings .entry))) r rings «rings_count» ⌝ }
 {
     let spec = stock_c::spec_of(z_min, z_max, outer, bore, cell, max_cells);
     let answer = moves::from_parts(spec, cells, given, rings);

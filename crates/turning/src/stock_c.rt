@@ -1,10 +1,8 @@
 // Spec, bins, cells.
 ghost use mathlib.Core.Path.{_≡_};
-ghost use lib.ListN.{length};
 ghost use Rattle.stock.specs.Spec.{cellsOf, countedPaper};
 ghost use Rattle.stock.specs.Bin.{binFor, binnedPaper};
-ghost use Rattle.stock.specs.Cell.{newOf};
-ghost use Rattle.turning.specs.Boundary.{specFrom, codeOf, Gives, GivesBin, GivesCells};
+ghost use Rattle.turning.specs.Boundary.{specFrom, codeOf, Hands, HandsBin, HandsCells};
 use stock::Binned;
 use stock::Counted;
 use stock::TurnStockSpec;
@@ -32,7 +30,7 @@ pub fn spec_of(
 
 // A count handed out, or the number of the refusal.
 fn give_count(answer: Counted, n: &mut usize) -> u32
-    ensures { λ r. ⌜ Gives (countedPaper answer) r (now (n .entry)) (now (n .exit)) ⌝ }
+    ensures { λ r. ⌜ Hands (countedPaper answer) r n ⌝ }
 {
     match answer {
         Counted::Refused(r) => refusals::number(r),
@@ -45,7 +43,7 @@ fn give_count(answer: Counted, n: &mut usize) -> u32
 
 // A bin's ends handed out, or the number of the refusal.
 fn give_bin(answer: Binned, za: &mut f64, zb: &mut f64) -> u32
-    ensures { λ r. ⌜ GivesBin (binnedPaper answer) r (now (za .entry)) (now (za .exit)) (now (zb .entry)) (now (zb .exit)) ⌝ }
+    ensures { λ r. ⌜ HandsBin (binnedPaper answer) r za zb ⌝ }
 {
     match answer {
         Binned::Refused(r) => refusals::number(r),
@@ -77,7 +75,7 @@ pub extern "C" fn turning_validate(
     max_cells: usize,
     n: &mut usize,
 ) -> u32
-    ensures { λ r. ⌜ Gives (cellsOf (specFrom «z_min» «z_max» outer bore cell «max_cells»)) r (now (n .entry)) (now (n .exit)) ⌝ }
+    ensures { λ r. ⌜ Hands (cellsOf (specFrom «z_min» «z_max» outer bore cell «max_cells»)) r n ⌝ }
 {
     let spec = spec_of(z_min, z_max, outer, bore, cell, max_cells);
     give_count(stock::validate(spec), n)
@@ -95,7 +93,7 @@ pub extern "C" fn turning_bin(
     za: &mut f64,
     zb: &mut f64,
 ) -> u32
-    ensures { λ r. ⌜ GivesBin (binFor (specFrom «z_min» «z_max» outer bore cell «max_cells») i) r (now (za .entry)) (now (za .exit)) (now (zb .entry)) (now (zb .exit)) ⌝ }
+    ensures { λ r. ⌜ HandsBin (binFor (specFrom «z_min» «z_max» outer bore cell «max_cells») i) r za zb ⌝ }
 {
     let spec = spec_of(z_min, z_max, outer, bore, cell, max_cells);
     give_bin(stock::bin(spec, i), za, zb)
@@ -111,7 +109,7 @@ pub extern "C" fn turning_new(
     max_cells: usize,
     cells: &mut [f64],
 ) -> u32
-    ensures { λ r. ⌜ GivesCells (specFrom «z_min» «z_max» outer bore cell «max_cells») (newOf (specFrom «z_min» «z_max» outer bore cell «max_cells») (length (now (cells .entry)))) r (now (cells .entry)) (now (cells .exit)) ⌝ }
+    ensures { λ r. ⌜ HandsCells (specFrom «z_min» «z_max» outer bore cell «max_cells») r cells ⌝ }
 {
     let spec = spec_of(z_min, z_max, outer, bore, cell, max_cells);
     code_of(stock::fill(spec, cells))

@@ -1,15 +1,12 @@
 // The cuts of a nose and of a polygon, whose side comes as a number.
 ghost use mathlib.Core.Path.{_≡_};
-ghost use lib.ListN.{length};
 ghost use Rattle.refusals.specs.Paper.{refuses, onward};
-ghost use Rattle.stock.specs.declared.TurnSide.{TurnSide};
 ghost use Rattle.stock.specs.Cell.{stockOf};
-ghost use Rattle.records.specs.Change.{roomOf, Proposed};
-ghost use Rattle.cuts.specs.Preview.{previewNose, previewPolygon};
-ghost use Rattle.turning.specs.Boundary.{specFrom, bySide, noChanges, GivesChanges};
+ghost use Rattle.changes.specs.Change.{Proposes};
+ghost use Rattle.turning.specs.Boundary.{specFrom, noseBySide, polygonBySide, noChanges, HandsChanges};
 use crate::cuts_c;
 use crate::stock_c;
-use records::Previewed;
+use changes::Previewed;
 use refusals::Refusal;
 use stock::Counted;
 use stock::TurnSide;
@@ -35,7 +32,7 @@ fn nose_by(
     indices: &mut [usize],
     records: &mut [f64],
 ) -> Previewed
-    ensures { λ r. ⌜ Proposed (bySide spec (now (cells .entry)) side (λ (s : TurnSide). previewNose spec (now (cells .entry)) s rn (now (segments .entry)) (roomOf (length (now (indices .entry))) (length (now (records .entry)))))) r (now (indices .entry)) (now (indices .exit)) (now (records .entry)) (now (records .exit)) ⌝ }
+    ensures { λ r. ⌜ Proposes (noseBySide spec (now (cells .entry)) side rn (now (segments .entry))) r indices records ⌝ }
 {
     if side == 0 {
         return cuts::preview(spec, cells, TurnSide::Outer, rn, segments, indices, records);
@@ -55,7 +52,7 @@ fn polygon_by(
     indices: &mut [usize],
     records: &mut [f64],
 ) -> Previewed
-    ensures { λ r. ⌜ Proposed (bySide spec (now (cells .entry)) side (λ (s : TurnSide). previewPolygon spec (now (cells .entry)) s excess (now (points .entry)) (roomOf (length (now (indices .entry))) (length (now (records .entry)))))) r (now (indices .entry)) (now (indices .exit)) (now (records .entry)) (now (records .exit)) ⌝ }
+    ensures { λ r. ⌜ Proposes (polygonBySide spec (now (cells .entry)) side excess (now (points .entry))) r indices records ⌝ }
 {
     if side == 0 {
         return cuts::preview_polygon(
@@ -98,7 +95,9 @@ pub extern "C" fn turning_preview(
     records: &mut [f64],
     count: &mut usize,
 ) -> u32
-    ensures { λ r. ⌜ GivesChanges (bySide (specFrom «z_min» «z_max» outer bore cell «max_cells») (now (cells .entry)) side (λ (s : TurnSide). previewNose (specFrom «z_min» «z_max» outer bore cell «max_cells») (now (cells .entry)) s rn (now (segments .entry)) (roomOf (length (now (indices .entry))) (length (now (records .entry)))))) r (now (count .entry)) (now (count .exit)) (now (indices .entry)) (now (indices .exit)) (now (records .entry)) (now (records .exit)) ⌝ }
+    ensures { λ r. ⌜ HandsChanges
+        (noseBySide (specFrom «z_min» «z_max» outer bore cell «max_cells») (now (cells .entry)) side rn
+        (now (segments .entry))) r count indices records ⌝ }
 {
     let spec = stock_c::spec_of(z_min, z_max, outer, bore, cell, max_cells);
     let answer = nose_by(spec, cells, side, rn, segments, indices, records);
@@ -121,7 +120,9 @@ pub extern "C" fn turning_preview_polygon(
     records: &mut [f64],
     count: &mut usize,
 ) -> u32
-    ensures { λ r. ⌜ GivesChanges (bySide (specFrom «z_min» «z_max» outer bore cell «max_cells») (now (cells .entry)) side (λ (s : TurnSide). previewPolygon (specFrom «z_min» «z_max» outer bore cell «max_cells») (now (cells .entry)) s excess (now (points .entry)) (roomOf (length (now (indices .entry))) (length (now (records .entry)))))) r (now (count .entry)) (now (count .exit)) (now (indices .entry)) (now (indices .exit)) (now (records .entry)) (now (records .exit)) ⌝ }
+    ensures { λ r. ⌜ HandsChanges
+        (polygonBySide (specFrom «z_min» «z_max» outer bore cell «max_cells») (now (cells .entry)) side excess
+        (now (points .entry))) r count indices records ⌝ }
 {
     let spec = stock_c::spec_of(z_min, z_max, outer, bore, cell, max_cells);
     let answer = polygon_by(spec, cells, side, excess, points, indices, records);

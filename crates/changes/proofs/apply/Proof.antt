@@ -26,7 +26,7 @@ returns-3 c =
     let told = b .before .before .before .counted2 .given in
     same-outcome _ _ _ _ _
     (apply-is _ _ _ _ _ _ (told .0 .0) (sym (b .before .before .before .before .before .cells-fit .ensures) ∙ ap countedPaper (told .1)) (omega (arith, b .before .room .ensures)))
-    (same-spec _ _ _ _ _ _ _ _ _ (c .before .before .before .before .clean-spec .ensures) (c .before .before .commit .ensures))
+    (same-spec _ _ _ _ _ _ _ _ _ (c .before .before .before .before .clean-spec .ensures) (c .before .before .commit-unasked .ensures))
 
 pub apply-spec : {M : Type 1} → statement M
 apply-spec =

@@ -3,7 +3,7 @@ use mathlib.Core.Path.{sym, ap, _∙_}
 use borrow.Author.Needs.{needs}
 use Rattle.refusals.specs.Number.{numberOf}
 use Rattle.stock.specs.Spec.{countedPaper}
-use Rattle.records.proofs.Proposals.{left, same-proposal}
+use Rattle.changes.proofs.Proposals.{left, same-proposal}
 use Rattle.changes.proofs.Differences.{differ-refused, differ-other, differ-is}
 use Rattle.changes.proofs.changes_to.Statement.{statement}
 use Rattle.changes.proofs.changes_to.Tie as tie

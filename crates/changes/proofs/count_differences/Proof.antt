@@ -8,8 +8,8 @@ use borrow.Author.Needs.{needs}
 use borrow.Author.Tests.{not-true, not-false}
 use lib.ListN.{length, length-append}
 use Rattle.stock.specs.Cell.{sameCell}
-use Rattle.records.specs.Change.{changeOf, changesTo}
-use Rattle.records.proofs.Rising.{kept, made}
+use Rattle.changes.specs.Change.{changeOf, changesTo}
+use Rattle.changes.proofs.Rising.{kept, made}
 use Rattle.changes.specs.Difference.{otherCell}
 use Rattle.changes.proofs.count_differences.Statement.{statement}
 use Rattle.changes.proofs.count_differences.Tie as tie

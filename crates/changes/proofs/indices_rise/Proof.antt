@@ -6,27 +6,27 @@ use native.Mathlib.Omega.{arith}
 use borrow.Author.Needs.{needs}
 use lib.Dec.{ltb}
 use lib.ListN.{length, getD}
-use Rattle.records.specs.Change.{changesFrom, roomOf}
+use Rattle.changes.specs.Change.{changesFrom, roomOf}
 use Rattle.changes.specs.Commit.{rises}
 use Rattle.changes.proofs.Passed.{rises-one, rises-next}
 use Rattle.changes.proofs.indices_rise.Statement.{statement}
 use Rattle.changes.proofs.indices_rise.Tie as tie
 
 abbrev Inv-loop : tie.InvT-loop
-Inv-loop indices numbers k ok₀ i₀ ok i = (0 < i) × (i ≤ k) × (k ≤ roomOf (length indices) (length numbers)) × (ok ≡ rises (changesFrom indices numbers i))
+Inv-loop indices records k ok₀ i₀ ok i = (0 < i) × (i ≤ k) × (k ≤ roomOf (length indices) (length records)) × (ok ≡ rises (changesFrom indices records i))
 
 abbrev μ-loop : tie.MeasureT-loop
-μ-loop indices numbers k ok₀ i₀ ok i = k - i
+μ-loop indices records k ok₀ i₀ ok i = k - i
 
 returns : tie.Need-returns Inv-loop μ-loop
 returns c =
     let s = c .before in
-    sym (rises-one (s .args .indices .now) (s .args .numbers .now) (s .args .k) (omega arith))
+    sym (rises-one (s .args .indices .now) (s .args .records .now) (s .args .k) (omega arith))
 
 loop-holds : tie.Need-loop-holds Inv-loop μ-loop
 loop-holds c =
     let s = c .before in
-    (omega arith, omega arith, omega arith, sym (rises-one (s .args .indices .now) (s .args .numbers .now) 1 (omega arith)))
+    (omega arith, omega arith, omega arith, sym (rises-one (s .args .indices .now) (s .args .records .now) 1 (omega arith)))
 
 loop-again : tie.Need-loop-again Inv-loop μ-loop
 loop-again c =
@@ -36,14 +36,14 @@ loop-again c =
       omega arith,
       omega arith,
       ap (λ (t : Bool). t && ltb (getD (s .args .indices .now) (b .loop .i - 1) 0) (getD (s .args .indices .now) (b .loop .i) 0)) (b .loop .inv .3)
-          ∙ sym (rises-next (s .args .indices .now) (s .args .numbers .now) (b .loop .i) (omega arith)),
+          ∙ sym (rises-next (s .args .indices .now) (s .args .records .now) (b .loop .i) (omega arith)),
     )
 
 returns-2 : tie.Need-returns-2 Inv-loop μ-loop
 returns-2 c =
     let s = c .before .before .before in
     let e : c .before .loop .i ≡ s .args .k = omega arith in
-    c .before .loop .inv .3 ∙ ap (λ (j : ℕ). rises (changesFrom (s .args .indices .now) (s .args .numbers .now) j)) e
+    c .before .loop .inv .3 ∙ ap (λ (j : ℕ). rises (changesFrom (s .args .indices .now) (s .args .records .now) j)) e
 
 pub indices-rise-spec : {M : Type 1} → statement M
 indices-rise-spec =

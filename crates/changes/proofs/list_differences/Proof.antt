@@ -4,8 +4,8 @@ use Prim.Native.Nat.{ℕ, _≤_, _<_}
 use native.Mathlib.Nat.{le-trans}
 use native.Mathlib.Omega.{arith}
 use borrow.Author.Needs.{needs}
-use Rattle.records.proofs.Rising.{at-most}
-use Rattle.records.proofs.Proposals.{settled-listed, settled-full}
+use Rattle.changes.proofs.Rising.{at-most}
+use Rattle.changes.proofs.Proposals.{settled-listed, settled-full}
 use Rattle.changes.specs.Difference.{otherCell}
 use Rattle.changes.proofs.list_differences.Statement.{statement}
 use Rattle.changes.proofs.list_differences.Tie as tie

@@ -4,18 +4,18 @@ use Prim.Native.Nat.{ℕ, _≤_, _-_}
 use native.Mathlib.Omega.{arith}
 use borrow.Author.Needs.{needs}
 use lib.ListN.{length}
-use Rattle.records.specs.Change.{changesTo, roomOf, Listing}
-use Rattle.records.proofs.Placed.{listing-none, listing-next, listing-lengths}
+use Rattle.changes.specs.Change.{changesTo, roomOf, Listing}
+use Rattle.changes.proofs.Placed.{listing-none, listing-next, listing-lengths}
 use Rattle.changes.specs.Difference.{otherCell}
 use Rattle.changes.proofs.write_differences.Statement.{statement}
 use Rattle.changes.proofs.write_differences.Tie as tie
 
 abbrev Inv-loop : tie.InvT-loop
-Inv-loop cells after n indices₀ numbers₀ k₀ i₀ indices numbers k i =
-    (i ≤ n) × (length (changesTo (otherCell after) cells n) ≤ roomOf (length indices₀) (length numbers₀)) × Listing (otherCell after) cells i k indices₀ indices numbers₀ numbers
+Inv-loop cells after n indices₀ records₀ k₀ i₀ indices records k i =
+    (i ≤ n) × (length (changesTo (otherCell after) cells n) ≤ roomOf (length indices₀) (length records₀)) × Listing (otherCell after) cells i k indices₀ indices records₀ records
 
 abbrev μ-loop : tie.MeasureT-loop
-μ-loop cells after n indices₀ numbers₀ k₀ i₀ indices numbers k i = n - i
+μ-loop cells after n indices₀ records₀ k₀ i₀ indices records k i = n - i
 
 loop-holds : tie.Need-loop-holds Inv-loop μ-loop
 loop-holds c = (search needs, search needs, listing-none _ _ _ _)
@@ -41,7 +41,7 @@ returns : tie.Need-returns Inv-loop μ-loop
 returns c =
     let s = c .before .before .before .before .before .before in
     let e : c .before .loop .i ≡ s .args .n = omega arith in
-    subst (λ (j : ℕ). Listing (otherCell (s .args .after .now)) (s .args .cells .now) j (c .before .loop .k) (s .args .indices .now) (c .before .loop .indices) (s .args .numbers .now) (c .before .loop .numbers)) e (c .before .loop .inv .2)
+    subst (λ (j : ℕ). Listing (otherCell (s .args .after .now)) (s .args .cells .now) j (c .before .loop .k) (s .args .indices .now) (c .before .loop .indices) (s .args .records .now) (c .before .loop .records)) e (c .before .loop .inv .2)
 
 pub write-differences-spec : {M : Type 1} → statement M
 write-differences-spec =

@@ -1,62 +1,12 @@
--- `cuts::preview_cut` meets its contract. Assumes nothing.
-use mathlib.Core.Path.{_≡_, sym, ap, _∙_}
+-- `cuts::preview_cut` meets its contract: it is that of the tool's preview. Assumes nothing.
 use borrow.Author.Needs.{needs}
-use borrow.Author.Tests.{not-true, not-false}
-use Rattle.refusals.specs.Number.{numberOf}
-use Rattle.stock.specs.Spec.{countedPaper}
-use Rattle.stock.proofs.Bins.{HeldSpec}
-use Rattle.records.proofs.Proposals.{left, same-proposal}
-use Rattle.cuts.proofs.Previews.{ready, cut-refused, cut-outside, cut-is}
+use Rattle.cuts.specs.Tool.{previewTool}
 use Rattle.cuts.proofs.preview_cut.Statement.{statement}
 use Rattle.cuts.proofs.preview_cut.Tie as tie
 
 returns : tie.Need-returns
-returns c =
-    let k = c .before .before in
-    let told = k .before .before .counted2 .given in
-    left _ _ _ _ (cut-outside _ _ _ _ _ (k .clean-cut .ensures) _ (sym (k .before .before .before .before .cells-fit .ensures) ∙ ap countedPaper (told .1)) (sym (c .before .cut-good .ensures) ∙ not-true _ (c .if1 .taken)))
-
-cut-requires : tie.Need-cut-requires
-cut-requires c κs =
-    let z = c .before .before in
-    let k = z .before .before .before in
-    let told = k .before .before .counted2 .given in
-    let f = k .before .before .before .before in
-    let s = f .before .before .before .before in
-    let a = s .args in
-    let g = s .good .0 in
-    let held : HeldSpec (a .spec) = record { z-min = search (needs, g); z-max = search (needs, g); outer = search (needs, g); bore = search (needs, g .1 .1 .1 .1); cell = search (needs, g .1 .1 .1 .1) } in
-    ready (a .spec) _ _ _ held (z .clean-spec .ensures) (sym (f .cells-fit .ensures) ∙ ap countedPaper (told .1))
-
-returns-2 : tie.Need-returns-2
-returns-2 c =
-    let told = c .before .counted .given in
-    left _ (told .0 .0) _ _ (cut-refused _ _ _ _ (numberOf (told .0 .0)) (sym (c .before .before .before .cells-fit .ensures) ∙ ap countedPaper (told .1)))
-
-returns-3 : tie.Need-returns-3
-returns-3 c =
-    let b = c .before .before .before .before in
-    let z = b .before .before .before in
-    let g = z .before .before in
-    let k = g .before in
-    let told = k .before .before .counted2 .given in
-    same-proposal _ _ _ _ _ _ _
-    (cut-is _ _ _ _ _ (k .clean-cut .ensures) _ (sym (k .before .before .before .before .cells-fit .ensures) ∙ ap countedPaper (told .1)) _ (z .clean-spec .ensures) (sym (g .cut-good .ensures) ∙ not-false _ (z .before .if1 .left)))
-    (b .cut .ensures)
+unfolding previewTool
+returns c = c .before .before .before .before .preview-tool .ensures
 
 pub preview-cut-spec : {M : Type 1} → statement M
-preview-cut-spec =
-    tie.close
-    (tie.spec
-    (λ c κs. search needs)
-    (λ c. search needs)
-    (λ c. search needs)
-    (λ c κs. search needs)
-    (λ c κs. search needs)
-    returns
-    (λ c κs. search needs)
-    cut-requires
-    returns-2
-    (λ c. search needs)
-    (λ c. search needs)
-    returns-3)
+preview-cut-spec = tie.close (tie.spec (λ c. search needs) (λ c κs. search needs) (λ c. search needs) (λ c. search needs) returns)

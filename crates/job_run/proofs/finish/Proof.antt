@@ -8,14 +8,8 @@ use Rattle.job_run.proofs.finish.Tie as tie
 returns : tie.Need-returns
 returns c = finish-stopped _ _ (c .if1 .taken)
 
-refuse-requires : tie.Need-refuse-requires
-refuse-requires c κs = search needs
-
 returns-2 : tie.Need-returns-2
 returns-2 c = c .refuse .ensures ∙ finish-cut _ _ (c .before .before .if1 .left) (c .before .if2 .taken)
-
-refuse-requires-2 : tie.Need-refuse-requires-2
-refuse-requires-2 c κs = search needs
 
 returns-3 : tie.Need-returns-3
 returns-3 c = c .refuse2 .ensures ∙ finish-empty _ _ (c .before .before .before .before .if1 .left) (c .before .before .before .if2 .left) (c .before .if3 .taken)
@@ -25,4 +19,4 @@ returns-4 c = finish-done _ _ (c .before .before .before .if1 .left) (c .before 
 
 pub finish-spec : {M : Type 1} → statement M
 finish-spec =
-    tie.close (tie.spec returns refuse-requires returns-2 refuse-requires-2 returns-3 returns-4)
+    tie.close (tie.spec returns (λ c κs. search needs) returns-2 (λ c κs. search needs) returns-3 returns-4)

@@ -1,6 +1,6 @@
 -- `job_run::output_line` meets its contract. Assumes nothing.
 use Rattle.job_run.proofs.Lines.{output-is, output-most}
-use Rattle.spelled.proofs.Sets.{retext}
+use Rattle.job_answer.proofs.Nth.{reline}
 use borrow.Author.Needs.{needs}
 use Rattle.job_run.proofs.output_line.Statement.{statement}
 use Rattle.job_run.proofs.output_line.Tie as tie
@@ -8,8 +8,8 @@ use Rattle.job_run.proofs.output_line.Tie as tie
 returns : tie.Need-returns
 returns c =
     let a = c .before .before .before .before .before .before .before .args in (
-      retext (output-is (a .run) (a .cells .now) (a .rings .now) _ _ (a .k) (c .before .before .before .front .ensures) (c .before .front2 .ensures)) (c .answer-line .ensures .0),
-      (c .answer-line .ensures .1, output-most (a .run) (a .cells .now) (a .rings .now) (search needs) (search needs)),
+      reline (output-is (a .run) (a .cells .now) (a .rings .now) _ _ (a .k) (c .before .before .before .front .ensures) (c .before .front2 .ensures)) (c .answer-line .ensures),
+      output-most (a .run) (a .cells .now) (a .rings .now) (search needs) (search needs),
     )
 
 pub output-line-spec : {M : Type 1} → statement M

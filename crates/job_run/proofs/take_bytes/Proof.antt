@@ -24,38 +24,14 @@ few c = omega arith
 loop-holds : tie.Need-loop-holds Inv-loop μ-loop
 loop-holds c = (search needs, search needs, search needs, search needs, refl, refl, refl)
 
-shared-slice-read-take-byte : tie.Need-shared-slice-read-take-byte Inv-loop μ-loop
-shared-slice-read-take-byte c = search needs
-
-slice-aggregate-take-byte : tie.Need-slice-aggregate-take-byte Inv-loop μ-loop
-slice-aggregate-take-byte c = search needs
-
-slice-aggregate-take-byte-2 : tie.Need-slice-aggregate-take-byte-2 Inv-loop μ-loop
-slice-aggregate-take-byte-2 c = search needs
-
-take-byte-requires : tie.Need-take-byte-requires Inv-loop μ-loop
-take-byte-requires c κs = omega arith
-
 add-i : tie.Need-add-i Inv-loop μ-loop
 add-i c = let t = c .before .before .before .before .before .before .before .before .before .before .before .before .before .before .before .before in omega (arith, few (t .before .before .before .before .before .before), t .loop-test .taken)
-
-loop-less : tie.Need-loop-less Inv-loop μ-loop
-loop-less c = search needs
 
 loop-again : tie.Need-loop-again Inv-loop μ-loop
 loop-again c =
     let d = c .before .before .before .before .before .before .before .before .before in
     let t = d .before .before .before .before .before .before .before in
     (search needs, search needs, search needs, search needs, search needs, search needs, t .before .loop .inv .6 ∙ bytes-step _ _ _ _ (t .loop-test .taken) (d .take-byte .ensures))
-
-same-length : tie.Need-same-length Inv-loop μ-loop
-same-length c = search needs
-
-same-length-2 : tie.Need-same-length-2 Inv-loop μ-loop
-same-length-2 c = search needs
-
-same-length-3 : tie.Need-same-length-3 Inv-loop μ-loop
-same-length-3 c = search needs
 
 returns : tie.Need-returns Inv-loop μ-loop
 returns c = sym (c .before .loop .inv .6 ∙ bytes-end _ _ _ (c .loop-test .left))
@@ -67,14 +43,14 @@ take-bytes-spec =
     Inv-loop
     μ-loop
     loop-holds
-    shared-slice-read-take-byte
-    slice-aggregate-take-byte
-    slice-aggregate-take-byte-2
-    take-byte-requires
+    (λ c. search needs)
+    (λ c. search needs)
+    (λ c. search needs)
+    (λ c κs. omega arith)
     add-i
-    loop-less
+    (λ c. search needs)
     loop-again
-    same-length
-    same-length-2
-    same-length-3
+    (λ c. search needs)
+    (λ c. search needs)
+    (λ c. search needs)
     returns)

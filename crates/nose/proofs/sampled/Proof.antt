@@ -10,6 +10,6 @@ sampled-spec =
     tie.close
     (tie.spec
     (λ c κs. tt)
-    (λ c. search (picks, ← c .before .way-at .ensures))
+    (λ c. search (picks, ← c .before .capsule-at .ensures))
     (λ c κs. tt)
-    (λ c. search (picks, ← c .way-at2 .ensures, ← c .before .before .way-at .ensures)))
+    (λ c. search (picks, ← c .capsule-at2 .ensures, ← c .before .before .capsule-at .ensures)))

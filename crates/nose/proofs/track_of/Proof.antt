@@ -16,4 +16,4 @@ track-of-spec =
     (λ c κs. tt)
     (λ c κs. tt)
     (λ c κs. tt)
-    (λ c. search (picks, ← c .alike .ensures, ← c .before .before .greatest .ensures, ← c .before .before .before .least .ensures, ← c .before .before .before .before .capsule-lowest .ensures, ← c .before .before .before .before .before .way-of2 .ensures, ← c .before .before .before .before .before .before .way-of .ensures, ← c .before .before .before .before .before .before .before .before .before .normal-of .ensures)))
+    (λ c. search (picks, ← c .alike .ensures, ← c .before .before .greatest .ensures, ← c .before .before .before .least .ensures, ← c .before .before .before .before .capsule-lowest .ensures, ← c .before .before .before .before .before .capsule-of2 .ensures, ← c .before .before .before .before .before .before .capsule-of .ensures, ← c .before .before .before .before .before .before .before .before .before .normal-of .ensures)))

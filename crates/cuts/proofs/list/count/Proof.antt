@@ -6,8 +6,8 @@ use native.Mathlib.Omega.{arith}
 use borrow.Author.Needs.{needs}
 use lib.ListN.{length, length-append}
 use Rattle.stock.specs.declared.TurnChange.{TurnChange}
-use Rattle.records.specs.Change.{changeAt, changesTo}
-use Rattle.records.proofs.Rising.{changes-more}
+use Rattle.changes.specs.Change.{changeAt, changesTo}
+use Rattle.changes.proofs.Rising.{changes-more}
 use Rattle.reach.specs.Reach.{actCell}
 use Rattle.cuts.specs.Source.{sourceAct, spanAct}
 use Rattle.cuts.proofs.EachBin.{one-at-most}

@@ -3,7 +3,7 @@ use mathlib.Core.Path.{ap}
 use native.Mathlib.Omega.{arith}
 use lib.ListN.{length}
 use borrow.Author.Needs.{needs}
-use Rattle.records.proofs.Proposals.{settled-listed, settled-full}
+use Rattle.changes.proofs.Proposals.{settled-listed, settled-full}
 use Rattle.cuts.specs.Source.{sourceAct}
 use Rattle.cuts.proofs.Spans.{none-behind, span-most, listing-end}
 use Rattle.cuts.proofs.list.list.Statement.{statement}

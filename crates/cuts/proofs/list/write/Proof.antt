@@ -4,8 +4,8 @@ use Prim.Native.Nat.{ℕ, _≤_, _-_}
 use native.Mathlib.Omega.{arith}
 use borrow.Author.Needs.{needs}
 use lib.ListN.{length}
-use Rattle.records.specs.Change.{changesTo, roomOf, Listing}
-use Rattle.records.proofs.Placed.{listing-next, listing-lengths}
+use Rattle.changes.specs.Change.{changesTo, roomOf, Listing}
+use Rattle.changes.proofs.Placed.{listing-next, listing-lengths}
 use Rattle.reach.specs.Reach.{actCell}
 use Rattle.cuts.specs.Source.{sourceAct, spanAct}
 use Rattle.cuts.proofs.Spans.{none-before, change-of-in, listing-start}
@@ -13,11 +13,11 @@ use Rattle.cuts.proofs.list.write.Statement.{statement}
 use Rattle.cuts.proofs.list.write.Tie as tie
 
 abbrev Inv-loop : tie.InvT-loop
-Inv-loop s source values there cells first last indices₀ numbers₀ k₀ i₀ indices numbers k i =
-    (first ≤ i) × (i ≤ last) × (length (changesTo (actCell (spanAct first last (sourceAct s source values there))) cells last) ≤ roomOf (length indices₀) (length numbers₀)) × Listing (actCell (spanAct first last (sourceAct s source values there))) cells i k indices₀ indices numbers₀ numbers
+Inv-loop s source values there cells first last indices₀ records₀ k₀ i₀ indices records k i =
+    (first ≤ i) × (i ≤ last) × (length (changesTo (actCell (spanAct first last (sourceAct s source values there))) cells last) ≤ roomOf (length indices₀) (length records₀)) × Listing (actCell (spanAct first last (sourceAct s source values there))) cells i k indices₀ indices records₀ records
 
 abbrev μ-loop : tie.MeasureT-loop
-μ-loop s source values there cells first last indices₀ numbers₀ k₀ i₀ indices numbers k i = last - i
+μ-loop s source values there cells first last indices₀ records₀ k₀ i₀ indices records k i = last - i
 
 loop-holds : tie.Need-loop-holds Inv-loop μ-loop
 loop-holds c =
@@ -54,7 +54,7 @@ returns c =
     let l = c .before in
     let a = l .before .before .before .before .before .before .args in
     let e : l .loop .i ≡ a .last = omega arith in
-    subst (λ (j : ℕ). Listing (actCell (spanAct (a .first) (a .last) (sourceAct (a .s) (a .source) (a .values .now) (a .there .now)))) (a .cells .now) j (l .loop .k) (a .indices .now) (l .loop .indices) (a .numbers .now) (l .loop .numbers)) e (l .loop .inv .3)
+    subst (λ (j : ℕ). Listing (actCell (spanAct (a .first) (a .last) (sourceAct (a .s) (a .source) (a .values .now) (a .there .now)))) (a .cells .now) j (l .loop .k) (a .indices .now) (l .loop .indices) (a .records .now) (l .loop .records)) e (l .loop .inv .3)
 
 pub write-spec : {M : Type 1} → statement M
 write-spec =

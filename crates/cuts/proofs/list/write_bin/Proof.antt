@@ -4,8 +4,8 @@ use borrow.Author.Needs.{needs}
 use Rattle.stock.specs.declared.TurnSide.the-variants.{Outer, Inner}
 use Rattle.reach.specs.Low.{lowPaper}
 use Rattle.reach.specs.Reach.{actCell}
-use Rattle.records.specs.Change.{changeOf, Listed}
-use Rattle.records.proofs.Placed.{list-same}
+use Rattle.changes.specs.Change.{changeOf, Listed}
+use Rattle.changes.proofs.Placed.{list-same}
 use Rattle.cuts.specs.Source.{sourceAct}
 use Rattle.cuts.proofs.EachBin.{bin-passed, bin-after, listed-as}
 use Rattle.cuts.proofs.Left.{bin-left}

@@ -2,7 +2,7 @@
 use lib.ListN.{length}
 use borrow.Author.Needs.{needs}
 use Rattle.stock.specs.declared.TurnSide.{TurnSide}
-use Rattle.records.specs.Change.{roomOf}
+use Rattle.changes.specs.Change.{roomOf}
 use Rattle.cuts.specs.Preview.{previewPolygon}
 use Rattle.turning.specs.Boundary.{bySide}
 use Rattle.turning.proofs.Given.{gives-changes, same-by}

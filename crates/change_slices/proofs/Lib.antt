@@ -1,0 +1,9 @@
+pub mod Lists
+pub mod Again
+pub mod Once
+pub mod Reading
+pub mod Shown
+pub mod Rooms
+pub mod Arrays
+pub mod Decided
+pub mod Agree

@@ -1,0 +1,41 @@
+-- Two outcomes that meet the promise of a call, of the same inputs, are the same. Assumes nothing.
+use mathlib.Core.Path.{_≡_, sym, ap, _∙_}
+use mathlib.Core.List.{List}
+use Prim.Native.Nat.{ℕ}
+use native.Mathlib.Omega.{arith}
+use lib.Ieee.{Float}
+use Rattle.refusals.specs.Number.{numberOf}
+use Rattle.refusals.specs.Paper.{Paper}
+use Rattle.refusals.specs.Lent.{over}
+use Rattle.refusals.proofs.OneToOne.{one-to-one}
+use Rattle.stock.specs.declared.TurnChange.{TurnChange}
+use Rattle.stock.proofs.Count.{same-answer}
+use Rattle.changes.specs.declared.Previewed.{Previewed}
+use Rattle.changes.specs.Change.{changesFrom}
+use Rattle.changes.proofs.Proposals.{same-previewed}
+use Rattle.changes.specs.declared.Applied.{Applied}
+use Rattle.changes.specs.declared.Applied.the-variants as applied
+use Rattle.changes.specs.Commit.{Committed, appliedPaper, Applies}
+use Rattle.change_slices.specs.Read.{Reads}
+use Rattle.change_slices.specs.Proposal.{Written}
+
+-- ---- a commit
+same-applied : (r r' : Applied) → appliedPaper r ≡ appliedPaper r' → r ≡ r'
+same-applied (applied.Generation g) (applied.Generation g') h = let e : g ≡ g' = same-answer h in ap (λ x. applied.Generation x) e
+same-applied (applied.Generation g) (applied.Refused c) h = let z : _≡_ {A = ℕ} 0 1 = cc in absurd (omega arith)
+same-applied (applied.Refused c) (applied.Generation g) h = let z : _≡_ {A = ℕ} 0 1 = cc in absurd (omega arith)
+same-applied (applied.Refused c) (applied.Refused c') h = let e : numberOf c ≡ numberOf c' = cc in ap (λ x. applied.Refused x) (one-to-one c c' e)
+
+-- the answer and the cells
+pub applied-once : (p : Paper Committed) (r r' : Applied) (cs cs₁ cs₂ : List Float) → Applies p r cs cs₁ → Applies p r' cs cs₂ → (r ≡ r') × (cs₁ ≡ cs₂)
+applied-once p r r' cs cs₁ cs₂ a b = (same-applied r r' (a .answer ∙ sym (b .answer)), a .cells ∙ sym (b .cells))
+
+-- ---- records read from flat lists: how many, and the records
+pub read-once : (is : List ℕ) (xs : List Float) (k r r' : ℕ) (l l₁ l₂ : List TurnChange) → Reads is xs k r l l₁ → Reads is xs k r' l l₂ → (r ≡ r') × (l₁ ≡ l₂)
+read-once is xs k r r' l l₁ l₂ a b =
+    let e : r ≡ r' = a .count ∙ sym (b .count) in
+    (e, a .records ∙ ap (λ (m : ℕ). over (changesFrom is xs m) l) e ∙ sym (b .records))
+
+-- ---- records after a proposal: the answer, and the records
+pub written-once : (p : Paper (List TurnChange)) (r r' : Previewed) (l l₁ l₂ : List TurnChange) → Written p r l l₁ → Written p r' l l₂ → (r ≡ r') × (l₁ ≡ l₂)
+written-once p r r' l l₁ l₂ a b = (same-previewed r r' (a .answer ∙ sym (b .answer)), a .records ∙ sym (b .records))

@@ -1,0 +1,45 @@
+-- `change_slices::moving::first_of` meets its contract. Assumes nothing.
+use mathlib.Core.Path.{sym, ap, _∙_}
+use borrow.Author.Needs.{needs}
+use borrow.Author.Tests.{not-true, not-false}
+use Rattle.refusals.specs.Number.{numberOf}
+use Rattle.stock.specs.Spec.{countedPaper}
+use Rattle.change_slices.proofs.Decided.{first-stock, first-stored, first-removed, first-change}
+use Rattle.change_slices.proofs.moving.first_of.Statement.{statement}
+use Rattle.change_slices.proofs.moving.first_of.Tie as tie
+
+returns : tie.Need-returns
+returns c =
+    let told = c .before .counted .given in
+    first-stock _ _ _ _ _ _ (numberOf (told .0 .0)) (sym (c .before .before .before .cells-fit .ensures) ∙ ap countedPaper (told .1))
+
+returns-2 : tie.Need-returns-2
+returns-2 c =
+    let b = c .before .before in
+    first-stored _ _ _ _ _ _ _ (sym (b .before .before .cells-fit .ensures) ∙ ap countedPaper (b .enum-told .given .1)) (sym (c .before .rings-fit .ensures) ∙ not-true _ (c .if1 .taken))
+
+returns-3 : tie.Need-returns-3
+returns-3 c =
+    let b = c .before .before in
+    let k = b .before .before in
+    first-removed _ _ _ _ _ _ _ (sym (k .before .before .cells-fit .ensures) ∙ ap countedPaper (k .enum-told .given .1)) (sym (b .before .rings-fit .ensures) ∙ not-false _ (b .if1 .left)) (sym (c .before .rings-good .ensures) ∙ not-true _ (c .if2 .taken))
+
+returns-4 : tie.Need-returns-4
+returns-4 c =
+    let b = c .before .before in
+    let k = b .before .before in
+    first-change _ _ _ _ _ _ _ (sym (k .before .before .cells-fit .ensures) ∙ ap countedPaper (k .enum-told .given .1)) (sym (b .before .rings-fit .ensures) ∙ not-false _ (b .if1 .left)) (sym (c .before .rings-good .ensures) ∙ not-false _ (c .if2 .left))
+
+pub first-of-spec : {M : Type 1} → statement M
+first-of-spec =
+    tie.close
+    (tie.spec
+    (λ c κs. search needs)
+    (λ c. search needs)
+    returns
+    (λ c. search needs)
+    (λ c κs. search needs)
+    returns-2
+    (λ c κs. search needs)
+    returns-3
+    returns-4)

@@ -1,0 +1,23 @@
+-- `changes::step` meets its contract. Assumes nothing.
+use mathlib.Core.Bool.{true, not, _&&_, _||_}
+use borrow.Author.Needs.{needs}
+use lib.Dec.{ltb}
+use Rattle.changes.specs.Commit.{passingPaper}
+use Rattle.changes.proofs.step.Statement.{statement}
+use Rattle.changes.proofs.step.Tie as tie
+
+returns : tie.Need-returns
+returns c =
+    let a = c .before .before .before .before .before .before .args in
+    λ i. record {
+      spec = a .st .s;
+      n = a .st .n;
+      stock = passingPaper (a .st .stock);
+      any = true;
+      last = a .change .index;
+      rises = a .st .rises && (not (a .st .any) || ltb (a .st .last) (a .change .index));
+      found = c .before .before .before .found-next .ensures i;
+    }
+
+pub step-spec : {M : Type 1} → statement M
+step-spec = tie.close (tie.spec (λ c κs. search needs) returns)

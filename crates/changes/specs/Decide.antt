@@ -1,0 +1,79 @@
+-- A list of changes that is decided change by change: how far it is, one change on, and how it comes out. Assumes nothing.
+use mathlib.Core.Bool.{Bool, true, false, not, _&&_, _||_}
+use mathlib.Core.List.{List, foldl}
+use Prim.Native.Nat.{ℕ, _+_}
+use lib.Dec.{ltb}
+use lib.Ieee.{Float}
+use Rattle.refusals.specs.Paper.{Paper, answers, refuses, demand, onward}
+use Rattle.refusals.specs.Limits.{lastGeneration}
+use Rattle.stock.specs.declared.TurnStockSpec.{TurnStockSpec}
+use Rattle.stock.specs.declared.TurnChange.{TurnChange}
+use Rattle.stock.specs.Spec.{cleanSpec}
+use Rattle.stock.specs.Cell.{stockOf}
+use Rattle.changes.specs.declared.Applied.{Applied}
+use Rattle.changes.specs.declared.Applied.the-variants.{Generation, Refused}
+use Rattle.changes.specs.declared.Deciding.{Deciding}
+use Rattle.changes.specs.Commit.{passes, passingPaper}
+
+-- how far a list is decided, against n cells of a clean spec
+pub record Decides : Type 0 where
+  pub spec : TurnStockSpec
+  pub n : ℕ
+  -- whether the stock itself passes
+  pub stock : Paper (Unit {0})
+  -- the last index seen, if any
+  pub any : Bool
+  pub last : ℕ
+  pub rises : Bool
+  -- the first change that does not pass
+  pub found : Paper (Unit {0})
+
+-- what the code holds of it, field by field
+abbrev pub decidingPaper : Deciding → Decides
+decidingPaper st = record { spec = st .s; n = st .n; stock = passingPaper (st .stock); any = st .any; last = st .last; rises = st .rises; found = passingPaper (st .found) }
+
+-- before the first change, on n cells that are not asked
+abbrev pub onCells : TurnStockSpec → ℕ → Decides
+onCells s n = record { spec = s; n = n; stock = answers tt; any = false; last = 0; rises = true; found = answers tt }
+
+-- the same on what the stock's check says
+abbrev pub onStock : TurnStockSpec → Paper ℕ → Decides
+onStock s (answers n) = onCells s n
+onStock s (refuses r) = record { spec = s; n = 0; stock = refuses r; any = false; last = 0; rises = true; found = answers tt }
+
+-- before the first change: 1, 2, 3
+unfoldable pub beginOf : TurnStockSpec → List Float → Decides
+beginOf spec cs = onStock (cleanSpec spec) (stockOf spec cs)
+
+-- one change on
+abbrev pub stepOf : List Float → Decides → TurnChange → Decides
+stepOf cs d c = record {
+  spec = d .spec;
+  n = d .n;
+  stock = d .stock;
+  any = true;
+  last = c .index;
+  rises = d .rises && (not (d .any) || ltb (d .last) (c .index));
+  found = onward (d .found) (λ _. passes (d .spec) (d .n) cs c);
+}
+
+-- all changes of a list
+abbrev pub stepsOf : List Float → Decides → List TurnChange → Decides
+stepsOf cs d l = foldl (stepOf cs) d l
+
+-- how it comes out: the stock's refusal, 7, then the first change that does not pass
+unfoldable pub outcomeOf : Decides → Paper (Unit {0})
+outcomeOf d = onward (d .stock) (λ _. demand (d .rises) 7 (d .found))
+
+-- the generation after changes that pass: 12
+unfoldable pub raisedOf : Paper (Unit {0}) → ℕ → Paper ℕ
+raisedOf p gen = onward p (λ _. demand (ltb gen lastGeneration) 12 (answers (gen + 1)))
+
+-- after the last change
+abbrev pub concludeOf : Decides → ℕ → Paper ℕ
+concludeOf d gen = raisedOf (outcomeOf d) gen
+
+-- an answer that is no refusal
+abbrev pub isAccepted : Applied → Bool
+isAccepted (Generation g) = true
+isAccepted (Refused c) = false

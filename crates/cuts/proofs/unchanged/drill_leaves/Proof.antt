@@ -1,0 +1,18 @@
+-- `cuts::unchanged::drill_leaves` meets its contract. Assumes nothing.
+use borrow.Author.Needs.{needs}
+use Rattle.cuts.proofs.Left.{drill-told}
+use Rattle.cuts.proofs.unchanged.drill_leaves.Statement.{statement}
+use Rattle.cuts.proofs.unchanged.drill_leaves.Tie as tie
+
+returns : tie.Need-returns
+returns c t =
+    let s = c .before .before .before in
+    let g = s .good .0 in
+    drill-told (s .args .radius) (s .args .c) _ (search (needs, g)) (record { ol = search needs; ou = search needs; il = search needs; iu = search needs }) (c .before .before .least .ensures) t
+
+pub drill-leaves-spec : {M : Type 1} → statement M
+drill-leaves-spec =
+    tie.close
+    (tie.spec
+    (λ c κs. search needs)
+    returns)

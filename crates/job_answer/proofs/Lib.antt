@@ -1,0 +1,3 @@
+pub mod Nth
+pub mod Distinct
+pub mod Samples

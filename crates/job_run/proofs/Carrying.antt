@@ -1,0 +1,241 @@
+-- What a line answers and leaves, by what its rule says. Assumes nothing.
+use mathlib.Core.Path.{_≡_, refl, sym, ap, _∙_, subst}
+use mathlib.Core.Bool.{Bool, true, false}
+use mathlib.Core.List.{List, [], _++_}
+use Prim.Native.Nat.{ℕ, _*_, _/_, _<_, _≤_, min}
+use native.Mathlib.Omega.{arith}
+use borrow.Author.Tests.{le-leb, lt-leb, leb-true, leb-false, lt-ltb, le-ltb, eq-eqb, ne-eqb}
+use lib.Dec.{leb, ltb, eqb}
+use lib.ListN.{length, take, drop, take-append-drop}
+use lib.Seq.{length-take-le, take-all}
+use lib.Ieee.{Float}
+use Rattle.refusals.specs.declared.Refusal.{Refusal}
+use Rattle.refusals.specs.declared.Refusal.the-variants.{CellsDoNotFit}
+use Rattle.refusals.specs.Number.{numberOf}
+use Rattle.refusals.specs.Paper.{Paper, answers, refuses, onward, papers, onward-answers}
+use Rattle.refusals.specs.Lent.{over}
+use Rattle.refusals.proofs.OneToOne.{one-to-one}
+use Rattle.stock.specs.declared.TurnStockSpec.{TurnStockSpec}
+use Rattle.stock.specs.declared.TurnChange.{TurnChange}
+use Rattle.stock.specs.declared.Counted.{Counted}
+use Rattle.stock.specs.declared.Counted.the-variants as counted
+use Rattle.stock.specs.Spec.{cleanSpec, cellsOf, countedPaper}
+use Rattle.stock.specs.Cell.{newCells, freshCell, cellsLike, Filled}
+use Rattle.stock.proofs.Cells.{length-like}
+use Rattle.stock.proofs.Count.{no-answer, same-answer}
+use Rattle.stock.proofs.Fresh.{new-is}
+use Rattle.floats.specs.Pick.{pick, picks}
+use Rattle.changes.specs.Change.{numbersOf, writtenOf}
+use Rattle.cuts.specs.declared.Cut.{Cut}
+use Rattle.cuts.specs.Preview.{previewCut}
+use Rattle.changes.specs.declared.Applied.{Applied}
+use Rattle.changes.specs.declared.Applied.the-variants as applied
+use Rattle.changes.specs.Commit.{Committed, Applies}
+use Rattle.rings.specs.declared.Ring.{Ring}
+use Rattle.rings.specs.declared.Removed.{Removed}
+use Rattle.rings.specs.declared.Removed.the-variants as removed
+use Rattle.rings.specs.Store.{storeAs}
+use Rattle.rings.specs.Remove.{RingStore, RingCount, removeRing, countsOf, ringsAfter, Removes}
+use Rattle.job_words.specs.declared.Line.{Line}
+use Rattle.job_words.specs.declared.Line.the-variants as line
+use Rattle.job_words.specs.Kind.{lineOf}
+use Rattle.job_run.specs.declared.line.Carried.{Carried}
+use Rattle.job_run.specs.declared.line.Job.{Job}
+use Rattle.job_run.specs.declared.line.Carried.the-variants as carried
+use Rattle.job_run.specs.Job.{Stand, stand, lineLimit, madeCut, barLine, cutLine, removingLine, firstLine, laterLine, jobLine, lineChanges, jobChanges, carriedPaper, Carries, CarriesCells, CarriesRings, ChangesOver}
+
+-- refused: all stays
+pub refused : (p : Paper Stand) (r : Refusal) (cs rs : List Float) → p ≡ refuses (numberOf r) → Carries p (carried.Refused r) cs cs rs rs
+refused p r cs rs e = rw e (record { answer = refl; cells = refl; rings = refl })
+
+-- accepted
+pub went : (p : Paper Stand) (j : Job) (cs cs' rs rs' : List Float) → p ≡ answers (stand j cs' rs') → Carries p (carried.Onward j) cs cs' rs rs'
+went p j cs cs' rs rs' e = rw e (record { answer = refl; cells = refl; rings = refl })
+
+-- ---- a bar
+module _ (spec : TurnStockSpec) (cs : List Float) where
+  pub bar-refused : (c : Counted) (r : Refusal) → countedPaper c ≡ cellsOf spec → c ≡ counted.Refused r → CarriesCells (barLine spec cs) (carried.Refused r) cs cs
+  unfolding barLine
+  bar-refused c r e q rs =
+      let k : cellsOf spec ≡ refuses (numberOf r) = sym e ∙ ap countedPaper q in
+      refused _ r cs rs (simp (papers, k))
+
+  pub bar-short : (c : Counted) (n : ℕ) → countedPaper c ≡ cellsOf spec → c ≡ counted.Cells n → length cs / 4 < n → CarriesCells (barLine spec cs) (carried.Refused CellsDoNotFit) cs cs
+  unfolding barLine
+  bar-short c n e q h rs =
+      let k : cellsOf spec ≡ answers n = sym e ∙ ap countedPaper q in
+      refused _ CellsDoNotFit cs rs (simp (papers, k, lt-leb (4 * n) (length cs) (omega arith)))
+
+  -- the front, filled
+  filled : (n : ℕ) (f : Counted) (part' : List Float) → cellsOf spec ≡ answers n → n ≤ length cs / 4 → Filled spec f (take (4 * n) cs) part' → part' ≡ cellsLike (freshCell (cleanSpec spec)) n
+  filled n f part' k h w =
+      let l : length (take (4 * n) cs) ≡ 4 * n = length-take-le (4 * n) cs (omega arith) in
+      w .cells ∙ ap (λ (p : Paper ℕ). newCells spec p (take (4 * n) cs)) (sym (new-is spec _ n k l))
+
+  pub bar-made : (c : Counted) (n : ℕ) (f : Counted) (part' : List Float) → countedPaper c ≡ cellsOf spec → c ≡ counted.Cells n → n ≤ length cs / 4
+      → Filled spec f (take (4 * n) cs) part' → CarriesCells (barLine spec cs) (carried.Onward (record { spec = spec; cells = n; rings = 0; generation = 0 })) cs (part' ++ drop (4 * n) cs)
+  unfolding barLine over
+  bar-made c n f part' e q h w rs =
+      let k : cellsOf spec ≡ answers n = sym e ∙ ap countedPaper q in
+      let z = length-like (freshCell (cleanSpec spec)) n in
+      went _ _ cs _ rs rs (rw (filled n f part' k h w) (simp (papers, k, le-leb (4 * n) (length cs) (omega arith), z)))
+
+-- ---- a cut
+
+-- the job's cells, of a list that may have fewer
+front : (n : ℕ) (cs : List Float) → take (min (4 * n) (length cs)) cs ≡ take (4 * n) cs
+front n cs = by (leb (4 * n) (length cs)) refl
+  where
+    by : (t : Bool) → leb (4 * n) (length cs) ≡ t → take (min (4 * n) (length cs)) cs ≡ take (4 * n) cs
+    by true e = let q : min (4 * n) (length cs) ≡ 4 * n = omega (arith, leb-true (4 * n) (length cs) e) in ap (λ (k : ℕ). take k cs) q
+    by false e =
+        let h = leb-false (4 * n) (length cs) e in
+        take-all (min (4 * n) (length cs)) cs (omega arith) ∙ sym (take-all (4 * n) cs (omega arith))
+
+-- two refusals that are the same
+pub same-number : {A : Type 0} {m n : ℕ} → _≡_ {A = Paper A} (refuses m) (refuses n) → m ≡ n
+same-number h = cc
+
+-- what an answer of a commit says of its rule
+commit-refused : (p : Paper Committed) (r : Refusal) (cs cs' : List Float) → Applies p (applied.Refused r) cs cs' → (p ≡ refuses (numberOf r)) × (cs' ≡ cs)
+commit-refused (answers k) r cs cs' w = absurd (no-answer (numberOf r) (k .generation) (w .answer))
+commit-refused (refuses n) r cs cs' w = (ap refuses (sym (same-number {A = ℕ} (w .answer))), w .cells)
+
+commit-went : (p : Paper Committed) (g : ℕ) (cs cs' : List Float) → Applies p (applied.Generation g) cs cs' → p ≡ answers (record { cells = cs'; generation = g })
+commit-went (answers k) g cs cs' w =
+    ap (λ (h : ℕ). answers (record { cells = k .cells; generation = h })) (sym (same-answer (w .answer)))
+    ∙ ap (λ (xs : List Float). answers (record { cells = xs; generation = g })) (sym (w .cells))
+commit-went (refuses n) g cs cs' w = absurd (no-answer n g (sym (w .answer)))
+
+module _ (j : Job) (cut : Cut) (room : ℕ) (cs : List Float) (e : ℕ) (b : e ≡ min (4 * j .cells) (length cs)) (a : Applied) (part' : List Float) (w : Applies (madeCut (j .spec) (take e cs) (j .generation) cut room) a (take e cs) part') where
+  of-job : Applies (madeCut (j .spec) (take (4 * j .cells) cs) (j .generation) cut room) a (take e cs) part'
+  of-job = subst (λ (xs : List Float). Applies (madeCut (j .spec) xs (j .generation) cut room) a (take e cs) part') (ap (λ (k : ℕ). take k cs) b ∙ front (j .cells) cs) w
+
+  pub cut-refused : (r : Refusal) → a ≡ applied.Refused r → CarriesCells (cutLine j cut room cs) (carried.Refused r) cs (part' ++ drop e cs)
+  unfolding cutLine
+  cut-refused r q rs =
+      let k = commit-refused _ r _ _ (subst (λ (x : Applied). Applies (madeCut (j .spec) (take (4 * j .cells) cs) (j .generation) cut room) x (take e cs) part') q of-job) in
+      let s : part' ++ drop e cs ≡ cs = ap (λ (xs : List Float). xs ++ drop e cs) (k .1) ∙ take-append-drop e cs in
+      rw s (refused _ r cs rs (simp (papers, k .0)))
+
+  pub cut-went : (g : ℕ) → a ≡ applied.Generation g → length part' ≡ length (take e cs)
+      → CarriesCells (cutLine j cut room cs) (carried.Onward (record { spec = j .spec; cells = j .cells; rings = j .rings; generation = g })) cs (part' ++ drop e cs)
+  unfolding cutLine over
+  cut-went g q l rs =
+      let k = commit-went _ g _ _ (subst (λ (x : Applied). Applies (madeCut (j .spec) (take (4 * j .cells) cs) (j .generation) cut room) x (take e cs) part') q of-job) in
+      let z : length part' ≡ e = l ∙ length-take-le e cs (omega arith) in
+      went _ _ cs _ rs rs (simp (papers, k, z))
+
+-- the lists of the job's own cells
+pub lists-of : (j : Job) (cut : Cut) (room : ℕ) (cs : List Float) (e : ℕ) → e ≡ min (4 * j .cells) (length cs) → (is is' : List ℕ) (xs xs' : List Float)
+    → ChangesOver (writtenOf (previewCut (j .spec) (take e cs) cut room)) is is' xs xs' → ChangesOver (writtenOf (previewCut (j .spec) (take (4 * j .cells) cs) cut room)) is is' xs xs'
+lists-of j cut room cs e b is is' xs xs' w = subst (λ (ys : List Float). ChangesOver (writtenOf (previewCut (j .spec) ys cut room)) is is' xs xs') (ap (λ (k : ℕ). take k cs) b ∙ front (j .cells) cs) w
+
+-- no changes: the lists stay
+pub unlisted : (l : List TurnChange) (is : List ℕ) (xs : List Float) → l ≡ [] → ChangesOver l is is xs xs
+unfolding over numbersOf
+unlisted l is xs e = rw e (record { indices = refl; numbers = refl })
+
+-- ---- a ring
+
+-- what an answer says of the rule
+ring-none : (p : Paper RingStore) (r : Refusal) (rs rs' : List Float) → Removes rs p (removed.Refused r) rs' → (p ≡ refuses (numberOf r)) × (rs' ≡ rs)
+unfolding countsOf ringsAfter onward
+ring-none (answers s) r rs rs' w = absurd (no-answer (numberOf r) _ (w .answer))
+ring-none (refuses n) r rs rs' w = (ap refuses (sym (same-number {A = RingCount} (w .answer))), w .store)
+
+-- where an answer goes on
+onward-is : {A B : Type 0} (p : Paper A) (a : A) (f : A → Paper B) → p ≡ answers a → onward p f ≡ f a
+onward-is p a f e = rw e (onward-answers a f)
+
+-- the store that was left
+pub record Left (p : Paper RingStore) (n g : ℕ) (rs rs' : List Float) : Type 0 where
+  pub store : RingStore
+  pub rule : p ≡ answers store
+  pub count : length (store .rings) ≡ n
+  pub generation : store .generation ≡ g
+  pub lent : rs' ≡ storeAs rs (store .rings)
+
+ring-left : (p : Paper RingStore) (n g : ℕ) (rs rs' : List Float) → Removes rs p (removed.Stored n g) rs' → Left p n g rs rs'
+unfolding countsOf ringsAfter onward
+ring-left (answers s) n g rs rs' w =
+    let e : _≡_ {A = RingCount} (record { rings = n; generation = g }) (record { rings = length (s .rings); generation = s .generation }) = same-answer (w .answer) in
+    record { store = s; rule = refl; count = sym (ap (λ (c : RingCount). c .rings) e); generation = sym (ap (λ (c : RingCount). c .generation) e); lent = w .store }
+ring-left (refuses m) n g rs rs' w = absurd (no-answer {A = RingCount} m (record { rings = n; generation = g }) (sym (w .answer)))
+
+module _ (j : Job) (q : Ring) (rs rs' : List Float) (d : Removed) (w : Removes rs (removeRing (j .spec) rs (j .rings) (j .generation) q) d rs') where
+  pub ring-refused : (r : Refusal) → d ≡ removed.Refused r → CarriesRings (removingLine j q) (carried.Refused r) rs rs'
+  unfolding removingLine
+  ring-refused r e cs =
+      let k = ring-none _ r rs rs' (subst (λ (x : Removed). Removes rs (removeRing (j .spec) rs (j .rings) (j .generation) q) x rs') e w) in
+      rw (k .1) (refused _ r cs rs (simp (papers, k .0)))
+
+  pub ring-went : (n g : ℕ) → d ≡ removed.Stored n g → CarriesRings (removingLine j q) (carried.Onward (record { spec = j .spec; cells = j .cells; rings = n; generation = g })) rs rs'
+  unfolding removingLine
+  ring-went n g e cs =
+      let k = ring-left _ n g rs rs' (subst (λ (x : Removed). Removes rs (removeRing (j .spec) rs (j .rings) (j .generation) q) x rs') e w) in
+      rw (k .lent) (went _ _ cs cs rs _ (onward-is _ _ _ (k .rule) ∙ simp (k .count, k .generation)))
+
+-- ---- a line by its kind
+pub first-bar : (l : Line) (spec : TurnStockSpec) (cs cs' : List Float) (r : Carried) → l ≡ line.Bar spec → CarriesCells (barLine spec cs) r cs cs' → CarriesCells (firstLine l cs) r cs cs'
+unfolding firstLine
+first-bar l spec cs cs' r e w rs = rw e (w rs)
+
+pub later-cut : (j : Job) (l : Line) (cut : Cut) (room : ℕ) (cs cs' rs : List Float) (r : Carried) → l ≡ line.Cutting cut → CarriesCells (cutLine j cut room cs) r cs cs' → Carries (laterLine j l room cs rs) r cs cs' rs rs
+unfolding laterLine
+later-cut j l cut room cs cs' rs r e w = rw e (w rs)
+
+pub later-ring : (j : Job) (l : Line) (q : Ring) (room : ℕ) (cs rs rs' : List Float) (r : Carried) → l ≡ line.Removing q → CarriesRings (removingLine j q) r rs rs' → Carries (laterLine j l room cs rs) r cs cs rs rs'
+unfolding laterLine
+later-ring j l q room cs rs rs' r e w = rw e (w cs)
+
+-- its changes
+pub later-lists : (j : Job) (l : Line) (cut : Cut) (room : ℕ) (cs : List Float) (is is' : List ℕ) (xs xs' : List Float) → l ≡ line.Cutting cut → ChangesOver (writtenOf (previewCut (j .spec) (take (4 * j .cells) cs) cut room)) is is' xs xs' → ChangesOver (lineChanges j l room cs) is is' xs xs'
+unfolding lineChanges
+later-lists j l cut room cs is is' xs xs' e w = rw e w
+
+-- a rule that comes to another has its outcome
+pub same-outcome : (p q : Paper Stand) (r : Carried) (cs cs' rs rs' : List Float) → p ≡ q → Carries q r cs cs' rs rs' → Carries p r cs cs' rs rs'
+same-outcome p q r cs cs' rs rs' e w = rw e w
+
+-- ---- the bytes of a line
+module _ (j : Job) (s : List ℕ) (room : ℕ) (cs rs : List Float) where
+  pub line-long : lineLimit ≤ length s → jobLine j s room cs rs ≡ refuses 15
+  unfolding jobLine
+  line-long h = simp (papers, le-ltb (length s) lineLimit h)
+
+  pub line-first : (l : Line) → length s < lineLimit → l ≡ lineOf s → j .cells ≡ 0 → jobLine j s room cs rs ≡ firstLine l cs rs
+  unfolding jobLine
+  line-first l h e z = rw e (simp (papers, picks, lt-ltb (length s) lineLimit h, eq-eqb (j .cells) 0 z))
+
+  pub line-later : (l : Line) → length s < lineLimit → l ≡ lineOf s → (j .cells ≡ 0 → ⊥) → jobLine j s room cs rs ≡ laterLine j l room cs rs
+  unfolding jobLine
+  line-later l h e z = rw e (simp (papers, picks, lt-ltb (length s) lineLimit h, ne-eqb (j .cells) 0 z))
+
+module _ (j : Job) (s : List ℕ) (room : ℕ) (cs : List Float) where
+  pub changes-long : lineLimit ≤ length s → jobChanges j s room cs ≡ []
+  unfolding jobChanges
+  changes-long h = simp (picks, le-ltb (length s) lineLimit h)
+
+  pub changes-first : length s < lineLimit → j .cells ≡ 0 → jobChanges j s room cs ≡ []
+  unfolding jobChanges
+  changes-first h z = simp (picks, lt-ltb (length s) lineLimit h, eq-eqb (j .cells) 0 z)
+
+  pub changes-later : (l : Line) → length s < lineLimit → l ≡ lineOf s → (j .cells ≡ 0 → ⊥) → (is is' : List ℕ) (xs xs' : List Float) → ChangesOver (lineChanges j l room cs) is is' xs xs' → ChangesOver (jobChanges j s room cs) is is' xs xs'
+  unfolding jobChanges
+  changes-later l h e z is is' xs xs' w =
+      let q : pick (ltb (length s) lineLimit) (pick (eqb (j .cells) 0) [] (lineChanges j (lineOf s) room cs)) [] ≡ lineChanges j l room cs = simp (picks, lt-ltb (length s) lineLimit h, ne-eqb (j .cells) 0 z) (ap (λ (x : Line). lineChanges j x room cs) (sym e)) in
+      rw q w
+
+-- ---- two outcomes that meet the promise are the same
+same-carried : (r r' : Carried) → carriedPaper r ≡ carriedPaper r' → r ≡ r'
+same-carried (carried.Onward j) (carried.Onward k) e = ap carried.Onward (same-answer e)
+same-carried (carried.Onward j) (carried.Refused c) e = absurd (no-answer (numberOf c) j (sym e))
+same-carried (carried.Refused c) (carried.Onward j) e = absurd (no-answer (numberOf c) j e)
+same-carried (carried.Refused c) (carried.Refused d) e = ap carried.Refused (one-to-one c d (same-number {A = Job} e))
+
+pub once : (p : Paper Stand) (r r' : Carried) (cs cs₁ cs₂ rs rs₁ rs₂ : List Float) → Carries p r cs cs₁ rs rs₁ → Carries p r' cs cs₂ rs rs₂ → (r ≡ r') × (cs₁ ≡ cs₂) × (rs₁ ≡ rs₂)
+once p r r' cs cs₁ cs₂ rs rs₁ rs₂ a b = (same-carried r r' (a .answer ∙ sym (b .answer)), a .cells ∙ sym (b .cells), a .rings ∙ sym (b .rings))
+
+pub lists-once : (l : List TurnChange) (is is₁ is₂ : List ℕ) (xs xs₁ xs₂ : List Float) → ChangesOver l is is₁ xs xs₁ → ChangesOver l is is₂ xs xs₂ → (is₁ ≡ is₂) × (xs₁ ≡ xs₂)
+lists-once l is is₁ is₂ xs xs₁ xs₂ a b = (a .indices ∙ sym (b .indices), a .numbers ∙ sym (b .numbers))

@@ -1,4 +1,0 @@
-pub mod Placed
-pub mod Rising
-pub mod ReadBack
-pub mod Proposals

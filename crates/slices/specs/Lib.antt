@@ -1,4 +1,0 @@
-pub mod Decide
-pub mod Read
-pub mod Proposal
-pub mod Move

@@ -1,0 +1,162 @@
+// Both forms of a change list, end to end.
+//
+// A radius is asked of an envelope that keeps its points. A thread to that radius is previewed into
+// lent records, which are committed as they stand; and beside it the flat calls do the same on a
+// stock of their own. The program writes what each answers, and whether the cells are the same.
+ghost use mathlib.Core.Path.{_≡_};
+ghost use lib.ListN.{replicate};
+ghost use Rattle.refusals.specs.Lent.{over};
+ghost use Rattle.envelope.specs.Envelope.{radiusAtPaper, radiusAtOf};
+ghost use Rattle.changes.specs.Change.{writtenOf};
+ghost use Rattle.changes.specs.Commit.{commitOf, Commits};
+ghost use Rattle.cuts.specs.declared.Tool.the-variants.{Single};
+ghost use Rattle.cuts.specs.Preview.{previewCut};
+ghost use Rattle.change_slices.specs.Proposal.{Writes};
+use changes::Applied;
+use changes::Previewed;
+use cuts::Cut;
+use cuts::Tool;
+use envelope::RadiusAt;
+use envelope::held::Envelope;
+use refusals::Refusal;
+use stock::TurnChange;
+use stock::TurnStockSpec;
+
+// The highest radius at u, of an envelope that keeps the points.
+fn radius(points: &[f64], u: f64) -> RadiusAt
+    ensures { λ r. ⌜ radiusAtPaper r ≡ radiusAtOf (now (points .entry)) u ⌝ }
+{
+    Envelope::new(points).radius_at(u)
+}
+
+// A single cut as a tool.
+fn single(cut: Cut) -> Tool
+    ensures { λ r. ⌜ r ≡ Single cut ⌝ }
+{
+    Tool::Single(cut)
+}
+
+// A single cut, previewed into records. It has no numbers beside it, and the cells stand for them.
+fn preview_cut(
+    spec: TurnStockSpec,
+    cells: &[f64],
+    cut: Cut,
+    changes: &mut [TurnChange],
+) -> Previewed
+    ensures { λ r. ⌜ Writes (previewCut spec (now (cells .entry)) cut) r changes ⌝ }
+{
+    let tool = single(cut);
+    change_slices::propose(spec, cells, tool, cells, changes)
+}
+
+// A cut of two cells, previewed into two records that began blank, and committed from them.
+fn cut_two(
+    spec: TurnStockSpec,
+    cells: &mut [f64],
+    generation: u64,
+    cut: Cut,
+    blank: TurnChange,
+) -> Applied
+    ensures { λ r. ⌜ Commits (commitOf spec (now (cells .entry)) generation (over (writtenOf (previewCut spec (now (cells .entry)) cut 2)) (replicate 2 blank))) r cells ⌝ }
+{
+    let mut changes = [blank; 2];
+    preview_cut(spec, cells, cut, &mut changes);
+    change_slices::apply(spec, cells, generation, &changes)
+}
+
+// The same with flat lists.
+fn cut_flat(spec: TurnStockSpec, cells: &mut [f64], generation: u64, cut: Cut) -> Applied {
+    let mut indices = [0usize; 2];
+    let mut records = [0.0f64; 16];
+    let answer = cuts::preview_cut(spec, cells, cut, &mut indices, &mut records);
+    match answer {
+        Previewed::Refused(r) => Applied::Refused(r),
+        Previewed::Changes(k) => { changes::apply(spec, cells, generation, &indices, &records, k) }
+    }
+}
+
+fn say_no(r: Refusal) {
+    io::write_all(1, b"refused ");
+    io::print_decimal(1, refusals::number(r) as u64);
+    io::write_all(1, b"\n");
+}
+
+fn say(answer: Applied) {
+    match answer {
+        Applied::Generation(g) => {
+            io::write_all(1, b"generation ");
+            io::print_decimal(1, g);
+            io::write_all(1, b"\n");
+        }
+        Applied::Refused(r) => say_no(r),
+    }
+}
+
+fn say_if(yes: bool) {
+    if yes {
+        io::write_all(1, b"yes\n");
+    } else {
+        io::write_all(1, b"no\n");
+    }
+}
+
+// Cell i of two stocks is the same.
+fn same_at(a: &[f64], b: &[f64], i: usize) -> bool {
+    stock::same_cell(stock::cell_at(a, i), stock::cell_at(b, i))
+}
+
+// The four cells of two stocks are the same.
+fn same_cells(a: &[f64], b: &[f64]) -> bool {
+    same_at(a, b, 0) & same_at(a, b, 1) & same_at(a, b, 2) & same_at(a, b, 3)
+}
+
+// A thread to the radius r over a bar of four cells, in both forms.
+fn thread_to(r: f64) {
+    let spec = TurnStockSpec {
+        z_min_mm: 0.0,
+        z_max_mm: 4.0,
+        outer_radius_mm: 10.0,
+        bore_radius_mm: 0.0,
+        cell_mm: 1.0,
+        max_cells: 4,
+    };
+    let cut = Cut::Thread {
+        z0: 3.0,
+        z1: 1.0,
+        radius: r,
+    };
+    let mut kept = [0.0f64; 16];
+    let mut flat = [0.0f64; 16];
+    stock::fill(spec, &mut kept);
+    stock::fill(spec, &mut flat);
+    let before = stock::cell_at(&kept, 0);
+    let blank = TurnChange {
+        index: 0,
+        before,
+        after: before,
+    };
+    io::write_all(1, b"records: ");
+    say(cut_two(spec, &mut kept, 0, cut, blank));
+    io::write_all(1, b"flat: ");
+    say(cut_flat(spec, &mut flat, 0, cut));
+    io::write_all(1, b"the same cells: ");
+    say_if(same_cells(&kept, &flat));
+    io::write_all(1, b"cut to 8: ");
+    let cell = stock::cell_at(&kept, 2);
+    say_if(cell.outer.lower_mm == 8.0);
+}
+
+fn main() {
+    io::write_all(1, b"envelope at 2: ");
+    let found = radius(&[0.0, 6.0, 4.0, 10.0], 2.0);
+    match found {
+        RadiusAt::At(r) => {
+            say_if(r == 8.0);
+            thread_to(r);
+        }
+        RadiusAt::Nowhere => {
+            io::write_all(1, b"nowhere\n");
+        }
+        RadiusAt::Refused(r) => say_no(r),
+    }
+}
