@@ -9,6 +9,7 @@ pub mod call;
 pub mod count;
 pub mod far;
 pub mod generate;
+pub mod guess;
 pub mod jobs;
 pub mod library;
 pub mod limits;

@@ -1,5 +1,5 @@
 //! compare whole [SECONDS] [SEED] [PROGRAM..]
-//! compare FAMILY|all [COUNT] [SEED] | far [COUNT] [SEED] | record [COUNT] [SEED] [FAMILY] | bench [WORD] [PICTURE]
+//! compare FAMILY|all [COUNT] [SEED] | thousandths [STEP] | far [COUNT] [SEED] | record [COUNT] [SEED] [FAMILY] | bench [WORD] [PICTURE]
 //! compare jobs [COUNT] [SEED] PROGRAM [WORD..] | job | job_bench PROGRAM [WORD..]
 use compare::generate::{FAMILIES, SEQUENCE};
 use compare::{bench, far, jobs, record, run, whole};
@@ -12,6 +12,9 @@ fn usage() -> ExitCode {
     eprintln!("compare whole [SECONDS] [SEED] [PROGRAM..]   everything, for so long");
     eprintln!("compare FAMILY [COUNT] [SEED]   compares so many calls; status 1 on a difference");
     eprintln!("compare all [PERCENT] [SEED]    every family, PERCENT of its default count");
+    eprintln!(
+        "compare thousandths [STEP]      the roots of k/1000, every STEPth k to 1,000,000,000"
+    );
     eprintln!(
         "compare far [COUNT] [SEED]      the distance of 01's length from the untouched Rust"
     );
@@ -84,6 +87,7 @@ fn main() -> ExitCode {
         (_, Some((_, count))) => *count as u64,
         ("all", _) => 100,
         ("far", _) => 1_000_000,
+        ("thousandths", _) => 19,
         ("record", _) => 40,
         _ => return usage(),
     };
@@ -93,6 +97,9 @@ fn main() -> ExitCode {
     let count = count as usize;
     match name.as_str() {
         "far" => far::far(count, seed),
+        "thousandths" => {
+            return ExitCode::from((run::thousandths(count.max(1)) > 0) as u8);
+        }
         "record" => {
             let only = words.get(3);
             let mut lines = vec![];

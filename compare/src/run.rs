@@ -2,6 +2,7 @@
 use crate::call::{Call, Outcome};
 use crate::count::Counts;
 use crate::generate::{self, Rng, SEQUENCE};
+use crate::guess::{Guess, guess};
 use crate::memory::Memory;
 use crate::sequence::Sequences;
 use crate::shrink::shrink;
@@ -119,4 +120,31 @@ pub fn family(name: &str, count: usize, seed: u64) -> u64 {
     counts.print();
     println!();
     counts.differ()
+}
+
+/// Holds the root of k/1000 against the processor's for every step-th k to 1,000,000,000 and prints
+/// what was seen; how many differ.
+pub fn thousandths(step: usize) -> u64 {
+    let (mut roots, mut differ) = (0, 0);
+    let mut missed = [0, 0];
+    for k in (step..=1_000_000_000).step_by(step) {
+        let x = k as f64 / 1000.;
+        let mut root = 0.;
+        // SAFETY: the pointer is to one f64.
+        let number = unsafe { library::c::turning_root(x, &mut root) };
+        roots += 1;
+        if number != 0 || root.to_bits() != x.sqrt().to_bits() {
+            differ += 1;
+            println!("{x}: answered {number}, {:016X}", root.to_bits());
+        }
+        match guess(x) {
+            Guess::Passes => {}
+            Guess::Beside => missed[0] += 1,
+            Guess::Digits => missed[1] += 1,
+        }
+    }
+    let [beside, digits] = missed;
+    println!("{roots} roots of k/1000, every {step}th k: {differ} differ");
+    println!("the guess misses {beside} by one; digits tell {digits} more");
+    differ
 }

@@ -5,6 +5,7 @@ use super::{Table, cleared_side, library_side, side};
 use crate::call::{Call, List, Room, Simple, Spec};
 use crate::generate::Rng;
 use crate::generate::numbers::{parts, radicand};
+use crate::guess;
 use crate::oracle::cuts::{segment, stock_with_length};
 use crate::oracle::stock::{Bar, bar, camlib_spec, camlib_stock, fresh, to_camlib};
 use length::turning::stock as with_length;
@@ -52,7 +53,12 @@ fn numbers(table: &Table) {
         }
     }
     let shop: Vec<f64> = (0..MANY).map(|_| rng.between(0.01, 2500.)).collect();
-    for (name, xs) in [("root, every exponent", &xs), ("root, shop sizes", &shop)] {
+    let missed = guess::missed(MANY);
+    for (name, xs) in [
+        ("root, every exponent", &xs),
+        ("root, shop sizes", &shop),
+        ("root, values that the guess misses", &missed),
+    ] {
         table.row(name, || {
             [
                 side(MANY, || {

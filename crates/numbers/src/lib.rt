@@ -2,9 +2,10 @@
 // and the greater of two counts.
 //
 // The root is decided over whole numbers. Floats guess it, and nothing is promised of the guess: a
-// test over whole numbers says whether it is the nearest. Where the test does not say so, the root is
-// taken one binary digit at a time. Its definition speaks of squares of whole numbers alone, and of
-// all values of f64 the answer is the nearest one.
+// test over whole numbers says whether it is the nearest. Where the test does not say so, it is asked
+// of the whole numbers beside the guess, and where it says so of neither, the root is taken one binary
+// digit at a time. Its definition speaks of squares of whole numbers alone, and of all values of f64
+// the answer is the nearest one.
 ghost use mathlib.Core.Path.{_≡_};
 ghost use Prim.Native.Nat.{_*_, _^_, _<_, _≤_, min, max};
 ghost use mathlib.Core.Bool.{true};
@@ -81,6 +82,21 @@ fn guess(f: f64) -> f64 {
     s + ((s * 0.8) * (f - q)) * p / (p * p - f2 * 0.8)
 }
 
+// The whole number nearest to the square root of m * 2^52, where a guess u failed the quick test: nearly
+// always a number beside u passes it.
+fn corrected(m: u64, u: u64) -> u64
+    requires { ⌜ (m < 2 ^ 54) × (0 < u) × (u < 2 ^ 53) ⌝ }
+    ensures { λ r. ⌜ r ≡ nearestRoot (m * 2 ^ 52) ⌝ }
+{
+    if is_nearest(m, u - 1) {
+        return u - 1;
+    }
+    if is_nearest(m, u + 1) {
+        return u + 1;
+    }
+    by_digits(m)
+}
+
 // The whole number nearest to the square root of m * 2^52, where p is the pattern of about m / 2^52.
 fn nearest_root(m: u64, p: u64) -> u64
     requires { ⌜ (m < 2 ^ 54) × (p < 2047 * 2 ^ 52) ⌝ }
@@ -92,6 +108,7 @@ fn nearest_root(m: u64, p: u64) -> u64
         if is_nearest(m, u) {
             return u;
         }
+        return corrected(m, u);
     }
     by_digits(m)
 }
