@@ -7,4 +7,6 @@ pub mod Answer
 pub mod Nearest
 pub mod Wholes
 pub mod Sizes
+pub mod Units
+pub mod Squares
 pub mod Lengths

@@ -31,7 +31,7 @@ le-or-lt a b = go (decLe a b)
 
 -- ---- between q * 2 ^ h and the next multiple of 2 ^ h there is no number of 53 digits, if q has 53
 
-grid : (q h v j : ℕ) → 2 ^ 52 ≤ q → v < 2 ^ 53 → (v * 2 ^ j ≤ q * 2 ^ h) ⊎ (suc q * 2 ^ h ≤ v * 2 ^ j)
+pub grid : (q h v j : ℕ) → 2 ^ 52 ≤ q → v < 2 ^ 53 → (v * 2 ^ j ≤ q * 2 ^ h) ⊎ (suc q * 2 ^ h ≤ v * 2 ^ j)
 grid q h v j lo hi = elim (le-or-lt h j) [
   | inl g ↦
       let w = v * 2 ^ (j - h) in
@@ -57,7 +57,7 @@ sq-lt a b h = lt-of-le-of-lt (mul-le-mul-left a (le-of-lt h)) (mul-lt-mul-of-pos
 sq-twice : (R : ℕ) → (R + R) * (R + R) ≡ R * R * 4
 sq-twice R = simp (mul-add, add-mul) (omega arith)
 
-both : (q P : ℕ) → q * P + suc q * P ≡ (q * 2 + 1) * P
+pub both : (q P : ℕ) → q * P + suc q * P ≡ (q * 2 + 1) * P
 both q P = sym (add-mul q (suc q) P) ∙ ap (λ (x : ℕ). x * P) same
   where
     same : q + suc q ≡ q * 2 + 1
@@ -159,7 +159,7 @@ digits-of m (negsuc a) h l = (
     split : (a : ℕ) → suc a ≤ 1074 → 1074 ≡ 1074 - suc a + suc a
     split a h = omega arith
 
-value-digits : (m : ℕ) (e : ℤ) → T (fits binary64 (fin false m e)) → (v : ℕ) × (j : ℕ) × (v < 2 ^ 53) × (unitsOf (fin false m e) ≡ v * 2 ^ j)
+pub value-digits : (m : ℕ) (e : ℤ) → T (fits binary64 (fin false m e)) → (v : ℕ) × (j : ℕ) × (v < 2 ^ 53) × (unitsOf (fin false m e) ≡ v * 2 ^ j)
 unfolding fits
 value-digits zero e f = (0, 0, lit< tt, value-units (fin false 0 e) 0 (nothing (up e) (down e)))
   where

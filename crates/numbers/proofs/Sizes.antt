@@ -1,25 +1,27 @@
--- The size of a root. An answer is finite and not negative; it is at most 2 ^ k where the square is at most 2 ^ 2k; and where it is not zero it is not near zero. Assumes nothing.
+-- The size of a root. An answer is finite and not negative; it is at most 2 ^ k where the square is at most 2 ^ 2k; where it is not zero it is not near zero; and of two numbers the larger has the larger root (`root-mono`). Assumes nothing.
 use mathlib.Core.Path.{_≡_, refl, sym, ap, _∙_, subst}
 use Prim.Native.Nat.{ℕ, zero, suc, _+_, _*_, _-_, _^_, _≤_, _<_, zero-le}
-use native.Mathlib.Nat.{le-trans, le-of-eq, lt-of-lt-of-le, lt-of-le-of-lt, lt-of-not-le, lt-irrefl, mul-le-mul, mul-le-mul-right, div-one, one-mul, zero-lt-suc, mul-pos}
+use native.Mathlib.Nat.{le-trans, le-of-eq, lt-of-lt-of-le, lt-of-le-of-lt, lt-of-not-le, lt-irrefl, mul-le-mul, mul-le-mul-right, div-one, one-mul, zero-mul, add-comm, zero-lt-suc, mul-pos}
 use native.Mathlib.Decide.{decLe}
 use native.Mathlib.Omega.{arith}
 use mathlib.Core.Bool.{Bool, true, false}
 use lib.IntN.{ℤ, pos, negsuc}
 use lib.Dec.{T}
 use lib.Pow.{pow-add, pow-pos}
-use lib.Ieee.{Float, nan, inf, fin, Format, binary64, low, down, odd, le, lt, fits, isNan}
+use lib.Ieee.{Float, nan, inf, fin, Format, binary64, low, up, down, odd, neg, le, lt, fits, isNan}
 use lib.Ieee.Scale.{finite}
-use lib.Ieee.Fits.{up-pos}
+use lib.Ieee.Fits.{up-pos, down-pos, neg-fits}
 use lib.Ieee.Positive.{first-pos}
 use Rattle.refusals.specs.Paper.{answers, refuses}
 use Rattle.floats.specs.Numbers.{minusZero}
 use Rattle.floats.specs.Kinds.{Plain, Finite, Within}
-use Rattle.floats.proofs.Keys.{top, top-pos, mag, minus?, offset, mag-exact}
-use Rattle.floats.proofs.Signed.{zero+, number-finite, key-is, of-nonneg, to-nonneg}
+use Rattle.floats.proofs.Keys.{top, top-pos, mag, key, minus?, offset, mag-exact}
+use Rattle.floats.proofs.Order.{to-le, of-le}
+use Rattle.floats.proofs.Exact.{zero-mag}
+use Rattle.floats.proofs.Signed.{zero+, number-finite, key-is, of-nonneg, to-nonneg, size-of-above}
 use Rattle.floats.proofs.Within.{within-size, size-within, within-weaken, within-zero}
 use Rattle.numbers.specs.Root.{rootOf, rootIn, unitsOf, Nearer}
-use Rattle.numbers.proofs.Nearest.{root-fits, root-nearest}
+use Rattle.numbers.proofs.Nearest.{value-digits, root-fits, root-nearest}
 
 -- ---- over whole numbers: R is nearer to the root of N than Y is
 -- the square of a double
@@ -189,3 +191,96 @@ root-large {x} {v} w h l = go x w h
     go (fin false (suc m) e) w h =
         subst (λ (z : Float). 2 ^ 1074 ≤ mag binary64 z * 2 ^ 537) (inside (rootIn (unitsOf (fin false (suc m) e))) v h)
         (root-far (fin false (suc m) e) (rootIn (unitsOf (fin false (suc m) e))) (some false m e (w .held)) (root-near m e (w .held) 1 (negsuc 536) (2 ^ 537) (unfold fits in tt) refl .above))
+
+-- ---- the root of the larger is no smaller
+-- the value of a magnitude, whatever its sign
+unsigned-fits : (s : Bool) (n : ℕ) (d : ℤ) → T (fits binary64 (fin s n d)) → T (fits binary64 (fin false n d))
+unfolding neg
+unsigned-fits true n d h = neg-fits binary64 (fin true n d) h
+unsigned-fits false n d h = h
+
+-- zero is nearer to the root of zero than any other
+nothing-near : (Y : ℕ) → Nearer (0 * 2 ^ 1074) 0 Y
+nothing-near Y = record {
+  above = λ h. lt-of-lt-of-le (lt-of-le-of-lt (le-of-eq (ap (λ (n : ℕ). n * 4) (zero-mul (2 ^ 1074)))) (mul-pos h h)) (le-of-eq (ap (λ (n : ℕ). n * n) (same Y)));
+  under = λ h. absurd (lt-irrefl 0 (lt-of-le-of-lt zero-le h));
+}
+  where
+    same : (Y : ℕ) → Y ≡ 0 + Y
+    same Y = omega arith
+
+zero-units : (s : Bool) (e : ℤ) → T (fits binary64 (fin s 0 e)) → mag binary64 (fin s 0 e) ≡ 0
+zero-units s e h = first-zero (mag binary64 (fin s 0 e)) (down e) (down-pos e) (mag-exact binary64 s 0 e h ∙ ap (λ (z : ℕ). z * 2 ^ 1074) (zero-mul (up e)) ∙ zero-mul (2 ^ 1074))
+  where
+    first-zero : (a b : ℕ) → 0 < b → a * b ≡ 0 → a ≡ 0
+    first-zero zero b p e = refl
+    first-zero (suc a) b p e = absurd (lt-irrefl 0 (subst (λ (z : ℕ). 0 < z) e (mul-pos (zero-lt-suc a) p)))
+
+-- a root is nearer than any finite value y, in units
+pub root-nearer : {x v y : Float} → Finite binary64 x → rootOf x ≡ answers v → Finite binary64 y → Nearer (mag binary64 x * 2 ^ 1074) (mag binary64 v) (mag binary64 y)
+unfolding rootOf
+root-nearer {x} {v} {y} p h q = go x p h y q
+  where
+    go : (x : Float) → Finite binary64 x → rootOf x ≡ answers v → (y : Float) → Finite binary64 y → Nearer (mag binary64 x * 2 ^ 1074) (mag binary64 v) (mag binary64 y)
+    go nan p h y q = absurd (p .finite)
+    go (inf s) p h y q = absurd (p .finite)
+    go (fin s m e) p h nan q = absurd (q .finite)
+    go (fin s m e) p h (inf t) q = absurd (q .finite)
+    go (fin s zero e) p h (fin t n d) q =
+        subst (λ (z : Float). Nearer (mag binary64 (fin s 0 e) * 2 ^ 1074) (mag binary64 z) (mag binary64 (fin t n d))) (inside zero+ v h)
+        (subst (λ (X : ℕ). Nearer (X * 2 ^ 1074) (mag binary64 zero+) (mag binary64 (fin t n d))) (sym (zero-units s e (p .held)))
+        (subst (λ (R : ℕ). Nearer (0 * 2 ^ 1074) R (mag binary64 (fin t n d))) (sym (zero-mag binary64 false)) (nothing-near (mag binary64 (fin t n d)))))
+    go (fin true (suc m) e) p h (fin t n d) q = absurd (refused v h)
+    go (fin false (suc m) e) p h (fin t n d) q =
+        subst (λ (z : Float). Nearer (mag binary64 (fin false (suc m) e) * 2 ^ 1074) (mag binary64 z) (mag binary64 (fin t n d))) (inside (rootIn (unitsOf (fin false (suc m) e))) v h)
+        (root-near m e (p .held) n d (mag binary64 (fin t n d)) (unsigned-fits t n d (q .held)) (units-mag (fin t n d) tt))
+
+-- two numbers, each nearer to its root than the other
+pub near-mono : (M N U W : ℕ) → M ≤ N → Nearer M U W → Nearer N W U → U ≤ W
+near-mono M N U W h a b = go (decLe U W)
+  where
+    turn : (U W : ℕ) → (U + W) * (U + W) ≡ (W + U) * (W + U)
+    turn U W = ap (λ (n : ℕ). n * n) (add-comm U W)
+
+    clash : (m n s t : ℕ) → m ≤ n → s < m * 4 → n * 4 < t → s ≡ t → ⊥
+    clash m n s t h a b e = omega arith
+
+    go : Dec (U ≤ W) → U ≤ W
+    go (yes p) = p
+    go (no p) = let g = lt-of-not-le p in absurd (clash M N ((U + W) * (U + W)) ((W + U) * (W + U)) h (a .under g) (b .above g) (turn U W))
+
+-- in units
+pub root-size-mono : {x y u v : Float} → Finite binary64 x → Finite binary64 y → rootOf x ≡ answers u → rootOf y ≡ answers v → mag binary64 x ≤ mag binary64 y → mag binary64 u ≤ mag binary64 v
+root-size-mono {x} {y} {u} {v} p q g h l =
+    near-mono (mag binary64 x * 2 ^ 1074) (mag binary64 y * 2 ^ 1074) (mag binary64 u) (mag binary64 v) (mul-le-mul-right (2 ^ 1074) l)
+    (root-nearer p g (root-finite q h)) (root-nearer q h (root-finite p g))
+
+-- a value that is not negative, by its size
+pub root-key : {x v : Float} → Finite binary64 x → rootOf x ≡ answers v → key binary64 v ≡ top binary64 + mag binary64 v
+root-key {x} {v} p h = key-is binary64 v ∙ ap (λ (b : Bool). offset (top binary64) b (mag binary64 v)) (answer-signless x v (p .held) h .unsigned)
+
+-- the sizes of two values in order, the first not negative
+pub size-order : {x y : Float} → Finite binary64 x → Finite binary64 y → T (le zero+ x) → T (le x y) → mag binary64 x ≤ mag binary64 y
+size-order {x} {y} p q h l =
+    size-of-above q (mag binary64 x) (le-trans (bound (minus? x) (mag binary64 x) (top binary64) (top-pos binary64) (le-trans (of-nonneg (number-finite p) h) (le-of-eq (key-is binary64 x)))) (le-trans (le-of-eq (sym (key-is binary64 x))) (of-le (number-finite p) (number-finite q) l)))
+  where
+    bound : (s : Bool) (a o : ℕ) → 0 < o → o ≤ offset o s a → o + a ≤ offset o s a
+    bound true a o p h = omega arith
+    bound false a o p h = omega arith
+
+-- of two finite numbers that are not negative, the larger has the larger root
+pub root-mono : {x y u v : Float} → Finite binary64 x → Finite binary64 y → T (le zero+ x) → T (le x y) → rootOf x ≡ answers u → rootOf y ≡ answers v → T (le u v)
+root-mono {x} {y} {u} {v} p q h l g k =
+    let a = root-size-mono p q g k (size-order p q h l) in
+    to-le (number-finite (root-finite p g)) (number-finite (root-finite q k)) (omega (arith, root-key p g, root-key q k))
+
+-- ---- the digits of a finite value: 53 and then zeros
+pub size-digits : {x : Float} → Finite binary64 x → (v : ℕ) × (j : ℕ) × (v < 2 ^ 53) × (mag binary64 x ≡ v * 2 ^ j)
+size-digits {x} = go x
+  where
+    go : (x : Float) → Finite binary64 x → (v : ℕ) × (j : ℕ) × (v < 2 ^ 53) × (mag binary64 x ≡ v * 2 ^ j)
+    go nan p = absurd (p .finite)
+    go (inf s) p = absurd (p .finite)
+    go (fin s m e) p =
+        let d = value-digits m e (unsigned-fits s m e (p .held)) in
+        (d .0, d .1, d .2, sym (units-mag (fin s m e) tt) ∙ d .3)
