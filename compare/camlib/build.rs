@@ -2,7 +2,7 @@
 //! ../shared/docs/src, and a relative name counts from the repository's root.
 //!
 //! Package `plain` has every file as it stands in the checkout. Package `length` has stock.rs with
-//! document 01's length in the place of `hypot` and with `preview` cut in two, so that chords with
+//! 01's length, as Req 03 of 02 has it, in the place of `hypot` and with `preview` cut in two, so that chords with
 //! their sag can be handed in, and profile.rs with `within` and the order made public.
 use std::path::{Path, PathBuf};
 use std::{env, fs};
@@ -22,7 +22,13 @@ const SPLIT_HERE: &str = "        self.preview_segments(&segments, rn, side)
 const STOCK: [(&str, &str); 3] = [
     (
         "let l = d[0].hypot(d[1]);",
-        "let l = (d[0] * d[0] + d[1] * d[1]).sqrt();",
+        "let below = |x: f64| x.abs() < f64::from_bits(0x26F0_0000_0000_0000);
+    let l = if below(d[0]) && below(d[1]) {
+        let u = d.map(|x| x * f64::from_bits(0x6570_0000_0000_0000));
+        (u[0] * u[0] + u[1] * u[1]).sqrt() * f64::from_bits(0x1A70_0000_0000_0000)
+    } else {
+        (d[0] * d[0] + d[1] * d[1]).sqrt()
+    };",
     ),
     (SPLIT, SPLIT_HERE),
     ("in &segments {", "in segments {"),

@@ -1,14 +1,15 @@
-//! How far 01's length leads from the untouched Rust: nose lines with no sag, by both camlibs.
+//! How far the rules' length leads from the untouched Rust: nose lines with no sag, by both camlibs.
 use crate::call::Call;
 use crate::generate::{self, Rng};
 use crate::oracle::MILLION;
 use crate::oracle::cuts::{change_with_length, segment, stock_with_length};
+use crate::oracle::numbers::length;
 use crate::oracle::stock::{Bar, bar, camlib_stock, cells, change_from_camlib};
 use length::turning::stock as with_length;
 use plain::motion::Curve;
 use plain::turning::stock as camlib;
 
-/// Lines whose squares are of one kind.
+/// Lines whose lengths are of one kind.
 #[derive(Default)]
 struct Kind {
     lines: usize,
@@ -21,22 +22,21 @@ struct Kind {
 }
 
 const KINDS: [&str; 4] = [
-    "sum normal, every number within 1,000, no part tiny (a shop's)",
-    "sum normal, other",
-    "sum subnormal",
-    "sum vanishes",
+    "every number within 1,000, each part 0 or 1e-6 at least (a shop's)",
+    "other, a part 2^-400 at least",
+    "both parts below 2^-400, length normal",
+    "both parts below 2^-400, length subnormal",
 ];
 
-/// What the rounded sum of the rounded squares is, as an index into `KINDS`.
+/// What the parts and the length of a line are, as an index into `KINDS`.
 fn kind(a: [f64; 2], b: [f64; 2], rn: f64) -> usize {
     let d = [b[0] - a[0], b[1] - a[1]];
-    let sum = d[0] * d[0] + d[1] * d[1];
     let ordinary = |x: f64| x.abs() <= 1000.;
-    let not_tiny = |x: f64| x == 0. || x.abs() >= 1e-6;
-    if d == [0., 0.] || sum >= f64::MIN_POSITIVE {
+    let not_small = |x: f64| x == 0. || x.abs() >= 1e-6;
+    if d == [0., 0.] || d.into_iter().any(|x| x.abs() >= 2_f64.powi(-400)) {
         let shop = [a, b, [rn, 0.]].as_flattened().iter().all(|x| ordinary(*x));
-        !(shop && d.into_iter().all(not_tiny)) as usize
-    } else if sum > 0. {
+        !(shop && d.into_iter().all(not_small)) as usize
+    } else if length(d[0], d[1]).is_ok_and(f64::is_normal) {
         2
     } else {
         3
@@ -197,7 +197,7 @@ impl Far {
     /// How many values differ and by how much.
     pub fn print(&self) {
         println!(
-            "| lines, by the rounded sum of the rounded squares | lines | lists that differ | values | differ | share | by at most, mm | by at most, ulps |"
+            "| lines, by their parts | lines | lists that differ | values | differ | share | by at most, mm | by at most, ulps |"
         );
         println!("|---|---|---|---|---|---|---|---|");
         for (name, k) in KINDS.iter().zip(&self.kinds) {

@@ -1,5 +1,6 @@
-//! Calls at document 01's limits and one beyond, each with the number that 01 gives; and envelope
-//! queries at the corners where a look at a part of the points could miss a segment.
+//! Calls at document 01's limits and one beyond, each with the number that 01 gives; lengths at the
+//! corners of their rule; and envelope queries at the corners where a look at a part of the points
+//! could miss a segment.
 use crate::call::{Answer, Call, List, Outcome, Room, Simple, Spec, Store};
 use crate::oracle::{
     ARGUMENT, BEFORE, CELLS, COUNT, ENVELOPE, GENERATION, MILLION, MOST_CELLS,
@@ -466,9 +467,34 @@ fn at_corners() -> Vec<(Call, u32)> {
         .collect()
 }
 
+/// A length at each corner of its rule: 2^-400, below which both parts are scaled, the least value, a
+/// part that is no number or infinite, and squares that overflow.
+fn lengths() -> Vec<(Call, u32)> {
+    let tiny = 2_f64.powi(-400);
+    let parts = [
+        (tiny, 0., 0),
+        (tiny.next_down(), 0., 0),
+        (tiny.next_down(), -tiny.next_down(), 0),
+        (LEAST, 0., 0),
+        (LEAST, LEAST, 0),
+        (tiny, LEAST, 0),
+        (LEAST, -tiny, 0),
+        (-0., 0., 0),
+        (f64::NAN, LEAST, ARGUMENT),
+        (LEAST, f64::NAN, ARGUMENT),
+        (f64::INFINITY, 0., ARGUMENT),
+        (LEAST, f64::NEG_INFINITY, ARGUMENT),
+        (1e154, 1e200, ARGUMENT),
+    ];
+    parts
+        .map(|(x, y, number)| (Call::Length { x, y }, number))
+        .to_vec()
+}
+
 /// Every call at a limit or a corner, with its number.
 pub fn calls() -> Vec<(Call, u32)> {
     [
+        lengths(),
         specs(),
         listed(),
         single(),

@@ -13,7 +13,7 @@ use std::thread;
 use std::time::{Duration, Instant};
 
 /// What part of the time each takes, in hundredths.
-const SHARES: [(&str, u64); 19] = [
+const SHARES: [(&str, u64); 20] = [
     ("root", 3),
     ("length", 4),
     ("stock", 4),
@@ -22,7 +22,8 @@ const SHARES: [(&str, u64); 19] = [
     ("drill", 4),
     ("apply", 4),
     ("changes_to", 4),
-    ("nose", 12),
+    ("nose", 8),
+    ("short_chords", 4),
     ("polygon", 8),
     ("rings", 5),
     ("moves", 5),

@@ -143,7 +143,7 @@ fn a_nose_line() {
     assert!(near(theirs[0], ours[0]) && near(theirs[1], ours[1]));
 }
 
-/// So short that its squares vanish: no side here, and nothing clears the bin between its ends.
+/// So short that its squares vanish: it has a length and a side, here and in camlib.
 #[test]
 fn a_segment_whose_squares_vanish() {
     let ulp = f64::from_bits(1);
@@ -154,16 +154,47 @@ fn a_segment_whose_squares_vanish() {
         ..BAR
     };
     let [theirs, ours] = outer_after(spec, 0., [0., 0.], [0., 3. * ulp]);
-    assert_eq!(theirs, [0., 0.]);
-    assert_eq!(ours, [0., 10.]);
+    assert_eq!([theirs, ours], [[0., 0.]; 2]);
 }
 
-/// Squares that are subnormal: the quotients by the rounded root are 1.22 long.
+/// Squares that are subnormal: the normal is a unit one, here and in camlib.
 #[test]
 fn a_segment_whose_squares_are_subnormal() {
     let [theirs, ours] = outer_after(BAR, 5., [9., 0.], [9., 2.72e-162]);
-    assert_eq!(theirs[0], 4.);
-    assert_eq!(ours[0], 2.881477239421253);
+    assert_eq!([theirs[0], ours[0]], [4.; 2]);
+}
+
+/// The same in both, and wrong: the length of (5e-324, -5e-324) is 5e-324, so that the normal is
+/// (1, 1), 1.41 long. The inner bounds of bin 4 become (3, 5) and those of bin 5 (0, 5), where the nose
+/// reaches (5e-324, 3) and (0, 5e-324): bin 4 is certified to 3, and the metal there is not cut.
+#[test]
+fn a_chord_of_the_least_length() {
+    let ulp = f64::from_bits(1);
+    let spec = Spec { z_max: 8., ..BAR };
+    let (a, b) = ([0., 0.], [ulp, -ulp]);
+    let theirs = camlib(spec).preview(&line(a, b), 5., TurnSide::Inner, 0.);
+    let theirs: Vec<(usize, [f64; 2])> = (theirs.unwrap().iter())
+        .map(|c| (c.index, [c.after.inner.lower_mm, c.after.inner.upper_mm]))
+        .collect();
+    let ours = here(Call::Preview {
+        spec,
+        cells: [CELL; 8].as_flattened().to_vec(),
+        side: 1,
+        rn: 5.,
+        segments: vec![a[0], a[1], b[0], b[1], 0.],
+        room: Room {
+            indices: 8,
+            records: 64,
+        },
+    });
+    let Ok(Answer::Changes(ours)) = ours else {
+        panic!("{ours:?}");
+    };
+    let ours: Vec<(usize, [f64; 2])> = (ours.iter())
+        .map(|c| (c.index, [c.after[2], c.after[3]]))
+        .collect();
+    assert_eq!(ours, theirs);
+    assert_eq!(ours[4..], [(4, [3., 5.]), (5, [0., 5.])]);
 }
 
 #[test]

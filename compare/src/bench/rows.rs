@@ -1,6 +1,6 @@
 //! The rows of the table: numbers, cells, cuts; the rest is in `queries`.
 use super::queries::{envelopes, rings, volumes};
-use super::sides::{length_side, root_side};
+use super::sides::{length_side, root_side, ruled_length};
 use super::{Table, cleared_side, library_side, side};
 use crate::call::{Call, List, Room, Simple, Spec};
 use crate::generate::Rng;
@@ -76,10 +76,9 @@ fn numbers(table: &Table) {
     for (name, xs) in [("length, any parts", &pairs), ("length, shop sizes", &shop)] {
         table.row(name, || {
             let hypot = |p: &(f64, f64)| black_box(p.0).hypot(p.1);
-            let ruled = |p: &(f64, f64)| (black_box(p.0) * p.0 + p.1 * p.1).sqrt();
             [
                 side(MANY, move || xs.iter().map(hypot).sum::<f64>()),
-                side(MANY, move || xs.iter().map(ruled).sum::<f64>()),
+                side(MANY, move || xs.iter().map(ruled_length).sum::<f64>()),
                 length_side(xs.clone()),
             ]
         });

@@ -1,7 +1,7 @@
 //! Threads, drills, noses, polygons.
 use super::Rng;
 use super::changes::{plenty, with_room};
-use super::numbers::{damaged, edge, outside};
+use super::numbers::{damaged, edge, outside, turning_point};
 use super::stock::{base, damaged_cells, damaged_spec, good_cells, r_near, z_near};
 use crate::call::{Call, Simple};
 use crate::oracle::stock::Bar;
@@ -84,9 +84,15 @@ pub fn side(rng: &mut Rng) -> u32 {
     }
 }
 
-/// A tiny step: its square vanishes, is subnormal, or is small.
+/// A tiny step: its square vanishes, is subnormal, or is small; or a step at which the length's rule
+/// turns.
 fn tiny(rng: &mut Rng) -> f64 {
-    let exponent = rng.pick(&[0, 1, 480, 483, 484, 485, 486, 487, 490, 510, 900, 980]);
+    if rng.once_in(4) {
+        return turning_point(rng);
+    }
+    let exponent = rng.pick(&[
+        0, 1, 20, 51, 53, 480, 483, 484, 485, 486, 487, 490, 510, 621, 622, 623, 624, 900, 980,
+    ]);
     let sign = rng.word() >> 63 << 63;
     f64::from_bits(sign | exponent << 52 | rng.word() >> 12)
 }
@@ -108,12 +114,17 @@ fn step(rng: &mut Rng, base: &Bar, p: [f64; 2]) -> [f64; 2] {
 
 /// A path's segments with their sags, about a nose of radius rn.
 pub fn segments(rng: &mut Rng, base: &Bar, rn: f64) -> Vec<f64> {
+    path(rng, base, rn, 15)
+}
+
+/// The same, with a tiny chord for once in so many segments.
+fn path(rng: &mut Rng, base: &Bar, rn: f64, once_in: usize) -> Vec<f64> {
     let count = how_many(rng, MOST_SEGMENTS);
     let mut p = [r_near(rng, base), z_near(rng, base)];
     let mut list = vec![];
     for _ in 0..count {
         let mut q = step(rng, base, p);
-        if rng.once_in(15) {
+        if rng.once_in(once_in) {
             // At the origin of r, of z or of both a step may be as tiny as it likes.
             p = rng.pick(&[[0., 0.], [p[0], 0.], [0., p[1]]]);
             q = [p[0], p[1]];
@@ -188,10 +199,19 @@ pub fn nose_radius(rng: &mut Rng, base: &Bar) -> f64 {
 }
 
 pub fn nose(rng: &mut Rng) -> Call {
+    nose_along(rng, 15)
+}
+
+/// A nose along a path in which every second segment is a tiny chord.
+pub fn short_chords(rng: &mut Rng) -> Call {
+    nose_along(rng, 2)
+}
+
+fn nose_along(rng: &mut Rng, once_in: usize) -> Call {
     let base = base(rng);
     let cells = good_cells(rng, &base);
     let rn = nose_radius(rng, &base);
-    let segments = segments(rng, &base, rn);
+    let segments = path(rng, &base, rn, once_in);
     let call = Call::Preview {
         spec: damaged_spec(rng, &base),
         cells: damaged_cells(rng, &base, &cells),

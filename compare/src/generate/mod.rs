@@ -65,6 +65,7 @@ pub fn family(name: &str) -> Option<fn(&mut Rng) -> Call> {
         "apply" => changes::apply,
         "changes_to" => changes::changes_to,
         "nose" => cuts::nose,
+        "short_chords" => cuts::short_chords,
         "polygon" => cuts::polygon,
         "rings" => rings::remove_ring,
         "moves" => rings::apply_move,
@@ -77,7 +78,7 @@ pub fn family(name: &str) -> Option<fn(&mut Rng) -> Call> {
 }
 
 /// Every family of single calls, and how many calls are made by default.
-pub const FAMILIES: [(&str, usize); 16] = [
+pub const FAMILIES: [(&str, usize); 17] = [
     ("root", 20_000_000),
     ("length", 20_000_000),
     ("stock", 200_000),
@@ -87,6 +88,7 @@ pub const FAMILIES: [(&str, usize); 16] = [
     ("apply", 200_000),
     ("changes_to", 200_000),
     ("nose", 300_000),
+    ("short_chords", 300_000),
     ("polygon", 300_000),
     ("rings", 200_000),
     ("moves", 200_000),

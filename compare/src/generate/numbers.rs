@@ -95,14 +95,32 @@ fn neighbour(rng: &mut Rng, x: f64) -> f64 {
     }
 }
 
-/// Parts of a length: shop sizes, squares that vanish, are subnormal or overflow, and any bits.
+/// Where a length's rule or its rounding turns: 2^-400 and its neighbours, 2^-511, below which a square
+/// is subnormal, 2^-537, below which it vanishes, the least normal and the least value, and zero.
+pub fn turning_point(rng: &mut Rng) -> f64 {
+    let tiny = 2_f64.powi(-400);
+    let x = rng.pick(&[
+        tiny,
+        tiny.next_up(),
+        tiny.next_down(),
+        2_f64.powi(-511),
+        2_f64.powi(-537),
+        f64::MIN_POSITIVE,
+        LEAST,
+        0.,
+    ]);
+    if rng.once_in(2) { -x } else { x }
+}
+
+/// Parts of a length: shop sizes, squares that vanish, are subnormal or overflow, parts about 2^-400
+/// and below, and any bits.
 pub fn part(rng: &mut Rng) -> f64 {
     let around = |rng: &mut Rng, low: u64, high: u64| {
         let exponent = low + rng.word() % (high - low);
         let sign = rng.word() >> 63 << 63;
         f64::from_bits(sign | exponent << 52 | rng.word() >> 12)
     };
-    match rng.below(16) {
+    match rng.below(20) {
         0 => any(rng),
         1 => edge(rng),
         2 => outside(rng),
@@ -111,6 +129,10 @@ pub fn part(rng: &mut Rng) -> f64 {
         5 => around(rng, 1530, 1540),
         6 => (rng.below(4001) as f64 - 2000.) / 8.,
         7 => around(rng, 0, 2047),
+        8 => turning_point(rng),
+        9 => around(rng, 0, 626),
+        10 => around(rng, 0, 60),
+        11 => around(rng, 620, 626),
         _ => rng.written(-100., 100.),
     }
 }

@@ -8,7 +8,7 @@ mod changes;
 pub mod cuts;
 mod envelope;
 mod full;
-mod numbers;
+pub mod numbers;
 mod queries;
 pub mod rings;
 pub mod stock;

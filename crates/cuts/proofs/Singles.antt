@@ -82,8 +82,8 @@ line-held ar az br bz sag a b c d e (suc (suc (suc zero))) = d
 line-held ar az br bz sag a b c d e (suc (suc (suc (suc zero)))) = e
 line-held ar az br bz sag a b c d e (suc (suc (suc (suc (suc k))))) = tt
 
--- at most 2 ^ 20 is at most 2 ^ 582
-larger : (x : Float) → Sized 20 x → Sized 582 x
+-- at most 2 ^ 20 is at most 2 ^ 37
+larger : (x : Float) → Sized 20 x → Sized 37 x
 larger x s = record { plain = s .plain; within = within-weaken (lit≤ tt) (s .within) }
 
 thread-reach : (b : ZRange) (z0 z1 r : Float) → T (fits binary64 r) → T (usable (cleanOf z0) && usable (cleanOf z1) && usable (cleanOf r) && le zero64 (cleanOf r)) → ReachOf (Sized 20) (threadReach b (cleanOf z0) (cleanOf z1) (cleanOf r))
@@ -108,12 +108,12 @@ drill-reach b w tip r cone fa fr fc g =
 
 -- ---- a cut that is not refused, on a stock that is not refused
 module _ {spec : TurnStockSpec} {n : ℕ} (held : HeldSpec spec) (ok : Checked spec n) (u : Cut) (cut-held : HeldCut u) (good : cutGood (cleanCut u) ≡ true) where
-  -- the numbers that it reaches in a bin are at most 2 ^ 582 in size, and neither a NaN nor -0.0
-  pub cut-sized : (i : ℕ) → i < n → ReachOf (Sized 582) (cutAct (cleanSpec spec) (cleanCut u) .at i)
+  -- the numbers that it reaches in a bin are at most 2 ^ 37 in size, and neither a NaN nor -0.0
+  pub cut-sized : (i : ℕ) → i < n → ReachOf (Sized 37) (cutAct (cleanSpec spec) (cleanCut u) .at i)
   unfolding cutReach cutGood cleanCut noseAct
   cut-sized i h = go u cut-held (subst T (sym good) tt)
     where
-      go : (u : Cut) → HeldCut u → T (cutGood (cleanCut u)) → ReachOf (Sized 582) (cutReach (binOf (cleanSpec spec) i) (cleanCut u))
+      go : (u : Cut) → HeldCut u → T (cutGood (cleanCut u)) → ReachOf (Sized 37) (cutReach (binOf (cleanSpec spec) i) (cleanCut u))
       go (Line side rn sag ar az br bz) f g = nose-sized held ok rn (lineOf ar az br bz sag) (f .0) (line-held ar az br bz sag (f .2) (f .3) (f .4) (f .5) (f .1)) (is-true _ g) side i h
       go (Thread z0 z1 r) f g = reach-map larger (threadReach (binOf (cleanSpec spec) i) (cleanOf z0) (cleanOf z1) (cleanOf r)) (thread-reach (binOf (cleanSpec spec) i) z0 z1 r (f .2) g)
       go (ThreadInner z0 z1 r) f g = reach-map larger (threadReach (binOf (cleanSpec spec) i) (cleanOf z0) (cleanOf z1) (cleanOf r)) (thread-reach (binOf (cleanSpec spec) i) z0 z1 r (f .2) g)

@@ -24,8 +24,9 @@ use Rattle.refusals.specs.Limits.{cellLimit, lastGeneration}
 use Rattle.floats.specs.Pick.{pick}
 use Rattle.floats.specs.Numbers.{_+₆₄_, _*₆₄_, zero64, usable}
 use Rattle.numbers.specs.Root.{rootOf}
-use Rattle.numbers.specs.Length.{lengthOf}
+use Rattle.numbers.specs.Length.{plainLength, lengthOf}
 use Rattle.numbers.specs.Whole.{wholeUp}
+use Rattle.numbers.proofs.Asked.{AsBefore, length-as-before}
 use Rattle.stock.specs.declared.TurnStockSpec.{TurnStockSpec}
 use Rattle.stock.specs.declared.TurnCell.{TurnCell}
 use Rattle.stock.specs.declared.TurnChange.{TurnChange}
@@ -106,10 +107,14 @@ root-asks (fin false (suc m) e) = asks-holds 5 _ (or-left _ (eq zero64 (fin fals
 pub root-exactly : (x : Float) → Exactly (rootOf x) (rootAsks x)
 root-exactly x = exactly (root-asks x)
 
--- `length`: 5
+-- `length`: 5, where 01's rule refuses
 pub length-exactly : (x y : Float) → Exactly (lengthOf x y) (lengthAsks x y)
-unfolding lengthOf
-length-exactly x y = root-exactly (x *₆₄ x +₆₄ y *₆₄ y)
+unfolding plainLength refusalOf
+length-exactly x y = exactly-as (lengthOf x y) (same (length-as-before x y)) (root-exactly (x *₆₄ x +₆₄ y *₆₄ y))
+  where
+    same : AsBefore x y → refusalOf (lengthOf x y) ≡ refusalOf (plainLength x y)
+    same (inl e) = ap refusalOf e
+    same (inr a) = ap refusalOf (a .0 .1) ∙ sym (ap refusalOf (a .1 .1))
 
 -- ---- a spec, its bins and its cells
 

@@ -1,3 +1,4 @@
 pub mod Segments
 pub mod Tracks
 pub mod Noses
+pub mod Normals

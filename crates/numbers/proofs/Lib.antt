@@ -9,4 +9,8 @@ pub mod Wholes
 pub mod Sizes
 pub mod Units
 pub mod Squares
+pub mod Ruled
+pub mod Tiny
 pub mod Lengths
+pub mod Stays
+pub mod Asked

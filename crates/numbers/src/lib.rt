@@ -11,7 +11,8 @@ ghost use Prim.Native.Nat.{_*_, _^_, _<_, _≤_, min, max};
 ghost use mathlib.Core.Bool.{true};
 ghost use Rattle.numbers.specs.Root.{rootOf, rootedPaper};
 ghost use Rattle.numbers.specs.RootBits.{nearestRoot, alignedRoot, Pattern};
-ghost use Rattle.numbers.specs.Length.{lengthOf};
+ghost use Rattle.floats.specs.Numbers.{_*₆₄_};
+ghost use Rattle.numbers.specs.Length.{scaleUp, plainLength, scaledBack, lengthOf};
 ghost use Rattle.numbers.specs.Whole.{wholePart, wholeUp, wholePaper};
 use refusals::Refusal;
 
@@ -165,10 +166,36 @@ pub fn root(x: f64) -> Rooted
     Rooted::Refused(Refusal::ArgumentOutside)
 }
 
-// The length of (x, y): the root of the rounded sum of the rounded squares.
+// 2^-400: parts that are both below it in size are tiny.
+const TINY_BELOW: f64 = 3.8725919148493183e-121;
+
+// 2^600 and 2^-600: tiny parts are scaled up, and their length is scaled back.
+const SCALE_UP: f64 = 4.149515568880993e180;
+
+const SCALE_DOWN: f64 = 2.409919865102884e-181;
+
+// The length of tiny parts, whose own squares may vanish. Scaling up is exact, and scaling back rounds
+// once.
+fn tiny_length(x: f64, y: f64) -> Rooted
+    ensures { λ r. ⌜ rootedPaper r ≡ scaledBack (plainLength (x *₆₄ scaleUp) (y *₆₄ scaleUp)) ⌝ }
+{
+    let u = x * SCALE_UP;
+    let v = y * SCALE_UP;
+    let scaled = root(u * u + v * v);
+    match scaled {
+        Rooted::Root(l) => Rooted::Root(l * SCALE_DOWN),
+        Rooted::Refused(c) => Rooted::Refused(c),
+    }
+}
+
+// The length of (x, y): the root of the rounded sum of the rounded squares, and of tiny parts the same
+// on a larger scale. It is zero for zeros alone, and no part is larger.
 pub fn length(x: f64, y: f64) -> Rooted
     ensures { λ r. ⌜ rootedPaper r ≡ lengthOf x y ⌝ }
 {
+    if (floats::abs(x) < TINY_BELOW) & (floats::abs(y) < TINY_BELOW) {
+        return tiny_length(x, y);
+    }
     root(x * x + y * y)
 }
 

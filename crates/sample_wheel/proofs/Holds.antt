@@ -8,7 +8,7 @@ use Rattle.floats.specs.Each.{Each}
 use Rattle.floats.specs.Pick.{pick}
 use Rattle.floats.specs.Numbers.{leastOf, greatestOf, sizeOf, minusZero, cleanOf}
 use Rattle.numbers.specs.Root.{rootBelow, wholeRoot, rootIn, rootOf}
-use Rattle.numbers.specs.Length.{lengthOf}
+use Rattle.numbers.specs.Length.{tinyParts, plainLength, scaledBack, lengthOf}
 use Rattle.numbers.specs.Whole.{wholeUp}
 use Rattle.stock.specs.Spec.{cleanSpec, specGood, cellsOf}
 use Rattle.stock.specs.Bin.{binOf}
@@ -43,7 +43,7 @@ roots = (refl, (refl, tt))
 
 -- a nose
 noses : Each Holds (P3 ∷ P4 ∷ P5 ∷ [])
-unfolding demand onward pick leastOf greatestOf sizeOf minusZero cleanOf rootBelow wholeRoot rootIn rootOf wholeUp cleanSpec specGood cellsOf binOf putCell cellFits fitTo cellsFit stockOf cellsLike deeper shallower deepOf sureOf limitOf withPair ownOf cutBy cutCell changeAt changesTo appliesTo passes eachPasses risesAfter rises passAll commitIn commitOf turned turnedAll newBar afterCuts answerOf previewOf previewTool previewCut lengthOf lowerOf upperOf flipped storedOf reachFrom endAt facing normalOf shifted lineAt sideAt capsuleMinR leastPoint capsuleLowest cleanAt segmentAt segmentGood goodTo segmentsGood inBin lowWith highWith withSegment noseTo noseReach noseAct Ieee.ofBits Ieee.ofFields Ieee.odd Ieee.eq Ieee.ne Ieee.lt Ieee.le Ieee.div Ieee.sub Ieee.add Ieee.mul Ieee.neg Ieee.sum Ieee.round Ieee.units Ieee.ofInt Ieee.size Ieee.span Ieee.climb Ieee.toUnsigned
+unfolding demand onward pick leastOf greatestOf sizeOf minusZero cleanOf rootBelow wholeRoot rootIn rootOf wholeUp cleanSpec specGood cellsOf binOf putCell cellFits fitTo cellsFit stockOf cellsLike deeper shallower deepOf sureOf limitOf withPair ownOf cutBy cutCell changeAt changesTo appliesTo passes eachPasses risesAfter rises passAll commitIn commitOf turned turnedAll newBar afterCuts answerOf previewOf previewTool previewCut tinyParts plainLength scaledBack lengthOf lowerOf upperOf flipped storedOf reachFrom endAt facing normalOf shifted lineAt sideAt capsuleMinR leastPoint capsuleLowest cleanAt segmentAt segmentGood goodTo segmentsGood inBin lowWith highWith withSegment noseTo noseReach noseAct Ieee.ofBits Ieee.ofFields Ieee.odd Ieee.eq Ieee.ne Ieee.lt Ieee.le Ieee.div Ieee.sub Ieee.add Ieee.mul Ieee.neg Ieee.sum Ieee.round Ieee.units Ieee.ofInt Ieee.size Ieee.span Ieee.climb Ieee.toUnsigned
 noses = (refl, (refl, (refl, tt)))
 
 -- a thread, a drill, a polygon
@@ -53,7 +53,7 @@ others = (refl, (refl, (refl, tt)))
 
 -- cuts in two orders
 orders : Each Holds (P9 ∷ P9b ∷ P10 ∷ P10b ∷ [])
-unfolding demand onward pick leastOf greatestOf sizeOf minusZero cleanOf rootBelow wholeRoot rootIn rootOf wholeUp cleanSpec specGood cellsOf binOf putCell cellFits fitTo cellsFit stockOf cellsLike deeper shallower deepOf sureOf limitOf withPair ownOf cutBy cutCell changeAt changesTo appliesTo passes eachPasses risesAfter rises passAll commitIn commitOf turned turnedAll newBar afterCuts answerOf previewOf previewTool previewCut lengthOf lowerOf upperOf flipped storedOf reachFrom endAt facing normalOf shifted lineAt sideAt capsuleMinR leastPoint capsuleLowest cleanAt segmentAt segmentGood goodTo segmentsGood inBin lowWith highWith withSegment noseTo noseReach noseAct misses drillAt threadReach drillReach cutReach cutGood cleanCut Ieee.ofBits Ieee.ofFields Ieee.odd Ieee.eq Ieee.ne Ieee.lt Ieee.le Ieee.div Ieee.sub Ieee.add Ieee.mul Ieee.neg Ieee.sum Ieee.round Ieee.units Ieee.ofInt Ieee.size Ieee.span Ieee.climb Ieee.toUnsigned
+unfolding demand onward pick leastOf greatestOf sizeOf minusZero cleanOf rootBelow wholeRoot rootIn rootOf wholeUp cleanSpec specGood cellsOf binOf putCell cellFits fitTo cellsFit stockOf cellsLike deeper shallower deepOf sureOf limitOf withPair ownOf cutBy cutCell changeAt changesTo appliesTo passes eachPasses risesAfter rises passAll commitIn commitOf turned turnedAll newBar afterCuts answerOf previewOf previewTool previewCut tinyParts plainLength scaledBack lengthOf lowerOf upperOf flipped storedOf reachFrom endAt facing normalOf shifted lineAt sideAt capsuleMinR leastPoint capsuleLowest cleanAt segmentAt segmentGood goodTo segmentsGood inBin lowWith highWith withSegment noseTo noseReach noseAct misses drillAt threadReach drillReach cutReach cutGood cleanCut Ieee.ofBits Ieee.ofFields Ieee.odd Ieee.eq Ieee.ne Ieee.lt Ieee.le Ieee.div Ieee.sub Ieee.add Ieee.mul Ieee.neg Ieee.sum Ieee.round Ieee.units Ieee.ofInt Ieee.size Ieee.span Ieee.climb Ieee.toUnsigned
 orders = (refl, (refl, (refl, (refl, tt))))
 
 -- rings
@@ -63,7 +63,7 @@ rings = (refl, (refl, (refl, tt)))
 
 -- what stands at a height
 heights : Each Holds (P13 ∷ P13b ∷ P13c ∷ [])
-unfolding demand onward pick leastOf greatestOf sizeOf minusZero cleanOf rootBelow wholeRoot rootIn rootOf wholeUp cleanSpec specGood cellsOf binOf putCell cellFits fitTo cellsFit stockOf cellsLike deeper shallower deepOf sureOf limitOf withPair ownOf cutBy cutCell changeAt changesTo appliesTo passes eachPasses risesAfter rises passAll commitIn commitOf turned turnedAll newBar afterCuts answerOf previewOf previewTool previewCut lengthOf lowerOf upperOf flipped storedOf reachFrom endAt facing normalOf shifted lineAt sideAt capsuleMinR leastPoint capsuleLowest cleanAt segmentAt segmentGood goodTo segmentsGood inBin lowWith highWith withSegment noseTo noseReach noseAct shownOf seenAt envelopeAt Ieee.ofBits Ieee.ofFields Ieee.odd Ieee.eq Ieee.ne Ieee.lt Ieee.le Ieee.div Ieee.sub Ieee.add Ieee.mul Ieee.neg Ieee.sum Ieee.round Ieee.units Ieee.ofInt Ieee.size Ieee.span Ieee.climb Ieee.toUnsigned
+unfolding demand onward pick leastOf greatestOf sizeOf minusZero cleanOf rootBelow wholeRoot rootIn rootOf wholeUp cleanSpec specGood cellsOf binOf putCell cellFits fitTo cellsFit stockOf cellsLike deeper shallower deepOf sureOf limitOf withPair ownOf cutBy cutCell changeAt changesTo appliesTo passes eachPasses risesAfter rises passAll commitIn commitOf turned turnedAll newBar afterCuts answerOf previewOf previewTool previewCut tinyParts plainLength scaledBack lengthOf lowerOf upperOf flipped storedOf reachFrom endAt facing normalOf shifted lineAt sideAt capsuleMinR leastPoint capsuleLowest cleanAt segmentAt segmentGood goodTo segmentsGood inBin lowWith highWith withSegment noseTo noseReach noseAct shownOf seenAt envelopeAt Ieee.ofBits Ieee.ofFields Ieee.odd Ieee.eq Ieee.ne Ieee.lt Ieee.le Ieee.div Ieee.sub Ieee.add Ieee.mul Ieee.neg Ieee.sum Ieee.round Ieee.units Ieee.ofInt Ieee.size Ieee.span Ieee.climb Ieee.toUnsigned
 heights = (refl, (refl, (refl, tt)))
 
 -- P1 TO P13: every row holds

@@ -23,14 +23,21 @@ pub fn length(count: usize) -> Sides<'static> {
             let lengths = hypot.iter().map(|p| black_box(p.0).hypot(p.1));
             lengths.sum::<f64>()
         }),
-        side(count, move || {
-            let lengths = ruled
-                .iter()
-                .map(|p| (black_box(p.0) * p.0 + p.1 * p.1).sqrt());
-            lengths.sum::<f64>()
-        }),
+        side(count, move || ruled.iter().map(ruled_length).sum::<f64>()),
         length_side(pairs),
     ]
+}
+
+/// The rules' length in Rust.
+pub fn ruled_length(p: &(f64, f64)) -> f64 {
+    let (x, y) = (black_box(p.0), p.1);
+    let tiny = f64::from_bits(0x26F0_0000_0000_0000);
+    if x.abs() < tiny && y.abs() < tiny {
+        let scale = f64::from_bits(0x6570_0000_0000_0000);
+        let (u, v) = (x * scale, y * scale);
+        return (u * u + v * v).sqrt() * f64::from_bits(0x1A70_0000_0000_0000);
+    }
+    (x * x + y * y).sqrt()
 }
 
 pub fn root_side(xs: Vec<f64>) -> Option<Side<'static>> {
