@@ -311,7 +311,131 @@ fn parts() -> Vec<(Call, u32)> {
         let (spec, cells) = (bar(MOST_CELLS), whole(MOST_CELLS));
         calls.push((Call::EnvelopeAt { spec, cells, z }, 0));
     }
+    calls.extend(edges().into_iter().map(|(_, call, number)| (call, number)));
     calls
+}
+
+/// What is asked of heights on the edge between two bins, by name: which bins are looked at there.
+pub fn edges() -> Vec<(&'static str, Call, u32)> {
+    let spec = |z_min, z_max, cell| Spec {
+        z_min,
+        z_max,
+        outer: 10.,
+        bore: 0.,
+        cell,
+        max_cells: MOST_CELLS,
+    };
+    // Bins that can be told apart: outer 1, 2, 3, .. and bore 1/8, 2/8, ..
+    let steps = |n: usize| -> Vec<f64> {
+        let cell = |i: usize| [0.5, 1. + (i % 8) as f64, (i % 4) as f64 / 8., 0.5];
+        (0..n).flat_map(cell).collect()
+    };
+    let empty = |n: usize| [1., 1., 2., 2.].repeat(n);
+    let mut list = vec![];
+    let mut at = |name, spec, cells: Vec<f64>, z: &[f64], number| {
+        for z in z {
+            let (cells, z) = (cells.clone(), *z);
+            list.push((name, Call::EnvelopeAt { spec, cells, z }, number));
+        }
+    };
+    let q = spec(0., 9., 3.);
+    at("both bins of an edge", q, steps(3), &[3., 6.], 0);
+    at(
+        "one ulp beside it",
+        q,
+        steps(3),
+        &[3f64.next_up(), 3f64.next_down()],
+        0,
+    );
+    at("the ends of the bar", q, steps(3), &[0., -0., 9.], 0);
+    at(
+        "one ulp outside",
+        q,
+        steps(3),
+        &[-f64::from_bits(1), 9f64.next_up()],
+        0,
+    );
+    at(
+        "no number, and infinite",
+        q,
+        steps(3),
+        &[f64::NAN, f64::INFINITY, f64::NEG_INFINITY],
+        0,
+    );
+    at(
+        "a neighbour without material",
+        q,
+        [[4., 5., 0., 0.], [1., 1., 2., 2.], [4., 7., 0., 0.]]
+            .as_flattened()
+            .to_vec(),
+        &[3., 6., 4.],
+        0,
+    );
+    at("no material anywhere", q, empty(3), &[3., 4.], 0);
+    at(
+        "bore and outer of two bins",
+        q,
+        [[4., 5., 2., 2.], [3., 4., 1., 1.], [4., 7., 0., 0.]]
+            .as_flattened()
+            .to_vec(),
+        &[3., 6.],
+        0,
+    );
+    at(
+        "a bin of z that does not hold it",
+        spec(-0.524, 28.976, 1.),
+        steps(30),
+        &[0.4759999999999999],
+        0,
+    );
+    at(
+        "an empty last bin",
+        spec(0.1, 0.4, 0.1),
+        steps(4),
+        &[0.4, 0.4f64.next_down(), 0.30000000000000004],
+        0,
+    );
+    at(
+        "a last bin turned about",
+        spec(-0.002, 0.007, 0.003),
+        steps(4),
+        &[0.007, 0.007f64.next_down(), 0.006999999999999999],
+        0,
+    );
+    at(
+        "bins below an ulp",
+        spec(1., 1.0000000000000002, 2f64.powi(-54)),
+        steps(4),
+        &[1., 1.0000000000000002],
+        0,
+    );
+    at("one bin", spec(0., 1., 1.), steps(1), &[0., 0.5, 1.], 0);
+    at(
+        "a cell with -0.0",
+        spec(0., 1., 1.),
+        vec![1., 1., -0., 0.],
+        &[1.],
+        CELLS,
+    );
+    at("too few cells", q, steps(2), &[3.], CELLS);
+    at(
+        "no cells allowed",
+        Spec { max_cells: 0, ..q },
+        steps(3),
+        &[3.],
+        COUNT,
+    );
+    // Two bins by turns, so that a recorded line says them once.
+    let turns = [[0.5, 1., 0., 0.5], [0.5, 2., 0.125, 0.5]];
+    let long = spec(0., MOST_CELLS as f64, 1.);
+    at(
+        "the last edge of the longest bar",
+        long,
+        turns.as_flattened().repeat(MOST_CELLS / 2),
+        &[(MOST_CELLS - 1) as f64],
+        0,
+    );
+    list
 }
 
 /// So many points of an envelope, u rising, falling or back and forth.

@@ -237,6 +237,22 @@ fn cells_that_do_not_fit() {
     );
 }
 
+/// camlib looks at the bin of z alone; here a neighbour whose closed range holds z counts too.
+#[test]
+fn material_at_an_edge() {
+    let spec = Spec { z_max: 2., ..BAR };
+    let cells = [[4., 5., 0., 0.], [4., 4., 0., 0.]];
+    let parts = cells.iter().map(to_camlib).collect();
+    let theirs = TurnStock::from_parts(camlib_spec(&spec), parts, vec![]).unwrap();
+    assert_eq!(theirs.envelope_at(1.), Some((0., 4.)));
+    let call = Call::EnvelopeAt {
+        spec,
+        cells: cells.as_flattened().to_vec(),
+        z: 1.,
+    };
+    assert_eq!(here(call), Ok(Answer::Found(Some(vec![0., 5.]))));
+}
+
 /// camlib takes stocks with other cells, up to the shorter.
 #[test]
 fn a_difference_of_other_lengths() {

@@ -1,7 +1,7 @@
 //! Each call at a limit of document 01 answers the number that 01 gives, by the oracle and by the
 //! library.
 use compare::call::{Answer, Call};
-use compare::limits::{calls, corners};
+use compare::limits::{calls, corners, edges};
 use compare::oracle::{answer, full_look};
 use compare::run::{difference, number};
 
@@ -41,4 +41,42 @@ fn the_most_points_have_an_order_and_a_radius() {
             assert!(matches!(answer(&call), Ok(Answer::Found(Some(_)))));
         }
     }
+}
+
+/// On the edge between two bins both are looked at, and no bin beyond the next.
+#[test]
+fn edges_show_the_most_of_their_bins() {
+    let shown = |name: &str| -> Vec<Option<Vec<f64>>> {
+        let named = edges().into_iter().filter(|(n, ..)| *n == name);
+        let answers = named.map(|(_, call, _)| answer(&call));
+        let found = answers.map(|a| match a {
+            Ok(Answer::Found(found)) => found,
+            other => panic!("{name}: {other:?}"),
+        });
+        found.collect()
+    };
+    let band = |bore: f64, outer: f64| Some(vec![bore, outer]);
+    assert_eq!(
+        shown("both bins of an edge"),
+        [band(0., 2.), band(0.125, 3.)]
+    );
+    assert_eq!(shown("one ulp beside it"), [band(0.125, 2.), band(0., 1.)]);
+    assert_eq!(
+        shown("the ends of the bar"),
+        [band(0., 1.), band(0., 1.), band(0.25, 3.)]
+    );
+    assert_eq!(shown("one ulp outside"), [None, None]);
+    assert_eq!(
+        shown("a neighbour without material"),
+        [band(0., 5.), band(0., 7.), None]
+    );
+    assert_eq!(shown("no material anywhere"), [None, None]);
+    assert_eq!(
+        shown("bore and outer of two bins"),
+        [band(1., 5.), band(0., 7.)]
+    );
+    assert_eq!(shown("a bin of z that does not hold it"), [band(0., 2.)]);
+    assert_eq!(shown("an empty last bin")[0], band(0.25, 4.));
+    assert_eq!(shown("a last bin turned about")[0], band(0.25, 4.));
+    assert_eq!(shown("bins below an ulp")[0], band(0., 2.));
 }

@@ -232,7 +232,7 @@ fn p13_envelope_at() {
             z,
         })
     };
-    assert_eq!(at(3.), Ok(Answer::Found(Some(vec![0., 4.]))));
+    assert_eq!(at(3.), Ok(Answer::Found(Some(vec![0., 5.]))));
     assert_eq!(at(9.), Ok(Answer::Found(Some(vec![0., 5.]))));
     assert_eq!(at(9.5), Ok(Answer::Found(None)));
     assert_eq!(at(f64::NAN), Ok(Answer::Found(None)));

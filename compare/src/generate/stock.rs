@@ -17,7 +17,7 @@ const fn spec(z_min: f64, z_max: f64, outer: f64, bore: f64, cell: f64) -> Spec 
 }
 
 /// 01's bars, and bars whose bins round into empty or turned ones, or lie at an edge of f64.
-const KNOWN: [Spec; 18] = [
+const KNOWN: [Spec; 20] = [
     spec(0., 9., 10., 0., 3.),
     spec(0., 4., 10., 0., 1.),
     spec(0.1, 0.4, 10., 0., 0.1),
@@ -36,6 +36,9 @@ const KNOWN: [Spec; 18] = [
     spec(0., 8e-12, 10., 0., 2e-12),
     spec(0.7, 1.0, 5., 0., 0.1),
     spec(-20.3, 0., 12.7, 3.175, 0.7),
+    spec(-0.524, 28.976, 12.7, 3.175, 1.),
+    // bins below an ulp of z
+    spec(1., 1.0000000000000002, 10., 0., 5.551115123125783e-17),
 ];
 
 fn shop(rng: &mut Rng) -> Spec {
@@ -324,6 +327,9 @@ pub fn envelope_at(rng: &mut Rng) -> Call {
             0 => any(rng),
             1 => outside(rng),
             2 => damaged(rng, base.spec.z_max),
+            3 => bin_edge(rng, &base).next_up(),
+            4 => bin_edge(rng, &base).next_down(),
+            5..9 => bin_edge(rng, &base),
             _ => z_near(rng, &base),
         },
     }

@@ -9,7 +9,7 @@ pub mod cuts;
 mod envelope;
 mod full;
 pub mod numbers;
-mod queries;
+pub mod queries;
 pub mod rings;
 pub mod stock;
 

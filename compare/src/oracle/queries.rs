@@ -17,6 +17,41 @@ pub fn envelope_at(spec: &Spec, lent: &[f64], z: f64) -> Result<Option<Vec<f64>>
     let bar = bar(spec)?;
     let cells = cells(&bar, lent)?;
     let stock = camlib_stock(&bar, &cells, &[]);
-    let found = stock.envelope_at(clean(z));
-    Ok(found.map(|(bore, outer)| vec![bore, outer]))
+    let z = clean(z);
+    let own = stock.envelope_at(z);
+    let most = most_at(&bar.spec, bar.n, z, own, |i| stock.bin(i), |i| cells[i]);
+    Ok(most)
+}
+
+/// Of the bin of z, and of a neighbour on either side whose closed range holds z, those that hold
+/// material: the least bore and the greatest outer radius. Where no neighbour holds z it is what
+/// camlib answers of the bin of z alone.
+pub fn most_at(
+    spec: &Spec,
+    n: usize,
+    z: f64,
+    own: Option<(f64, f64)>,
+    bin: impl Fn(usize) -> [f64; 2],
+    cell: impl Fn(usize) -> [f64; 4],
+) -> Option<Vec<f64>> {
+    if !(spec.z_min <= z && z <= spec.z_max) {
+        assert_eq!(own, None);
+        return None;
+    }
+    let i = (((z - spec.z_min) / spec.cell) as usize).min(n - 1);
+    let holds = |j: usize| bin(j)[0] <= z && z <= bin(j)[1];
+    let before = i > 0 && holds(i - 1);
+    let behind = i + 1 < n && holds(i + 1);
+    if !before && !behind {
+        return own.map(|(bore, outer)| vec![clean(bore), clean(outer)]);
+    }
+    let mut most: Option<Vec<f64>> = None;
+    for j in i - before as usize..=i + behind as usize {
+        let [_, outer, bore, _] = cell(j);
+        if outer > bore {
+            let [b, o] = most.map_or([bore, outer], |m| [m[0], m[1]]);
+            most = Some(vec![b.min(bore), o.max(outer)]);
+        }
+    }
+    most
 }

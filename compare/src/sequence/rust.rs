@@ -4,6 +4,7 @@ use super::{Action, Sequence};
 use crate::call::{Answer, Call, Change, List, Simple, Spec, Store};
 use crate::oracle::clean;
 use crate::oracle::cuts::{change_with_length, segment, stock_with_length};
+use crate::oracle::queries::most_at;
 use crate::oracle::stock::bar;
 use length::turning::stock::{RadiusBounds, TurnCell, TurnChange, TurnSide, TurnStock};
 
@@ -139,8 +140,16 @@ impl Rust {
                 Answer::Volume(least, greatest)
             }
             Action::EnvelopeAt(z) => {
-                let found = stock.envelope_at(clean(*z));
-                Answer::Found(found.map(|(bore, outer)| vec![clean(bore), clean(outer)]))
+                let cells = stock.cells();
+                let z = clean(*z);
+                Answer::Found(most_at(
+                    &self.flat.spec,
+                    cells.len(),
+                    z,
+                    stock.envelope_at(z),
+                    |i| stock.bin(i),
+                    |i| flat_cell(&cells[i]),
+                ))
             }
             _ => {
                 self.earlier.push(self.now.clone());

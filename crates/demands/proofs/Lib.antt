@@ -12,3 +12,4 @@ pub mod Written
 pub mod Second
 pub mod Once
 pub mod Profile
+pub mod Sees

@@ -12,6 +12,7 @@
 --   polygon   polygon_good, index_range
 --   changes   room, change_at, held_of, is_accepted, put_after
 --   rings     rings_fit, rings_good, raised_by
+--   queries   bins_at
 --   envelope  within, of the numbers of the part that is lent back
 --   text      part, front, of the bytes that are lent back; part_count, same, read_whole
 --   job_words read_line, read_number

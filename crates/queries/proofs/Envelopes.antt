@@ -3,20 +3,19 @@ use mathlib.Core.Path.{_≡_, refl, sym, ap, _∙_}
 use mathlib.Core.Bool.{true, false}
 use mathlib.Core.List.{List}
 use mathlib.Core.Option.{Option, none, some}
-use Prim.Native.Nat.{ℕ, _-_, _<_, min}
+use Prim.Native.Nat.{ℕ, _+_, _-_, _<_, min}
 use native.Mathlib.Omega.{arith}
 use lib.Ieee.{Float, nan, inf, fin, le, lt, eq}
 use Rattle.refusals.specs.Paper.{Paper, answers, refuses, onward-answers, onward-refuses}
 use Rattle.floats.specs.Pick.{pick, pick-true, pick-false}
 use Rattle.floats.specs.Numbers.{zero64, cleanOf}
 use Rattle.stock.specs.declared.TurnStockSpec.{TurnStockSpec}
-use Rattle.stock.specs.declared.TurnCell.{TurnCell}
 use Rattle.stock.specs.Spec.{cleanSpec}
-use Rattle.stock.specs.Cell.{cellAt, stockOf}
+use Rattle.stock.specs.Cell.{stockOf}
 use Rattle.stock.proofs.Count.{stocked, checked}
 use Rattle.queries.specs.declared.Band.{Band}
-use Rattle.queries.specs.Material.{mostOf}
-use Rattle.queries.specs.Envelope.{inRange, binAt, shownOf, seenAt, envelopeAt}
+use Rattle.queries.specs.declared.BinSpan.{BinSpan}
+use Rattle.queries.specs.Envelope.{inRange, binAt, firstAt, lastAt, binsAt, shownOf, mostOver, seenAt, envelopeAt}
 
 -- ---- of n cells
 module _ (s : TurnStockSpec) (n : ℕ) (cs : List Float) (z : Float) where
@@ -25,10 +24,10 @@ module _ (s : TurnStockSpec) (n : ℕ) (cs : List Float) (z : Float) where
   unfolding seenAt
   outside e = sym (pick-false _ _ _ e)
 
-  -- within it what its bin shows
-  pub inside : (i : ℕ) (c : TurnCell) (b : Band) → inRange s z ≡ true → i ≡ binAt s n z → c ≡ cellAt cs i → b ≡ mostOf c → shownOf b ≡ seenAt s n cs z
+  -- within it the most over the bins that are looked at
+  pub inside : {r : BinSpan} → inRange s z ≡ true → r ≡ binsAt s n z → mostOver cs (r .first) (r .last - r .first + 1) ≡ seenAt s n cs z
   unfolding seenAt
-  inside i c b e ei ec eb = ap shownOf (eb ∙ ap mostOf (ec ∙ ap (cellAt cs) ei)) ∙ sym (pick-true _ _ _ e)
+  inside e q = ap (λ (b : BinSpan). mostOver cs (b .first) (b .last - b .first + 1)) q ∙ sym (pick-true _ _ _ e)
 
   -- the bin is one of the n
   pub bin-below : 0 < n → binAt s n z < n
@@ -42,7 +41,8 @@ module _ (spec : TurnStockSpec) (cs : List Float) (z : Float) where
   envelope-refused k e = rw e (onward-refuses k (λ n. answers (seenAt (cleanSpec spec) n cs (cleanOf z))))
 
   module _ (n : ℕ) (e : stockOf spec cs ≡ answers n) where
-    at-clean : envelopeAt spec cs z ≡ answers (seenAt (cleanSpec spec) n cs (cleanOf z))
+    -- what is seen of its cells
+    pub at-clean : envelopeAt spec cs z ≡ answers (seenAt (cleanSpec spec) n cs (cleanOf z))
     unfolding envelopeAt
     at-clean = rw e (onward-answers n (λ m. answers (seenAt (cleanSpec spec) m cs (cleanOf z))))
 
@@ -50,9 +50,9 @@ module _ (spec : TurnStockSpec) (cs : List Float) (z : Float) where
     pub envelope-outside : inRange (cleanSpec spec) (cleanOf z) ≡ false → envelopeAt spec cs z ≡ answers none
     envelope-outside t = at-clean ∙ ap answers (sym (outside (cleanSpec spec) n cs (cleanOf z) t))
 
-    -- within it what its bin shows
-    pub envelope-inside : inRange (cleanSpec spec) (cleanOf z) ≡ true → envelopeAt spec cs z ≡ answers (shownOf (mostOf (cellAt cs (binAt (cleanSpec spec) n (cleanOf z)))))
-    envelope-inside t = at-clean ∙ ap answers (sym (inside (cleanSpec spec) n cs (cleanOf z) _ _ _ t refl refl refl))
+    -- within it the most over the bins that are looked at
+    pub envelope-inside : let s = cleanSpec spec in let x = cleanOf z in inRange s x ≡ true → envelopeAt spec cs z ≡ answers (mostOver cs (firstAt s n x) (lastAt s n x - firstAt s n x + 1))
+    envelope-inside t = at-clean ∙ ap answers (sym (inside (cleanSpec spec) n cs (cleanOf z) t refl))
 
     -- and that is a bin of the stock
     pub envelope-bin : binAt (cleanSpec spec) n (cleanOf z) < n

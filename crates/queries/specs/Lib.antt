@@ -1,4 +1,5 @@
 pub mod Material
 pub mod Envelope
+pub mod Looked
 pub mod Volume
 pub mod Pass

@@ -5,13 +5,16 @@
 // and the most that may remain is a band from the bore's lower bound to the outer surface's upper
 // bound. The volume sums each of the two over the bins, and takes from each what the stored rings
 // have of it. Stored rings share no point, so none is taken twice.
+//
+// At a height the most over the bins that touch it is asked: the bin of z, and a neighbour on either
+// side whose closed range holds z too.
 ghost use mathlib.Core.Path.{_≡_};
 ghost use Prim.Native.Nat.{_+_, _*_, _≤_, _<_};
 ghost use lib.ListN.{length};
 ghost use Rattle.refusals.specs.Paper.{answers};
 ghost use Rattle.rings.specs.Store.{ringAt};
 ghost use Rattle.queries.specs.Material.{sureOf, mostOf};
-ghost use Rattle.queries.specs.Envelope.{binAt, shownOf, seenAt, envelopeAt, seenPaper};
+ghost use Rattle.queries.specs.Envelope.{binAt, holdsZ, firstAt, lastAt, binsAt, shownOf, together, mostOver, shownIn, seenAt, envelopeAt, seenPaper};
 ghost use Rattle.queries.specs.Volume.{tubeOf, heldIn, lessBand, volumeOf, measuredPaper};
 ghost use Rattle.queries.specs.Pass.{sumsOf, lessBin, lessBins, lessAll};
 use refusals::Refusal;
@@ -27,6 +30,12 @@ const PI: f64 = 3.141592653589793;
 pub struct Band {
     pub bore: f64,
     pub outer: f64,
+}
+
+// The bins that are looked at for a height, from the first to the last.
+pub struct BinSpan {
+    pub first: usize,
+    pub last: usize,
 }
 
 // The least and the greatest volume that remains.
@@ -68,11 +77,66 @@ fn most(c: TurnCell) -> Band
 
 // The bin of z, among n.
 fn bin_at(s: TurnStockSpec, n: usize, z: f64) -> usize
-    requires { ⌜ 0 < n ⌝ }
     ensures { λ r. ⌜ r ≡ binAt s n z ⌝ }
 {
     let whole = numbers::whole_part((z - s.z_min_mm) / s.cell_mm) as usize;
-    if whole < n { whole } else { n - 1 }
+    if whole < n {
+        return whole;
+    }
+    if n == 0 {
+        return 0;
+    }
+    n - 1
+}
+
+// The closed range of bin j holds z.
+fn holds_z(s: TurnStockSpec, j: usize, z: f64) -> bool
+    ensures { λ r. ⌜ r ≡ holdsZ s j z ⌝ }
+{
+    let bin = stock::bin_of(s, j);
+    (bin.za <= z) & (z <= bin.zb)
+}
+
+// The first bin that is looked at: that of z, or the one before it where that holds z too.
+fn first_at(s: TurnStockSpec, n: usize, z: f64) -> usize
+    ensures { λ r. ⌜ r ≡ firstAt s n z ⌝ }
+{
+    let i = bin_at(s, n, z);
+    if i == 0 {
+        return i;
+    }
+    if holds_z(s, i - 1, z) {
+        return i - 1;
+    }
+    i
+}
+
+// The last one: that of z, or the one behind it where that holds z too.
+fn last_at(s: TurnStockSpec, n: usize, z: f64) -> usize
+    ensures { λ r. ⌜ r ≡ lastAt s n z ⌝ }
+{
+    let i = bin_at(s, n, z);
+    if n <= i {
+        return i;
+    }
+    let next = i + 1;
+    if n <= next {
+        return i;
+    }
+    if holds_z(s, next, z) {
+        return next;
+    }
+    i
+}
+
+// The bins that are looked at for z, among n bins of a spec whose numbers are checked.
+pub fn bins_at(s: TurnStockSpec, n: usize, z: f64) -> BinSpan
+    ensures { λ r. ⌜ r ≡ binsAt s n z ⌝ }
+{
+    BinSpan {
+        first: first_at(s, n, z),
+        last: last_at(s, n, z),
+    }
 }
 
 // A band, if it has material.
@@ -85,6 +149,47 @@ fn shown(b: Band) -> Seen
     Seen::Nothing
 }
 
+// The least bore and the greatest outer radius of what is seen in two places.
+fn join(a: Seen, b: Seen) -> Seen
+    ensures { λ r. ⌜ seenPaper r ≡ answers (together (shownIn a) (shownIn b)) ⌝ }
+{
+    match a {
+        Seen::Radii(x, y) => match b {
+            Seen::Radii(u, v) => Seen::Radii(floats::least(x, u), floats::greatest(y, v)),
+            Seen::Nothing => Seen::Radii(x, y),
+            Seen::Refused(_) => Seen::Radii(x, y),
+        },
+        Seen::Nothing => alone(b),
+        Seen::Refused(_) => alone(b),
+    }
+}
+
+// What is seen in one place.
+fn alone(b: Seen) -> Seen
+    ensures { λ r. ⌜ seenPaper r ≡ answers (shownIn b) ⌝ }
+{
+    match b {
+        Seen::Radii(u, v) => Seen::Radii(u, v),
+        Seen::Nothing => Seen::Nothing,
+        Seen::Refused(_) => Seen::Nothing,
+    }
+}
+
+// The most over so many of n bins, from the first on.
+fn most_over(cells: &[f64], n: usize, first: usize, count: usize) -> Seen
+    requires { ⌜ first + count ≤ n ⌝ }
+    ensures { λ r. ⌜ seenPaper r ≡ answers (mostOver (now (cells .entry)) first count) ⌝ }
+{
+    let mut seen = Seen::Nothing;
+    let mut k: usize = 0;
+    while k < count {
+        let one = shown(most(stock::cell_at(cells, first + k)));
+        seen = join(seen, one);
+        k += 1;
+    }
+    seen
+}
+
 // What may remain at z, in a stock whose cells are checked.
 fn seen_at(s: TurnStockSpec, n: usize, cells: &[f64], z: f64) -> Seen
     requires { ⌜ 0 < n ⌝ }
@@ -93,10 +198,13 @@ fn seen_at(s: TurnStockSpec, n: usize, cells: &[f64], z: f64) -> Seen
     if !((s.z_min_mm <= z) & (z <= s.z_max_mm)) {
         return Seen::Nothing;
     }
-    shown(most(stock::cell_at(cells, bin_at(s, n, z))))
+    let bins = bins_at(s, n, z);
+    let first = bins.first;
+    most_over(cells, n, first, bins.last - first + 1)
 }
 
-// The most material that may remain at z, from bore to outer radius; 1, 2, 3.
+// The most material that may remain at z, from bore to outer radius: over the bin of z, and a neighbour
+// whose closed range holds z; 1, 2, 3.
 pub fn envelope_at(spec: TurnStockSpec, cells: &[f64], z: f64) -> Seen
     ensures { λ r. ⌜ seenPaper r ≡ envelopeAt spec (now (cells .entry)) z ⌝ }
 {

@@ -23,7 +23,7 @@ use Rattle.changes.specs.Change.{changeAt, changesTo}
 use Rattle.rings.specs.Ring.{kept, around, split, subtract, subtractAll, inHand, clip, left}
 use Rattle.rings.specs.Store.{ringsOf, flatOf, storeAs, ringFits, apartAll, storeFits, countFits}
 use Rattle.rings.specs.Remove.{roomFor, added, raised, removeIn, removeRing}
-use Rattle.queries.specs.Envelope.{shownOf, seenAt, envelopeAt}
+use Rattle.queries.specs.Envelope.{firstAt, lastAt, shownOf, together, mostOver, seenAt, envelopeAt}
 use Rattle.cuts.specs.Cut.{misses, drillAt, threadReach, drillReach, cutReach, cutGood, cleanCut}
 use Rattle.cuts.specs.Preview.{previewOf, previewCut}
 use Rattle.cuts.specs.Tool.{previewTool}
@@ -63,7 +63,7 @@ rings = (refl, (refl, (refl, tt)))
 
 -- what stands at a height
 heights : Each Holds (P13 ∷ P13b ∷ P13c ∷ [])
-unfolding demand onward pick leastOf greatestOf sizeOf minusZero cleanOf rootBelow wholeRoot rootIn rootOf wholeUp cleanSpec specGood cellsOf binOf putCell cellFits fitTo cellsFit stockOf cellsLike deeper shallower deepOf sureOf limitOf withPair ownOf cutBy cutCell changeAt changesTo appliesTo passes eachPasses risesAfter rises passAll commitIn commitOf turned turnedAll newBar afterCuts answerOf previewOf previewTool previewCut tinyParts plainLength scaledBack lengthOf lowerOf upperOf flipped storedOf reachFrom endAt facing normalOf shifted lineAt sideAt capsuleMinR leastPoint capsuleLowest cleanAt segmentAt segmentGood goodTo segmentsGood inBin lowWith highWith withSegment noseTo noseReach noseAct shownOf seenAt envelopeAt Ieee.ofBits Ieee.ofFields Ieee.odd Ieee.eq Ieee.ne Ieee.lt Ieee.le Ieee.div Ieee.sub Ieee.add Ieee.mul Ieee.neg Ieee.sum Ieee.round Ieee.units Ieee.ofInt Ieee.size Ieee.span Ieee.climb Ieee.toUnsigned
+unfolding demand onward pick leastOf greatestOf sizeOf minusZero cleanOf rootBelow wholeRoot rootIn rootOf wholeUp cleanSpec specGood cellsOf binOf putCell cellFits fitTo cellsFit stockOf cellsLike deeper shallower deepOf sureOf limitOf withPair ownOf cutBy cutCell changeAt changesTo appliesTo passes eachPasses risesAfter rises passAll commitIn commitOf turned turnedAll newBar afterCuts answerOf previewOf previewTool previewCut tinyParts plainLength scaledBack lengthOf lowerOf upperOf flipped storedOf reachFrom endAt facing normalOf shifted lineAt sideAt capsuleMinR leastPoint capsuleLowest cleanAt segmentAt segmentGood goodTo segmentsGood inBin lowWith highWith withSegment noseTo noseReach noseAct firstAt lastAt shownOf together mostOver seenAt envelopeAt Ieee.ofBits Ieee.ofFields Ieee.odd Ieee.eq Ieee.ne Ieee.lt Ieee.le Ieee.div Ieee.sub Ieee.add Ieee.mul Ieee.neg Ieee.sum Ieee.round Ieee.units Ieee.ofInt Ieee.size Ieee.span Ieee.climb Ieee.toUnsigned
 heights = (refl, (refl, (refl, tt)))
 
 -- P1 TO P13: every row holds

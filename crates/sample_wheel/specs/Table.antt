@@ -171,8 +171,9 @@ P12 = row (ringed barQ (ringA ∷ ringB ∷ ringC ∷ [])) (says stored 3)
 abbrev pub P12b : Row
 P12b = row (ringed barQ (ringA ∷ ringB ∷ ringC ∷ ringD ∷ [])) (says stored 3)
 
+-- on the edge of two bins the most of both: outer 5 by 02 (Req 05), where 01 had 4, that of the second alone
 abbrev pub P13 : Row
-P13 = row (seen barQ (noseWith n0 ∷ []) n3) (says (n0 ∷ n4 ∷ []) 1)
+P13 = row (seen barQ (noseWith n0 ∷ []) n3) (says (n0 ∷ n5 ∷ []) 1)
 
 abbrev pub P13b : Row
 P13b = row (seen barQ (noseWith n0 ∷ []) n9) (says (n0 ∷ n5 ∷ []) 1)
