@@ -20,4 +20,5 @@ fn main() {
         return;
     }
     println!("cargo::rustc-link-arg={}", archive.display());
+    println!("cargo::rustc-env=TURNING_ARCHIVE={}", archive.display());
 }

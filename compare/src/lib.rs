@@ -19,5 +19,6 @@ pub mod record;
 pub mod run;
 pub mod sequence;
 pub mod shrink;
+pub mod stack;
 pub mod trap;
 pub mod whole;

@@ -15,15 +15,20 @@ macro_rules! spec_call {
 #[allow(clippy::too_many_arguments)]
 pub mod c {
     macro_rules! declare {
-        ($($name:ident($($type:ty),*);)*) => {
+        ($($name:ident($($parameter:ident: $type:ty),*);)*) => {
             unsafe extern "C" {
-                $(pub fn $name($(_: $type),*) -> u32;)*
+                $(pub fn $name($($parameter: $type),*) -> u32;)*
             }
         };
     }
     macro_rules! declare_with_spec {
-        ($($name:ident($($type:ty),*);)*) => {
-            declare! { $($name(f64, f64, f64, f64, f64, usize, $($type),*);)* }
+        ($($name:ident($($parameter:ident: $type:ty),*);)*) => {
+            declare! {
+                $($name(
+                    z_min: f64, z_max: f64, outer: f64, bore: f64, cell: f64, max_cells: usize,
+                    $($parameter: $type),*
+                );)*
+            }
         };
     }
     type In = *const f64;
@@ -32,29 +37,67 @@ pub mod c {
     type Size = *mut usize;
 
     declare! {
-        turning_root(f64, Out);
-        turning_length(f64, f64, Out);
-        turning_envelope_order(In, usize, *mut i32);
-        turning_within(In, usize, f64, f64, Size, Size);
-        turning_radius_at(In, usize, f64, *mut u32, Out);
-        turning_radius_range(In, usize, f64, f64, *mut u32, Out, Out);
+        turning_root(x: f64, root: Out);
+        turning_length(x: f64, y: f64, length: Out);
+        turning_envelope_order(points: In, points_len: usize, order: *mut i32);
+        turning_within(points: In, points_len: usize, lo: f64, hi: f64, first: Size, count: Size);
+        turning_radius_at(points: In, points_len: usize, u: f64, found: *mut u32, radius: Out);
+        turning_radius_range(
+            points: In, points_len: usize, lo: f64, hi: f64, found: *mut u32, lowest: Out, highest: Out
+        );
     }
     declare_with_spec! {
-        turning_validate(Size);
-        turning_bin(usize, Out, Out);
-        turning_new(Out, usize);
-        turning_preview(In, usize, u32, f64, In, usize, Size, usize, Out, usize, Size);
-        turning_preview_polygon(In, usize, u32, f64, In, usize, Size, usize, Out, usize, Size);
-        turning_thread_cut(In, usize, f64, f64, f64, Size, usize, Out, usize, Size);
-        turning_thread_cut_inner(In, usize, f64, f64, f64, Size, usize, Out, usize, Size);
-        turning_drill(In, usize, f64, f64, f64, Size, usize, Out, usize, Size);
-        turning_apply(Out, usize, *mut u64, Sizes, usize, In, usize, usize);
-        turning_changes_to(In, usize, In, usize, Size, usize, Out, usize, Size);
-        turning_remove_ring(Out, usize, Size, *mut u64, f64, f64, f64, f64);
-        turning_apply_move(Out, usize, Out, usize, Size, *mut u64, Sizes, usize, In, usize, usize, In, usize);
-        turning_from_parts(In, usize, In, usize, Out, usize, Size);
-        turning_volume(In, usize, In, usize, usize, Out, Out);
-        turning_envelope_at(In, usize, f64, *mut u32, Out, Out);
+        turning_validate(n: Size);
+        turning_bin(i: usize, za: Out, zb: Out);
+        turning_new(cells: Out, cells_len: usize);
+        turning_preview(
+            cells: In, cells_len: usize, side: u32, rn: f64, segments: In, segments_len: usize,
+            indices: Size, indices_len: usize, records: Out, records_len: usize, count: Size
+        );
+        turning_preview_polygon(
+            cells: In, cells_len: usize, side: u32, excess: f64, points: In, points_len: usize,
+            indices: Size, indices_len: usize, records: Out, records_len: usize, count: Size
+        );
+        turning_thread_cut(
+            cells: In, cells_len: usize, z0: f64, z1: f64, radius: f64, indices: Size, indices_len: usize,
+            records: Out, records_len: usize, count: Size
+        );
+        turning_thread_cut_inner(
+            cells: In, cells_len: usize, z0: f64, z1: f64, radius: f64, indices: Size, indices_len: usize,
+            records: Out, records_len: usize, count: Size
+        );
+        turning_drill(
+            cells: In, cells_len: usize, tip_z: f64, radius: f64, cone: f64, indices: Size,
+            indices_len: usize, records: Out, records_len: usize, count: Size
+        );
+        turning_apply(
+            cells: Out, cells_len: usize, generation: *mut u64, indices: Sizes, indices_len: usize,
+            records: In, records_len: usize, changes: usize
+        );
+        turning_changes_to(
+            cells: In, cells_len: usize, after: In, after_len: usize, indices: Size, indices_len: usize,
+            records: Out, records_len: usize, count: Size
+        );
+        turning_remove_ring(
+            rings: Out, rings_len: usize, rings_count: Size, generation: *mut u64, z0: f64, z1: f64,
+            r0: f64, r1: f64
+        );
+        turning_apply_move(
+            cells: Out, cells_len: usize, rings: Out, rings_len: usize, rings_count: Size,
+            generation: *mut u64, indices: Sizes, indices_len: usize, records: In, records_len: usize,
+            changes: usize, removed: In, removed_len: usize
+        );
+        turning_from_parts(
+            cells: In, cells_len: usize, given: In, given_len: usize, rings: Out, rings_len: usize,
+            rings_count: Size
+        );
+        turning_volume(
+            cells: In, cells_len: usize, rings: In, rings_len: usize, rings_count: usize, least: Out,
+            greatest: Out
+        );
+        turning_envelope_at(
+            cells: In, cells_len: usize, z: f64, found: *mut u32, bore_lower: Out, outer_upper: Out
+        );
     }
 }
 

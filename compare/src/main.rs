@@ -1,8 +1,9 @@
 //! compare whole [SECONDS] [SEED] [PROGRAM..]
 //! compare FAMILY|all [COUNT] [SEED] | thousandths [STEP] | far [COUNT] [SEED] | record [COUNT] [SEED] [FAMILY] | bench [WORD] [PICTURE]
+//! compare stack [COUNT] [SEED]
 //! compare jobs [COUNT] [SEED] PROGRAM [WORD..] | job | job_bench PROGRAM [WORD..]
 use compare::generate::{FAMILIES, SEQUENCE};
-use compare::{bench, far, jobs, record, run, whole};
+use compare::{bench, far, jobs, record, run, stack, whole};
 use std::io::{Read, Write};
 use std::process::ExitCode;
 
@@ -22,6 +23,9 @@ fn usage() -> ExitCode {
         "compare record [COUNT] [SEED] [FAMILY|limits]   COUNT lines a family, see record.rs"
     );
     eprintln!("compare bench [WORD] [PICTURE]  times both; only rows with WORD");
+    eprintln!(
+        "compare stack [COUNT] [SEED]    the stack that each call needs, over COUNT calls a family"
+    );
     eprintln!("compare count ROW SIDE          some goes of a row of the bench, for callgrind");
     eprintln!("compare jobs COUNT SEED PROGRAM..   so many jobs through a job program");
     eprintln!("compare job                     the job on standard input, over the Rust");
@@ -89,6 +93,7 @@ fn main() -> ExitCode {
         ("far", _) => 1_000_000,
         ("thousandths", _) => 19,
         ("record", _) => 40,
+        ("stack", _) => 1000,
         _ => return usage(),
     };
     let Ok(count) = number(1, default) else {
@@ -99,6 +104,11 @@ fn main() -> ExitCode {
         "far" => far::far(count, seed),
         "thousandths" => {
             return ExitCode::from((run::thousandths(count.max(1)) > 0) as u8);
+        }
+        "stack" => {
+            for (name, bytes) in stack::most(count, seed) {
+                println!("turning_{name}: {bytes} bytes");
+            }
         }
         "record" => {
             let only = words.get(3);

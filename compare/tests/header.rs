@@ -1,17 +1,200 @@
-//! Every call of include/turning.h is compared and timed.
+//! include/turning.h says what the code of crate `turning` says, and so does src/library.rs: of each call what it returns, and
+//! each parameter's name and type, in order. Every call is compared and timed, and needs no more stack than the header says.
 use compare::bench;
 use compare::generate::{FAMILIES, Rng, family};
-use std::collections::BTreeSet;
+use compare::stack;
+use std::collections::{BTreeMap, BTreeSet};
+
+/// What a call returns, and its parameters in order, each `type name` in C's words.
+type Calls = BTreeMap<String, (String, Vec<String>)>;
+
+fn read(name: &str) -> String {
+    let file = format!("{}/../{name}", env!("CARGO_MANIFEST_DIR"));
+    std::fs::read_to_string(&file).unwrap_or_else(|e| panic!("{file}: {e}"))
+}
+
+fn words(text: &str) -> String {
+    text.split_whitespace().collect::<Vec<_>>().join(" ")
+}
+
+/// The text without what stands between the two marks, at each place.
+fn without(text: &str, open: &str, close: &str) -> String {
+    let mut rest = text;
+    let mut left = String::new();
+    while let Some(at) = rest.find(open) {
+        left.push_str(&rest[..at]);
+        let end = rest[at..]
+            .find(close)
+            .map_or(rest.len(), |e| at + e + close.len());
+        rest = &rest[end..];
+    }
+    left + rest
+}
+
+fn is_word(c: char) -> bool {
+    c.is_alphanumeric() || c == '_'
+}
+
+/// Each name that begins with `turning_` and has a list in parentheses: the word before it, the name, the list, what follows.
+fn lists(text: &str) -> Vec<(&str, &str, &str, &str)> {
+    let mut found = vec![];
+    for (at, _) in text.match_indices("turning_") {
+        if text[..at].ends_with(is_word) {
+            continue;
+        }
+        let name = text[at..].split(|c| !is_word(c)).next().unwrap();
+        let Some(list) = text[at + name.len()..].strip_prefix('(') else {
+            continue;
+        };
+        let end = list.find(')').unwrap();
+        let before = text[..at].trim_end().rsplit(|c: char| !is_word(c)).next();
+        found.push((before.unwrap(), name, &list[..end], &list[end + 1..]));
+    }
+    found
+}
+
+/// `const double *cells` as `const double * cells`, however it is written.
+fn parameter(text: &str) -> String {
+    words(&text.replace('*', " * "))
+}
+
+/// The declarations of the header, its macros written out.
+fn header() -> Calls {
+    let text = without(&read("include/turning.h"), "/*", "*/").replace("\\\n", " ");
+    let (defines, code): (Vec<&str>, Vec<&str>) =
+        text.lines().partition(|l| l.starts_with("#define"));
+    let mut code = code.join("\n");
+    for line in defines {
+        let mut parts = line.splitn(3, ' ').skip(1);
+        let (name, value) = (parts.next().unwrap(), parts.next().unwrap_or_default());
+        code = code.replace(name, value);
+    }
+    let calls = lists(&code).into_iter().map(|(returned, name, list, _)| {
+        let parameters = list.split(',').map(parameter).collect();
+        (name.to_string(), (returned.to_string(), parameters))
+    });
+    calls.collect()
+}
+
+/// A number's type in C's words, by its name in the code.
+fn number(name: &str) -> &str {
+    match name {
+        "f64" => "double",
+        "usize" => "size_t",
+        "u32" => "uint32_t",
+        "u64" => "uint64_t",
+        "i32" => "int32_t",
+        other => panic!("no type of the header is {other}"),
+    }
+}
+
+/// A parameter of the code as C has it: a slice is a pointer and a length.
+fn of_code(text: &str) -> Vec<String> {
+    let (name, kind) = text.split_once(": ").unwrap();
+    let length = format!("size_t {name}_len");
+    if let Some(n) = kind.strip_prefix("&mut [") {
+        return vec![
+            format!("{} * {name}", number(n.trim_end_matches(']'))),
+            length,
+        ];
+    }
+    if let Some(n) = kind.strip_prefix("&[") {
+        return vec![
+            format!("const {} * {name}", number(n.trim_end_matches(']'))),
+            length,
+        ];
+    }
+    match kind.strip_prefix("&mut ") {
+        Some(n) => vec![format!("{} * {name}", number(n))],
+        None => vec![format!("{} {name}", number(kind))],
+    }
+}
+
+/// The exported functions of crate `turning`.
+fn code() -> Calls {
+    let folder = concat!(env!("CARGO_MANIFEST_DIR"), "/../crates/turning/src");
+    let mut calls = Calls::new();
+    for entry in std::fs::read_dir(folder).unwrap() {
+        let name = entry.unwrap().file_name();
+        let text = read(&format!("crates/turning/src/{}", name.to_str().unwrap()));
+        for part in text.split("pub extern \"C\" fn ").skip(1) {
+            let (_, name, list, after) = lists(part)[0];
+            let parameters = list.split(',').map(words).filter(|p| !p.is_empty());
+            let returned = words(after)
+                .strip_prefix("-> ")
+                .unwrap()
+                .split(' ')
+                .next()
+                .unwrap()
+                .to_string();
+            let parameters = parameters.flat_map(|p| of_code(&p)).collect();
+            calls.insert(name.into(), (number(&returned).into(), parameters));
+        }
+    }
+    calls
+}
+
+/// A type of src/library.rs in C's words.
+fn of_library(kind: &str) -> String {
+    match kind {
+        "In" => "const double *".into(),
+        "Out" => "double *".into(),
+        "Sizes" => "const size_t *".into(),
+        "Size" => "size_t *".into(),
+        _ => match kind.strip_prefix("*mut ") {
+            Some(n) => format!("{} *", number(n)),
+            None => number(kind).into(),
+        },
+    }
+}
+
+/// The declarations of src/library.rs.
+fn library() -> Calls {
+    let text = read("compare/src/library.rs");
+    let of = |part: &str| {
+        part.split_once(": ")
+            .map(|(name, kind)| format!("{} {name}", of_library(kind)))
+    };
+    let returned = text.split("-> ").nth(1).unwrap().split(';').next().unwrap();
+    let spec = &text[text.find("z_min: f64").unwrap()..];
+    let spec = spec.split("$(").next().unwrap();
+    let mut calls = Calls::new();
+    for (mark, first) in [
+        ("\n    declare! {", ""),
+        ("\n    declare_with_spec! {", spec),
+    ] {
+        let block = text
+            .split(mark)
+            .nth(1)
+            .unwrap()
+            .split("\n    }")
+            .next()
+            .unwrap();
+        for (_, name, list, _) in lists(block) {
+            let parts = first.split(',').chain(list.split(','));
+            let parameters = parts.filter_map(|p| of(&words(p))).collect();
+            calls.insert(name.into(), (number(returned).into(), parameters));
+        }
+    }
+    calls
+}
 
 /// The calls that the header declares, `turning_` left off.
 fn declared() -> BTreeSet<String> {
-    let header = concat!(env!("CARGO_MANIFEST_DIR"), "/../include/turning.h");
-    let text = std::fs::read_to_string(header).unwrap();
-    let names = text.lines().filter_map(|line| {
-        let rest = line.strip_prefix("uint32_t turning_")?;
-        Some(rest.split('(').next()?.to_string())
-    });
-    names.collect()
+    let names = header().into_keys();
+    names
+        .map(|n| n.strip_prefix("turning_").unwrap().to_string())
+        .collect()
+}
+
+#[test]
+fn the_header_declares_what_the_code_exports() {
+    assert_eq!(header(), code());
+}
+
+#[test]
+fn the_library_is_called_as_the_header_declares() {
+    assert_eq!(library(), header());
 }
 
 #[test]
@@ -28,4 +211,38 @@ fn every_call_is_compared() {
 fn every_call_is_timed() {
     let timed: BTreeSet<String> = bench::names().map(String::from).collect();
     assert_eq!(timed, declared());
+}
+
+/// The KiB of stack that the header says beside each call.
+fn stacks() -> BTreeMap<String, usize> {
+    let text = words(&read("include/turning.h").replace("\n *", " "));
+    let mut said = BTreeMap::new();
+    let mut rest = text.as_str();
+    while let Some((_, after)) = rest.split_once("Stack ") {
+        let (figure, after) = after
+            .split_once(" KiB. */")
+            .expect("a figure in KiB ends a comment");
+        let name = after
+            .split_once("turning_")
+            .unwrap()
+            .1
+            .split('(')
+            .next()
+            .unwrap();
+        said.insert(name.into(), figure.parse().expect("a whole number"));
+        rest = after;
+    }
+    said
+}
+
+#[test]
+fn no_call_needs_more_stack_than_the_header_says() {
+    let said = stacks();
+    assert_eq!(said.keys().cloned().collect::<BTreeSet<_>>(), declared());
+    for (name, bytes) in stack::most(200, 1) {
+        assert!(
+            bytes <= 1024 * said[name],
+            "turning_{name} needs {bytes} bytes of stack"
+        );
+    }
 }
