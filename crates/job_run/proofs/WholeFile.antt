@@ -14,10 +14,10 @@ use Rattle.refusals.specs.declared.Refusal.the-variants.{LineMalformed}
 use Rattle.floats.specs.Pick.{pick}
 use Rattle.text.proofs.Chosen.{yes, no}
 use Rattle.job_run.specs.declared.Run.{Run}
-use Rattle.job_run.specs.File.{ended, joined}
+use Rattle.lines.specs.File.{ended, joined}
 use Rattle.job_run.specs.Run.{State, state, refusedWith, refusing, onLine, onLong, onEnd, stopped, Hold, hold, byteOn, finishOf, jobOf, cutOf}
-use Rattle.job_run.proofs.Hands.{Hand, hand, takes, inTurn, byteOn as handOn}
-use Rattle.job_run.proofs.AnyCut.{any-cut}
+use Rattle.lines.proofs.Hands.{Hand, hand, takes, inTurn, byteOn as handOn}
+use Rattle.lines.proofs.AnyCut.{any-cut}
 
 long-stops : (st : State) → stopped (onLong st) ≡ true
 unfolding refusedWith

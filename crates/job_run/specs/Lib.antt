@@ -1,3 +1,2 @@
 pub mod Job
-pub mod File
 pub mod Run

@@ -19,7 +19,7 @@ use Rattle.job_run.specs.Job.{Stand, lineLimit, fullRoom, jobLine}
 use Rattle.job_answer.specs.Answer.{answerOf}
 use Rattle.job_run.specs.declared.Run.{Run}
 use Rattle.job_run.specs.declared.Taken.{Taken}
-use Rattle.job_run.specs.File.{overPieces, piecesOf}
+use Rattle.lines.specs.File.{overPieces, piecesOf}
 
 -- a run with the lent numbers of its cells and its rings
 pub record State : Type 0 where

@@ -10,7 +10,7 @@ use lib.Seq.{sets-eq, take-all}
 use Rattle.text.specs.Wrote.{Wrote, WroteLine}
 use Rattle.streams.specs.declared.Out.{Out}
 use Rattle.streams.specs.Moves.{Gathers, Puts}
-use Rattle.job_run.specs.File.{joined}
+use Rattle.lines.specs.File.{joined}
 use Rattle.job_run.specs.Run.{mostLines}
 use Rattle.job_streams.specs.Write.{PutsLine, AllPut}
 

@@ -13,7 +13,7 @@ use Rattle.text.proofs.Chosen.{yes, no}
 use Rattle.streams.specs.declared.Got.{Got}
 use Rattle.streams.specs.declared.Got.the-variants as got
 use Rattle.job_run.specs.declared.Run.{Run}
-use Rattle.job_run.specs.File.{joined}
+use Rattle.lines.specs.File.{joined}
 use Rattle.job_run.specs.Run.{State, state, freshRun, stopped, Hold, hold, byteOn, asFound, asLeft, finishOf, jobOf}
 use borrow.Author.Tests.{eqb-false}
 use Rattle.job_run.proofs.Lines.{finish-stopped}

@@ -6,7 +6,7 @@ use Prim.Native.Nat.{ℕ, _≤_}
 use lib.ListN.{length, take, getD}
 use Rattle.streams.specs.declared.Out.{Out}
 use Rattle.streams.specs.Moves.{Gathers, Puts}
-use Rattle.job_run.specs.File.{joined}
+use Rattle.lines.specs.File.{joined}
 use Rattle.job_run.specs.Run.{mostLines}
 
 -- line k of an answer put behind what is gathered; past its last line, nothing

@@ -3,10 +3,10 @@ use Prim.Native.Nat.{ℕ}
 use mathlib.Core.Path.{_≡_, sym, ap, _∙_}
 use mathlib.Core.Bool.{Bool, true}
 use mathlib.Core.List.{List, [], _∷_}
-use Rattle.job_run.specs.File.{piecesOf, ended, overPieces, joined}
-use Rattle.job_run.proofs.Hands.{Hand, hand, takes, inTurn}
-use Rattle.job_run.proofs.Parts.{parts, nothing}
-use Rattle.job_run.proofs.OneFile.{whole-file}
+use Rattle.lines.specs.File.{piecesOf, ended, overPieces, joined}
+use Rattle.lines.proofs.Hands.{Hand, hand, takes, inTurn}
+use Rattle.lines.proofs.Parts.{parts, nothing}
+use Rattle.lines.proofs.OneFile.{whole-file}
 
 module _ {A : Type 0} (stopped : A → Bool) (onLine : A → List ℕ → A) (onLong : A → A) (onEnd : A → A) where
   -- parts in turn are the whole

@@ -1,0 +1,4 @@
+pub mod Hands
+pub mod Parts
+pub mod OneFile
+pub mod AnyCut
