@@ -2,15 +2,14 @@
 -- `Exactly rule asks` says it of a rule: `asks` is the list of its tests in 01's order, each with its number (specs/Refused). The rule refuses with k exactly when the first
 -- of them that does not hold has the number k, and answers exactly when all of them hold. Each call's promise says that it answers by its rule. Assumes nothing.
 --
--- Below each law names the calls that it is of. Calls over lent records have the rule of the flat call, with the number of records as the room: `change_slices::apply` (`commit-exactly`),
--- `change_slices::propose` (`preview-tool-exactly`). What the methods of an `Envelope` made by `new` answer is the rule of the flat call too (proofs/Profile): `envelope::held::Envelope::order`,
+-- Below each law names the calls that it is of. `change_slices::propose` has the rule of the flat call, with the number of records as the room (`preview-tool-exactly`). What the methods of an `Envelope` made by `new` answer is the rule of the flat call too (proofs/Profile): `envelope::held::Envelope::order`,
 -- `envelope::held::Envelope::radius_at`, `envelope::held::Envelope::radius_range`.
-use mathlib.Core.Path.{_≡_, refl, sym, ap, ap₂, _∙_}
+use mathlib.Core.Path.{_≡_, refl, sym, ap, ap₂, _∙_, subst}
 use mathlib.Core.Logic.{inl, inr}
 use mathlib.Core.Bool.{Bool, true, false, not, _&&_, _||_, false≢true}
 use mathlib.Core.List.{List, [], _∷_, _++_}
 use mathlib.Core.Option.{Option, none, some}
-use Prim.Native.Nat.{ℕ, zero, suc, _*_, _<_}
+use Prim.Native.Nat.{ℕ, zero, suc, _*_, _<_, min}
 use native.Mathlib.Nat.{mul-pos, zero-lt-suc}
 use native.Mathlib.Omega.{arith}
 use borrow.Author.Tests.{le-leb}
@@ -19,7 +18,7 @@ use lib.ListN.{length}
 use lib.Ieee.{Float, nan, inf, fin, up, down, level, le, lt, eq, ofBits}
 use lib.Ieee.Bits.{is-true}
 use lib.Ieee.Fits.{up-pos}
-use Rattle.refusals.specs.Paper.{Paper, answers, demand, onward, demand-true}
+use Rattle.refusals.specs.Paper.{Paper, answers, refuses, demand, onward, demand-true}
 use Rattle.refusals.specs.Limits.{cellLimit, lastGeneration}
 use Rattle.floats.specs.Pick.{pick}
 use Rattle.floats.specs.Numbers.{_+₆₄_, _*₆₄_, zero64, usable}
@@ -38,7 +37,7 @@ use Rattle.stock.proofs.Count.{and-both}
 use Rattle.reach.specs.Reach.{Act, actCell}
 use Rattle.nose.specs.Nose.{segmentsGood, noseAct}
 use Rattle.polygon.specs.Polygon.{polygonGood, polygonAct}
-use Rattle.changes.specs.Change.{changesTo, changesFrom, settled}
+use Rattle.changes.specs.Change.{changesTo, changesFrom, settled, writtenOf}
 use Rattle.changes.specs.Change as change
 use Rattle.cuts.specs.declared.Cut.{Cut}
 use Rattle.cuts.specs.Cut.{isArc, cleanCut, cutGood, cutAct}
@@ -46,17 +45,25 @@ use Rattle.cuts.specs.Preview.{previewOf, previewNose, previewPolygon, previewC
 use Rattle.cuts.specs.declared.Tool.{Tool}
 use Rattle.cuts.specs.declared.Tool.the-variants.{Single, Nose, Polygon}
 use Rattle.cuts.specs.Tool.{previewTool}
-use Rattle.changes.specs.Commit.{appliesTo, rises, passes, eachPasses, passAll, commitIn, commitOf, applyOf}
+use Rattle.changes.specs.Commit.{appliesTo, rises, passes, eachPasses, passAll, Committed, commitIn, commitHeld, commitOf, applyOf, generationOf}
+use Rattle.changes.specs.Decide.{beginOf, stepsOf, concludeOf}
+use Rattle.changes.proofs.Decided.{conclude-is}
 use Rattle.changes.specs.Difference.{otherCell, differenceOf}
 use Rattle.rings.specs.declared.Ring.{Ring}
 use Rattle.rings.specs.Ring.{filled, clip, left}
 use Rattle.rings.specs.Store.{extentOf, ringsOf, roomOf, countFits, storeFits, finiteRing, ringsGood}
 use Rattle.rings.specs.Remove.{roomFor, added, addedAll, raised, removeAllIn, removeRings, removeIn, removeRing}
 use Rattle.moves.specs.Move.{generationAfter, moveIn, moveOf, partsOf}
+use Rattle.change_slices.specs.Move.{moveListOf}
 use Rattle.queries.specs.Envelope.{envelopeAt}
 use Rattle.queries.specs.Volume.{volumeOf}
 use Rattle.envelope.specs.Envelope.{pointsGood, orderedOf, withinOf, withinRefusalOf, radiusAtOf, radiusRangeOf}
-use Rattle.demands.specs.Refused.{ask, Exactly, rootAsks, lengthAsks, countGood, specAsks, binAsks, newAsks, stockAsks, roomGood, previewCutAsks, previewAsks, previewNoseAsks, previewPolygonAsks, previewToolAsks, eachAsks, passAsks, commitAsks, applyAsks, differenceAsks, removeAsks, roomForAll, allStored, removeRingsAsks, partsAsks, moveAsks, volumeAsks, pointsAsks, radiusAsks, withinAsks}
+use Rattle.job_words.specs.declared.Line.{Line}
+use Rattle.job_words.specs.declared.Line.the-variants.{Bar, Cutting, Removing, Arc, Bad}
+use Rattle.job_words.specs.Kind.{lineOf}
+use Rattle.job_run.specs.declared.line.Job.{Job}
+use Rattle.job_run.specs.Job.{lineLimit, cellsOfJob, barLine, madeCut, cutLine, removingLine, firstLine, laterLine, jobLine}
+use Rattle.demands.specs.Refused.{Asked, ask, Exactly, rootAsks, lengthAsks, countGood, specAsks, binAsks, newAsks, stockAsks, roomGood, previewCutAsks, previewAsks, previewNoseAsks, previewPolygonAsks, previewToolAsks, eachAsks, changeAsks, passAsks, commitInAsks, commitAsks, applyAsks, differenceAsks, removeAsks, roomForAll, allStored, removeRingsAsks, partsAsks, moveInAsks, moveListAsks, moveAsks, volumeAsks, pointsAsks, radiusAsks, withinAsks, barAsks, cutLineAsks, firstLineAsks, laterLineAsks, lineAsks}
 use Rattle.demands.proofs.Asking.{refusalOf, Asks, exactly, exactly-as, asks-none, asks-more, asks-of, asks-on, asks-then, asks-as, asks-holds, asks-fails, onward-demand}
 
 -- ---- the root and the length
@@ -155,15 +162,18 @@ cells-exactly spec cs = exactly (stock-asks spec cs)
 settled-asks : (spec : TurnStockSpec) (cs : List Float) (n : ℕ) → stockOf spec cs ≡ answers n → (f : ℕ → TurnCell → TurnCell) (room : ℕ) → Asks (settled room (changesTo f cs n)) (ask (roomGood spec cs f room) 6 ∷ [])
 settled-asks spec cs n e f room = asks-of (stockOf spec cs) n e (λ n. leb (length (changesTo f cs n)) room) 6 (asks-none _)
 
--- `preview_cut`, and `thread_cut`, `thread_cut_inner`, `drill`, which are previews of one kind of cut: 1, 2, 3, 13, 5, 6
-pub preview-cut-exactly : (spec : TurnStockSpec) (cs : List Float) (cut : Cut) (room : ℕ) → Exactly (previewCut spec cs cut room) (previewCutAsks spec cs cut room)
+pub preview-cut-asks : (spec : TurnStockSpec) (cs : List Float) (cut : Cut) (room : ℕ) → Asks (previewCut spec cs cut room) (previewCutAsks spec cs cut room)
 unfolding previewCut
-preview-cut-exactly spec cs cut room =
+preview-cut-asks spec cs cut room =
     let u = cleanCut cut in
-    exactly (asks-on (stockOf spec cs) _ (stock-asks spec cs) (λ n e.
+    asks-on (stockOf spec cs) _ (stock-asks spec cs) (λ n e.
     asks-more (not (isArc u)) 13 (λ _.
     asks-more (cutGood u) 5 (λ _.
-    settled-asks spec cs n e (actCell (cutAct (cleanSpec spec) u)) room))))
+    settled-asks spec cs n e (actCell (cutAct (cleanSpec spec) u)) room)))
+
+-- `preview_cut`, and `thread_cut`, `thread_cut_inner`, `drill`, which are previews of one kind of cut: 1, 2, 3, 13, 5, 6
+pub preview-cut-exactly : (spec : TurnStockSpec) (cs : List Float) (cut : Cut) (room : ℕ) → Exactly (previewCut spec cs cut room) (previewCutAsks spec cs cut room)
+preview-cut-exactly spec cs cut room = exactly (preview-cut-asks spec cs cut room)
 
 -- a cut that is in its domain or not: 1, 2, 3, 5, 6
 pub preview-exactly : (spec : TurnStockSpec) (cs : List Float) (good : Bool) (a : Act) (room : ℕ) → Exactly (previewOf spec cs good a room) (previewAsks spec cs good a room)
@@ -208,18 +218,40 @@ pass-asks : (s : TurnStockSpec) (p : Paper ℕ) (n : ℕ) → p ≡ answers n �
 unfolding passAll
 pass-asks s p n e cs l = asks-more (rises l) 7 (λ _. each-asks s p n e cs l)
 
-commit-asks : (s : TurnStockSpec) (p : Paper ℕ) (n : ℕ) → p ≡ answers n → (cs : List Float) (gen : ℕ) (l : List TurnChange) → Asks (commitIn s n cs gen l) (passAsks s p cs l ++ (ask (ltb gen lastGeneration) 12 ∷ []))
+commit-asks : (s : TurnStockSpec) (p : Paper ℕ) (n : ℕ) → p ≡ answers n → (cs : List Float) (gen : ℕ) (l : List TurnChange) → Asks (commitIn s n cs gen l) (commitInAsks s p cs gen l)
 unfolding commitIn
 commit-asks s p n e cs gen l = asks-on (passAll s n cs l) _ (pass-asks s p n e cs l) (λ _ _. asks-more (ltb gen lastGeneration) 12 (λ _. asks-none _))
+
+-- one change, against n cells: 8, then 9
+pub change-exactly : (s : TurnStockSpec) (n : ℕ) (cs : List Float) (c : TurnChange) → Exactly (passes s n cs c) (changeAsks s n cs c)
+unfolding passes
+change-exactly s n cs c = exactly (asks-more (cellFits s (c .after)) 8 (λ _. asks-more (appliesTo n cs c) 9 (λ _. asks-none tt)))
 
 -- `first_refusal`, of changes on n cells: 7, 8 or 9
 pub pass-exactly : (s : TurnStockSpec) (n : ℕ) (cs : List Float) (l : List TurnChange) → Exactly (passAll s n cs l) (passAsks s (answers n) cs l)
 pass-exactly s n cs l = exactly (pass-asks s (answers n) n refl cs l)
 
--- a commit of a list of changes: 1, 2, 3, 7, 8 or 9, 12
-pub commit-exactly : (spec : TurnStockSpec) (cs : List Float) (gen : ℕ) (l : List TurnChange) → Exactly (commitOf spec cs gen l) (commitAsks spec cs gen l)
+-- `commit_unasked`, of changes on n cells that are not asked again: 7, 8 or 9, 12
+pub commit-unasked-exactly : (s : TurnStockSpec) (n : ℕ) (cs : List Float) (gen : ℕ) (is : List ℕ) (xs : List Float) (k : ℕ)
+    → Exactly (commitHeld s n cs gen is xs k) (commitInAsks s (answers n) cs gen (changesFrom is xs (min k (change.roomOf (length is) (length xs)))))
+commit-unasked-exactly s n cs gen is xs k = exactly (commit-asks s (answers n) n refl cs gen _)
+
+whole-asks : (spec : TurnStockSpec) (cs : List Float) (gen : ℕ) (l : List TurnChange) → Asks (commitOf spec cs gen l) (commitAsks spec cs gen l)
 unfolding commitOf
-commit-exactly spec cs gen l = exactly (asks-on (stockOf spec cs) _ (stock-asks spec cs) (λ n e. commit-asks (cleanSpec spec) (stockOf spec cs) n e cs gen l))
+whole-asks spec cs gen l = asks-on (stockOf spec cs) _ (stock-asks spec cs) (λ n e. commit-asks (cleanSpec spec) (stockOf spec cs) n e cs gen l)
+
+-- `change_slices::apply`, a commit of a list of changes: 1, 2, 3, 7, 8 or 9, 12
+pub commit-exactly : (spec : TurnStockSpec) (cs : List Float) (gen : ℕ) (l : List TurnChange) → Exactly (commitOf spec cs gen l) (commitAsks spec cs gen l)
+commit-exactly spec cs gen l = exactly (whole-asks spec cs gen l)
+
+-- `conclude`, after `begin` and a `step` for each change: the same
+pub conclude-exactly : (spec : TurnStockSpec) (cs : List Float) (gen : ℕ) (l : List TurnChange) → Exactly (concludeOf (stepsOf cs (beginOf spec cs) l) gen) (commitAsks spec cs gen l)
+unfolding refusalOf
+conclude-exactly spec cs gen l = exactly-as (concludeOf (stepsOf cs (beginOf spec cs) l) gen) (ap refusalOf (conclude-is spec cs gen l) ∙ same (commitOf spec cs gen l)) (commit-exactly spec cs gen l)
+  where
+    same : (p : Paper Committed) → refusalOf (generationOf p) ≡ refusalOf p
+    same (answers k) = refl
+    same (refuses n) = refl
 
 -- `apply`, a commit of k changes of the lent lists: the same, with 6 directly after 3
 pub apply-exactly : (spec : TurnStockSpec) (cs : List Float) (gen : ℕ) (is : List ℕ) (xs : List Float) (k : ℕ) → Exactly (applyOf spec cs gen is xs k) (applyAsks spec cs gen is xs k)
@@ -241,15 +273,18 @@ raised-asks : (room : ℕ) (ks : List Ring) (g : ℕ) (c : Ring) → Asks (raise
 unfolding raised added
 raised-asks room ks g c = asks-more (ltb g lastGeneration) 12 (λ _. asks-then (added room ks c) _ (asks-more (roomFor room ks c) 11 (λ _. asks-none _)) (λ _ _. asks-none _))
 
--- `remove_ring`: 1, 2, 4, 10, 12, 11; a ring that is empty after clipping skips 12 and 11
-pub remove-ring-exactly : (spec : TurnStockSpec) (xs : List Float) (n g : ℕ) (q : Ring) → Exactly (removeRing spec xs n g q) (removeAsks spec xs n g q)
+remove-ring-asks : (spec : TurnStockSpec) (xs : List Float) (n g : ℕ) (q : Ring) → Asks (removeRing spec xs n g q) (removeAsks spec xs n g q)
 unfolding removeRing removeIn
-remove-ring-exactly spec xs n g q =
+remove-ring-asks spec xs n g q =
     let e = extentOf (cleanSpec spec) in
-    exactly (asks-on (cellsOf spec) _ (spec-asks spec) (λ _ _.
+    asks-on (cellsOf spec) _ (spec-asks spec) (λ _ _.
     asks-more (countFits e xs n) 4 (λ _.
     asks-more (finiteRing q) 10 (λ _.
-    skips (filled (clip e q)) (raised-asks (roomOf (length xs)) (ringsOf n xs) g (clip e q)) _))))
+    skips (filled (clip e q)) (raised-asks (roomOf (length xs)) (ringsOf n xs) g (clip e q)) _)))
+
+-- `remove_ring`: 1, 2, 4, 10, 12, 11; a ring that is empty after clipping skips 12 and 11
+pub remove-ring-exactly : (spec : TurnStockSpec) (xs : List Float) (n g : ℕ) (q : Ring) → Exactly (removeRing spec xs n g q) (removeAsks spec xs n g q)
+remove-ring-exactly spec xs n g q = exactly (remove-ring-asks spec xs n g q)
 
 -- two tests of one number, one behind the other, are the test of both
 both : {A : Type 0} {p : Paper A} (s t : Bool) (n : ℕ) → Asks p (ask t n ∷ []) → Asks (demand s n p) (ask (s && t) n ∷ [])
@@ -294,17 +329,27 @@ fits-room : (e : Ring) (xs : List Float) (n : ℕ) → countFits e xs n ≡ true
 unfolding countFits
 fits-room e xs n h = and-both (leb n (roomOf (length xs))) (storeFits e (ringsOf n xs)) h .0
 
--- `apply_move`: 1, 2, 3, 6, 4, 10, 7, 8 or 9, 12, 11
+move-asks : (spec : TurnStockSpec) (n : ℕ) (cs xs : List Float) (count g : ℕ) (l : List TurnChange) (removed : List Float) → stockOf spec cs ≡ answers n → Asks (moveIn spec n cs xs count g l removed) (moveInAsks spec cs xs count g l removed)
+unfolding moveIn
+move-asks spec n cs xs count g l removed e =
+    asks-more (countFits (extentOf (cleanSpec spec)) xs count) 4 (λ f.
+    asks-more (ringsGood removed) 10 (λ _.
+    asks-on (passAll (cleanSpec spec) n cs l) _ (pass-asks (cleanSpec spec) (stockOf spec cs) n e cs l) (λ _ _.
+    asks-more (leb (generationAfter spec g removed) lastGeneration) 12 (λ _.
+    asks-then (removeRings spec xs count removed) _ (rings-room spec xs count removed (fits-room (extentOf (cleanSpec spec)) xs count f)) (λ _ _. asks-none _)))))
+
+-- `change_slices::apply_move`, of a list of changes: 1, 2, 3, 4, 10, 7, 8 or 9, 12, 11
+pub move-list-exactly : (spec : TurnStockSpec) (cs xs : List Float) (count g : ℕ) (l : List TurnChange) (removed : List Float) → Exactly (moveListOf spec cs xs count g l removed) (moveListAsks spec cs xs count g l removed)
+unfolding moveListOf
+move-list-exactly spec cs xs count g l removed = exactly (asks-on (stockOf spec cs) _ (stock-asks spec cs) (λ n e. move-asks spec n cs xs count g l removed e))
+
+-- `apply_move`, of k changes of the lent lists: the same, with 6 directly after 3
 pub move-exactly : (spec : TurnStockSpec) (cs xs : List Float) (count g : ℕ) (is : List ℕ) (ys : List Float) (k : ℕ) (removed : List Float) → Exactly (moveOf spec cs xs count g is ys k removed) (moveAsks spec cs xs count g is ys k removed)
-unfolding moveOf moveIn
+unfolding moveOf
 move-exactly spec cs xs count g is ys k removed =
     exactly (asks-on (stockOf spec cs) _ (stock-asks spec cs) (λ n e.
     asks-more (leb k (change.roomOf (length is) (length ys))) 6 (λ _.
-    asks-more (countFits (extentOf (cleanSpec spec)) xs count) 4 (λ f.
-    asks-more (ringsGood removed) 10 (λ _.
-    asks-on (passAll (cleanSpec spec) n cs (changesFrom is ys k)) _ (pass-asks (cleanSpec spec) (stockOf spec cs) n e cs (changesFrom is ys k)) (λ _ _.
-    asks-more (leb (generationAfter spec g removed) lastGeneration) 12 (λ _.
-    asks-then (removeRings spec xs count removed) _ (rings-room spec xs count removed (fits-room (extentOf (cleanSpec spec)) xs count f)) (λ _ _. asks-none _))))))))
+    move-asks spec n cs xs count g (changesFrom is ys k) removed e)))
 
 -- ---- volume and `envelope_at`
 
@@ -347,3 +392,51 @@ radius-at-exactly ps u = exactly (asks-more (pointsGood ps && usable u) 14 (λ _
 pub radius-range-exactly : (ps : List Float) (lo hi : Float) → Exactly (radiusRangeOf ps lo hi) (withinAsks ps lo hi)
 unfolding radiusRangeOf
 radius-range-exactly ps lo hi = exactly (asks-more (pointsGood ps && (usable lo && usable hi)) 14 (λ _. asks-none _))
+
+-- ---- a line of a job
+
+bar-asks : (spec : TurnStockSpec) (cs rs : List Float) → Asks (barLine spec cs rs) (barAsks spec cs)
+unfolding barLine
+bar-asks spec cs rs = asks-on (cellsOf spec) _ (spec-asks spec) (λ n e. asks-of (cellsOf spec) n e (λ n. leb (4 * n) (length cs)) 3 (asks-none _))
+
+-- a cut: the changes that are committed are those that the preview answers
+cut-asks : (j : Job) (cut : Cut) (room : ℕ) (cs rs : List Float) → Asks (cutLine j cut room cs rs) (cutLineAsks j cut room cs)
+unfolding cutLine madeCut
+cut-asks j cut room cs rs =
+    let own = cellsOfJob j cs in
+    asks-then (madeCut (j .spec) own (j .generation) cut room) _
+    (asks-on (previewCut (j .spec) own cut room) _ (preview-cut-asks (j .spec) own cut room) (λ l e.
+    subst (λ (p : Paper (List TurnChange)). Asks (commitOf (j .spec) own (j .generation) l) (commitAsks (j .spec) own (j .generation) (writtenOf p))) (sym e) (whole-asks (j .spec) own (j .generation) l)))
+    (λ _ _. asks-none _)
+
+ring-asks : (j : Job) (q : Ring) (cs rs : List Float) → Asks (removingLine j q cs rs) (removeAsks (j .spec) rs (j .rings) (j .generation) q)
+unfolding removingLine
+ring-asks j q cs rs = asks-then (removeRing (j .spec) rs (j .rings) (j .generation) q) _ (remove-ring-asks (j .spec) rs (j .rings) (j .generation) q) (λ _ _. asks-none _)
+
+first-line-asks : (l : Line) (cs rs : List Float) → Asks (firstLine l cs rs) (firstLineAsks l cs)
+unfolding firstLine firstLineAsks
+first-line-asks (Bar spec) cs rs = bar-asks spec cs rs
+first-line-asks (Cutting cut) cs rs = asks-fails 15 refl
+first-line-asks (Removing q) cs rs = asks-fails 15 refl
+first-line-asks Arc cs rs = asks-fails 15 refl
+first-line-asks Bad cs rs = asks-fails 15 refl
+
+later-line-asks : (j : Job) (l : Line) (room : ℕ) (cs rs : List Float) → Asks (laterLine j l room cs rs) (laterLineAsks j l room cs rs)
+unfolding laterLine laterLineAsks
+later-line-asks j (Bar spec) room cs rs = asks-fails 15 refl
+later-line-asks j (Cutting cut) room cs rs = cut-asks j cut room cs rs
+later-line-asks j (Removing q) room cs rs = ring-asks j q cs rs
+later-line-asks j Arc room cs rs = asks-fails 13 refl
+later-line-asks j Bad room cs rs = asks-fails 15 refl
+
+-- a rule that is one of two, by a test
+either : {A : Type 0} {p q : Paper A} {l m : List Asked} (t : Bool) → Asks p l → Asks q m → Asks (pick t p q) (pick t l m)
+unfolding pick
+either true h k = h
+either false h k = k
+
+-- `carry_out`, of a line without its newline: 15 where it is too long; before the bar 15 for anything else, and a bar's 1, 2, 3; later 15 for a line that cannot be read and for a second bar,
+-- 13 for an arc, and what its call asks for a cut or a ring
+pub line-exactly : (j : Job) (s : List ℕ) (room : ℕ) (cs rs : List Float) → Exactly (jobLine j s room cs rs) (lineAsks j s room cs rs)
+unfolding jobLine
+line-exactly j s room cs rs = exactly (asks-more (ltb (length s) lineLimit) 15 (λ _. either (eqb (j .cells) 0) (first-line-asks (lineOf s) cs rs) (later-line-asks j (lineOf s) room cs rs)))

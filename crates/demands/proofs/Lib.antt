@@ -6,6 +6,7 @@ pub mod Example
 pub mod LeastChord
 pub mod Asking
 pub mod First
+pub mod JobLines
 pub mod LeftAlone
 pub mod Rings
 pub mod Written

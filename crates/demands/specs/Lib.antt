@@ -3,3 +3,4 @@ pub mod Tool
 pub mod Run
 pub mod Refused
 pub mod Wrote
+pub mod Offending

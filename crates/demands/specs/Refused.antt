@@ -11,6 +11,7 @@ use lib.Ieee.Scale.{finite}
 use Rattle.refusals.specs.Paper.{Paper, answers, refuses}
 use Rattle.refusals.specs.Limits.{cellLimit, lastGeneration}
 use Rattle.floats.specs.Each.{Each}
+use Rattle.floats.specs.Pick.{pick}
 use Rattle.floats.specs.Numbers.{_+₆₄_, _*₆₄_, zero64, usable}
 use Rattle.numbers.specs.Whole.{wholeUp}
 use Rattle.stock.specs.declared.TurnStockSpec.{TurnStockSpec}
@@ -22,12 +23,13 @@ use Rattle.stock.specs.Cell.{cellFits, cellsFit, stockOf}
 use Rattle.reach.specs.Reach.{Act, actCell}
 use Rattle.nose.specs.Nose.{segmentsGood, noseAct}
 use Rattle.polygon.specs.Polygon.{polygonGood, polygonAct}
-use Rattle.changes.specs.Change.{changesTo, changesFrom}
+use Rattle.changes.specs.Change.{changesTo, changesFrom, writtenOf}
 use Rattle.changes.specs.Change as change
 use Rattle.cuts.specs.declared.Cut.{Cut}
 use Rattle.cuts.specs.declared.Tool.{Tool}
 use Rattle.cuts.specs.declared.Tool.the-variants.{Single, Nose, Polygon}
 use Rattle.cuts.specs.Cut.{isArc, cleanCut, cutGood, cutAct}
+use Rattle.cuts.specs.Preview.{previewCut}
 use Rattle.changes.specs.Commit.{appliesTo, rises}
 use Rattle.changes.specs.Difference.{otherCell}
 use Rattle.rings.specs.declared.Ring.{Ring}
@@ -36,6 +38,11 @@ use Rattle.rings.specs.Store.{extentOf, ringsOf, roomOf, countFits, finiteRing,
 use Rattle.rings.specs.Remove.{roomFor}
 use Rattle.moves.specs.Move.{generationAfter}
 use Rattle.envelope.specs.Envelope.{pointsGood}
+use Rattle.job_words.specs.declared.Line.{Line}
+use Rattle.job_words.specs.declared.Line.the-variants.{Bar, Cutting, Removing, Arc, Bad}
+use Rattle.job_words.specs.Kind.{lineOf}
+use Rattle.job_run.specs.declared.line.Job.{Job}
+use Rattle.job_run.specs.Job.{lineLimit, cellsOfJob}
 
 -- ---- what "exactly when, in this order" means
 
@@ -139,18 +146,26 @@ unfoldable pub eachAsks : TurnStockSpec → Paper ℕ → List Float → List Tu
 eachAsks s p cs [] = []
 eachAsks s p cs (c ∷ l) = ask (cellFits s (c .after)) 8 ∷ ask (ofAnswer p (λ n. appliesTo n cs c)) 9 ∷ eachAsks s p cs l
 
+-- 8, then 9: one change, against n cells
+abbrev pub changeAsks : TurnStockSpec → ℕ → List Float → TurnChange → List Asked
+changeAsks s n cs c = ask (cellFits s (c .after)) 8 ∷ ask (appliesTo n cs c) 9 ∷ []
+
 -- 7 over the whole list, then change by change
 abbrev pub passAsks : TurnStockSpec → Paper ℕ → List Float → List TurnChange → List Asked
 passAsks s p cs l = ask (rises l) 7 ∷ eachAsks s p cs l
 
+-- 7, 8 or 9, 12; p is how many cells there are
+abbrev pub commitInAsks : TurnStockSpec → Paper ℕ → List Float → ℕ → List TurnChange → List Asked
+commitInAsks s p cs gen l = passAsks s p cs l ++ (ask (ltb gen lastGeneration) 12 ∷ [])
+
 -- 1, 2, 3, 7, 8 or 9, 12
 abbrev pub commitAsks : TurnStockSpec → List Float → ℕ → List TurnChange → List Asked
-commitAsks spec cs gen l = stockAsks spec cs ++ (passAsks (cleanSpec spec) (stockOf spec cs) cs l ++ (ask (ltb gen lastGeneration) 12 ∷ []))
+commitAsks spec cs gen l = stockAsks spec cs ++ commitInAsks (cleanSpec spec) (stockOf spec cs) cs gen l
 
 -- 1, 2, 3, 6, 7, 8 or 9, 12: k changes of the lent lists
 abbrev pub applyAsks : TurnStockSpec → List Float → ℕ → List ℕ → List Float → ℕ → List Asked
 applyAsks spec cs gen is xs k =
-    stockAsks spec cs ++ (ask (leb k (change.roomOf (length is) (length xs))) 6 ∷ passAsks (cleanSpec spec) (stockOf spec cs) cs (changesFrom is xs k) ++ (ask (ltb gen lastGeneration) 12 ∷ []))
+    stockAsks spec cs ++ (ask (leb k (change.roomOf (length is) (length xs))) 6 ∷ commitInAsks (cleanSpec spec) (stockOf spec cs) cs gen (changesFrom is xs k))
 
 -- 1, 2, 3 of the first list and of the second, 6
 abbrev pub differenceAsks : TurnStockSpec → List Float → List Float → ℕ → List Asked
@@ -186,15 +201,21 @@ removeRingsAsks spec xs n removed = ask (leb n (roomOf (length xs))) 4 ∷ ask (
 abbrev pub partsAsks : TurnStockSpec → List Float → List Float → List Float → List Asked
 partsAsks spec cs given xs = stockAsks spec cs ++ (ask (ringsGood given) 10 ∷ ask (allStored spec xs 0 given) 11 ∷ [])
 
--- 1, 2, 3, 6, 4, 10, 7, 8 or 9, 12, 11
-abbrev pub moveAsks : TurnStockSpec → List Float → List Float → ℕ → ℕ → List ℕ → List Float → ℕ → List Float → List Asked
-moveAsks spec cs xs count g is ys k removed =
-    stockAsks spec cs
-    ++ (ask (leb k (change.roomOf (length is) (length ys))) 6
-    ∷ ask (countFits (extentOf (cleanSpec spec)) xs count) 4
+-- 4, 10, 7, 8 or 9, 12, 11; behind the tests of a stock
+abbrev pub moveInAsks : TurnStockSpec → List Float → List Float → ℕ → ℕ → List TurnChange → List Float → List Asked
+moveInAsks spec cs xs count g l removed =
+    ask (countFits (extentOf (cleanSpec spec)) xs count) 4
     ∷ ask (ringsGood removed) 10
-    ∷ passAsks (cleanSpec spec) (stockOf spec cs) cs (changesFrom is ys k)
-    ++ (ask (leb (generationAfter spec g removed) lastGeneration) 12 ∷ ask (allStored spec xs count removed) 11 ∷ []))
+    ∷ passAsks (cleanSpec spec) (stockOf spec cs) cs l
+    ++ (ask (leb (generationAfter spec g removed) lastGeneration) 12 ∷ ask (allStored spec xs count removed) 11 ∷ [])
+
+-- 1, 2, 3, 4, 10, 7, 8 or 9, 12, 11: a list of changes, 01's order to the letter
+abbrev pub moveListAsks : TurnStockSpec → List Float → List Float → ℕ → ℕ → List TurnChange → List Float → List Asked
+moveListAsks spec cs xs count g l removed = stockAsks spec cs ++ moveInAsks spec cs xs count g l removed
+
+-- 1, 2, 3, 6, 4, 10, 7, 8 or 9, 12, 11: k changes of the lent lists
+abbrev pub moveAsks : TurnStockSpec → List Float → List Float → ℕ → ℕ → List ℕ → List Float → ℕ → List Float → List Asked
+moveAsks spec cs xs count g is ys k removed = stockAsks spec cs ++ (ask (leb k (change.roomOf (length is) (length ys))) 6 ∷ moveInAsks spec cs xs count g (changesFrom is ys k) removed)
 
 -- ---- volume: 1, 2, 3, 4. `envelope_at` asks as a stock does.
 abbrev pub volumeAsks : TurnStockSpec → List Float → List Float → ℕ → List Asked
@@ -213,3 +234,35 @@ radiusAsks ps u = ask (pointsGood ps && usable u) 14 ∷ []
 -- or of two
 abbrev pub withinAsks : List Float → Float → Float → List Asked
 withinAsks ps lo hi = ask (pointsGood ps && (usable lo && usable hi)) 14 ∷ []
+
+-- ---- a line of a job: 15, 13, or what its call asks
+
+-- a bar: 1, 2, and 3 where the lent cells are fewer
+abbrev pub barAsks : TurnStockSpec → List Float → List Asked
+barAsks spec cs = specAsks spec ++ (ask (ofAnswer (cellsOf spec) (λ n. leb (4 * n) (length cs))) 3 ∷ [])
+
+-- a cut: what its preview asks, then what the commit of its changes asks
+abbrev pub cutLineAsks : Job → Cut → ℕ → List Float → List Asked
+cutLineAsks j cut room cs =
+    let own = cellsOfJob j cs in
+    previewCutAsks (j .spec) own cut room ++ commitAsks (j .spec) own (j .generation) (writtenOf (previewCut (j .spec) own cut room))
+
+-- anything but a bar before it is 15
+unfoldable pub firstLineAsks : Line → List Float → List Asked
+firstLineAsks (Bar spec) cs = barAsks spec cs
+firstLineAsks (Cutting cut) cs = ask false 15 ∷ []
+firstLineAsks (Removing q) cs = ask false 15 ∷ []
+firstLineAsks Arc cs = ask false 15 ∷ []
+firstLineAsks Bad cs = ask false 15 ∷ []
+
+-- an arc is 13, a second bar 15
+unfoldable pub laterLineAsks : Job → Line → ℕ → List Float → List Float → List Asked
+laterLineAsks j (Bar spec) room cs rs = ask false 15 ∷ []
+laterLineAsks j (Cutting cut) room cs rs = cutLineAsks j cut room cs
+laterLineAsks j (Removing q) room cs rs = removeAsks (j .spec) rs (j .rings) (j .generation) q
+laterLineAsks j Arc room cs rs = ask false 13 ∷ []
+laterLineAsks j Bad room cs rs = ask false 15 ∷ []
+
+-- 127 bytes at most without the newline, then by its place
+abbrev pub lineAsks : Job → List ℕ → ℕ → List Float → List Float → List Asked
+lineAsks j s room cs rs = ask (ltb (length s) lineLimit) 15 ∷ pick (eqb (j .cells) 0) (firstLineAsks (lineOf s) cs) (laterLineAsks j (lineOf s) room cs rs)

@@ -6,7 +6,9 @@
 // Demand 1, each refusal exactly when (`proofs/First`, `proofs/LeftAlone`). `specs/Refused` lists the
 // tests of each call in order, each with its number. `Exactly` says that the rule refuses with k
 // exactly when the first test that does not hold has the number k, and answers exactly when all hold.
-// One law gives it for every rule (`proofs/Asking`). A refused call leaves every lent buffer.
+// One law gives it for every rule (`proofs/Asking`). A refused call leaves every lent buffer. Of a job
+// (`proofs/JobLines`, with `specs/Offending`): it is refused at line m with k exactly when line m is the
+// first that offends, and with k.
 //
 // Demand 2, what the answers are (`proofs/Second`, with `specs/Wrote`): the root is the nearest value;
 // a preview lists the change of each bin that the cut changes and no other, and its count is that of
