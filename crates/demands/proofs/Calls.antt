@@ -1,15 +1,16 @@
 -- The third demand over the calls themselves: what their promises say of a run of previews and commits through lent lists. Assumes nothing.
 use mathlib.Core.Path.{_≡_, refl, sym, ap, _∙_, subst}
 use mathlib.Core.Bool.{Bool, true, false}
-use mathlib.Core.List.{List, map, List·Memᴰ, List·Permᴰ, Permᴰ·map}
+use mathlib.Core.List.{List, [], _∷_, map, foldl, List·Memᴰ, List·Permᴰ, Permᴰ·map}
 use Prim.Native.Nat.{ℕ, _+_, _<_}
 use native.Mathlib.Nat.{add-zero}
 use lib.Dec.{ltb}
 use lib.ListN.{length}
-use lib.Ieee.{Float}
+use lib.Ieee.{Float, binary64}
 use Rattle.refusals.specs.Paper.{Paper, answers, refuses, demand}
 use Rattle.refusals.specs.Limits.{lastGeneration}
 use Rattle.floats.specs.Each.{Each}
+use Rattle.floats.specs.Kinds.{Plain}
 use Rattle.floats.proofs.Folds.{each-perm}
 use Rattle.stock.specs.declared.TurnStockSpec.{TurnStockSpec}
 use Rattle.stock.specs.declared.TurnCell.{TurnCell}
@@ -19,10 +20,12 @@ use Rattle.stock.specs.Cell.{cellAt, stockOf}
 use Rattle.stock.proofs.Count.{no-answer, same-answer}
 use Rattle.stock.proofs.Bins.{HeldSpec, HeldList}
 use Rattle.stock.proofs.Stored.{same-cells}
-use Rattle.reach.specs.Reach.{actCell}
-use Rattle.reach.specs.Kinds.{PlainAct, OnSide, OnlyAt}
-use Rattle.reach.specs.Closed.{closed, ownsAt}
-use Rattle.reach.proofs.OneByOne.{cellAfter, cuts-of-bin}
+use Rattle.reach.specs.Reach.{Reached, deeper, deepOf, sureOf, limitOf, withPair, Act, actCell}
+use Rattle.reach.specs.Kinds.{PlainReach, PlainAct, OnSide, OnlyAt}
+use Rattle.reach.specs.Closed.{gather, lowsOf, highsOf, closed, ownsAt}
+use Rattle.reach.proofs.Sides.{Ordered}
+use Rattle.reach.proofs.Deepest.{Deepest, deepest}
+use Rattle.reach.proofs.OneByOne.{cellAfter, cuts-of-bin, plain-lows, plain-highs, own-plain}
 use Rattle.reach.proofs.AnyOrder.{mem-map, bin-any-order, bin-however-often}
 use Rattle.changes.specs.declared.Previewed.the-variants.{Changes}
 use Rattle.changes.specs.Change.{changesTo, roomOf, countOf, Proposed}
@@ -58,13 +61,13 @@ kept true k g cs cs' a = record { cells = a .cells; generation = same-answer (a 
 kept false k g cs cs' a = absurd (no-answer 12 g (sym (a .answer)))
 
 -- the cut is in its domain, the cells afterwards fit, each is what the cut makes of it, and the generation is one more
-record Called (spec : TurnStockSpec) (n : ℕ) (t : Cutter) (cs cs' : List Float) (gen g : ℕ) : Type 0 where
-  good : Good spec n cs'
-  bins : (i : ℕ) → i < n → cellAt cs' i ≡ actCell (cutterAct spec t) i (cellAt cs i)
-  plain : PlainAct n (cutterAct spec t)
-  generation : g ≡ gen + 1
+pub record Called (spec : TurnStockSpec) (n : ℕ) (t : Cutter) (cs cs' : List Float) (gen g : ℕ) : Type 0 where
+  pub good : Good spec n cs'
+  pub bins : (i : ℕ) → i < n → cellAt cs' i ≡ actCell (cutterAct spec t) i (cellAt cs i)
+  pub plain : PlainAct n (cutterAct spec t)
+  pub generation : g ≡ gen + 1
 
-called : {spec : TurnStockSpec} {n : ℕ} → HeldSpec spec → (t : Cutter) → HeldCutter t → {cs cs' : List Float} → Good spec n cs → (gen g c : ℕ) (is is' : List ℕ) (xs xs' : List Float) → Proposed (cutterPreview spec t cs (roomOf (length is) (length xs))) (Changes c) is is' xs xs'
+pub called : {spec : TurnStockSpec} {n : ℕ} → HeldSpec spec → (t : Cutter) → HeldCutter t → {cs cs' : List Float} → Good spec n cs → (gen g c : ℕ) (is is' : List ℕ) (xs xs' : List Float) → Proposed (cutterPreview spec t cs (roomOf (length is) (length xs))) (Changes c) is is' xs xs'
     → Applies (applyOf spec cs gen is' xs' c) (Generation g) cs cs' → Called spec n t cs cs' gen g
 called {spec} {n} hs t ht {cs} {cs'} b gen g c is is' xs xs' p a =
     let room = roomOf (length is) (length xs) in
@@ -103,6 +106,30 @@ after {spec} {n} hs (cut {t} {l} {cs} {cs'} {gen} {g} {c} {is} {is'} {xs} {xs'} 
       generation = v .generation ∙ ap (λ (x : ℕ). x + length l) (w .generation) ∙ next gen (length l);
     }
 
+-- ---- the closed form in words
+
+-- c' is c with two bounds of a side: the deepest of its deep bound and the lows, brought to the other where that lies deeper; and the deepest of its sure bound and the highs
+pub record LeftDeepest (σ : TurnSide) (c : TurnCell) (own : List Reached) (c' : TurnCell) : Type 0 where
+  pub deep : Float
+  pub sure : Float
+  pub deepest-low : Deepest σ (deepOf σ c) (gather lowsOf own) deep
+  pub deepest-high : Deepest σ (sureOf σ c) (gather highsOf own) sure
+  pub pair : c' ≡ withPair σ (deeper σ deep sure) sure c
+
+left-deepest : (σ : TurnSide) (c : TurnCell) (own : List Reached) (c' : TurnCell) → Ordered σ c → Each PlainReach own → c' ≡ closed σ c own → LeftDeepest σ c own c'
+unfolding closed
+left-deepest σ c own c' o ps e = record {
+  deep = foldl (deeper σ) (deepOf σ c) (gather lowsOf own);
+  sure = foldl (deeper σ) (sureOf σ c) (gather highsOf own);
+  deepest-low = deepest σ (gather lowsOf own) (plain-lows own ps) (deepOf σ c) (o .deep);
+  deepest-high = deepest σ (gather highsOf own) (plain-highs own ps) (sureOf σ c) (o .sure);
+  pair = e;
+}
+
+acts-plain : (σ : TurnSide) (n i : ℕ) → i < n → (c : TurnCell) → Plain binary64 (limitOf σ c) → (l : List Act) → Each (PlainAct n) l → Each PlainReach (ownsAt σ c i l)
+acts-plain σ n i h c q [] ps = tt
+acts-plain σ n i h c q (a ∷ l) ps = (own-plain σ c (a .at i) q (ps .0 i h), acts-plain σ n i h c q l (ps .1))
+
 -- ---- THE DEMAND, over calls. The numbers handed over are values of f64, and the stock at the start is not refused.
 module _ {spec : TurnStockSpec} {n : ℕ} {k m : Committed} {l : List Cutter} (hs : HeldSpec spec) (hc : HeldList (k .cells)) (e : stockOf spec (k .cells) ≡ answers n) (ht : Each HeldCutter l) (r : Ran spec k l m) where
   good : Good spec n (k .cells)
@@ -113,6 +140,13 @@ module _ {spec : TurnStockSpec} {n : ℕ} {k m : Committed} {l : List Cutter} (h
   run-leaves σ i h os =
       let a = after hs r ht good in
       a .bins i h ∙ cuts-of-bin σ n i h (cellAt (k .cells) i) (map (cutterAct spec) l) (start-ordered good σ i h) (a .plain) (tools-each spec (OnlyAt σ i) l os)
+
+  -- in 01's words: each bound of the side is one of its start and the cuts' own bounds, and none of those lies deeper (outside: is less; inside: is greater); then the pair is ordered
+  pub run-deepest : (σ : TurnSide) (i : ℕ) → i < n → ToolsAt spec σ i l → LeftDeepest σ (cellAt (k .cells) i) (ownsAt σ (cellAt (k .cells) i) i (map (cutterAct spec) l)) (cellAt (m .cells) i)
+  run-deepest σ i h os =
+      let c = cellAt (k .cells) i in
+      let o = start-ordered good σ i h in
+      left-deepest σ c (ownsAt σ c i (map (cutterAct spec) l)) (cellAt (m .cells) i) o (acts-plain σ n i h c (o .limit) (map (cutterAct spec) l) (after hs r ht good .plain)) (run-leaves σ i h os)
 
   bin-same : {m' : Committed} {l' : List Cutter} → List·Permᴰ l l' → Ran spec k l' m' → (σ : TurnSide) (i : ℕ) → i < n → Each (OnlyAt σ i) (map (cutterAct spec) l) → cellAt (m .cells) i ≡ cellAt (m' .cells) i
   bin-same d r' σ i h os =

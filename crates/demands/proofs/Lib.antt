@@ -11,6 +11,8 @@ pub mod LeftAlone
 pub mod Rings
 pub mod Written
 pub mod Second
+pub mod Runs
+pub mod JobOrder
 pub mod Once
 pub mod Profile
 pub mod Sees

@@ -43,6 +43,14 @@
 // - `run-any-order-bin`: with both sides in the list, each bin that one side only reaches is left
 //   with the same cell.
 // - `run-however-often`: the same cuts, each made as often as one likes, leave the same cells.
+// - `run-deepest`: the closed form in words: each bound is one of its start and the cuts' own bounds,
+//   and none of those lies deeper.
+//
+// The same of other runs (`proofs/Runs`): with the change list as records (`records-ran`), with commits
+// that ask nothing again (`unasked-ran`), and of calls whose answers are not known beforehand: with room
+// for every cell, cuts in their domain and generations to spare, whatever meets the promises is accepted
+// (`tried-accepted`), so that every order is (`tried-any-order`). Of a job (`proofs/JobOrder`): lines that
+// are cuts of one side write the same bytes in every order, where no line is refused (`job-any-order`).
 //
 // By the rules alone (`proofs/Tools`: `tools-leave`, `tools-any-order`, `tools-any-order-bin`,
 // `tools-however-often`) the same holds, and no cut is refused: where every cut is in its domain,
