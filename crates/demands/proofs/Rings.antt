@@ -1,10 +1,10 @@
 -- THE THIRD DEMAND, OF RINGS: in whatever order accepted rings come, the same points are covered, and no two stored rings share one. A point is any pair of numbers z, r;
 -- a ring covers it where z0 <= z < z1 and r0 <= r < r1. `Disjoint l` says that every point is in one ring of l at most. Assumes nothing.
-use mathlib.Core.Path.{_≡_, refl, sym, ap, ap₂, _∙_}
+use mathlib.Core.Path.{_≡_, refl, sym, ap, ap₂, _∙_, subst}
 use mathlib.Core.Bool.{Bool, true, false, _||_, or-false, or-assoc}
-use mathlib.Core.List.{List, map, List·Permᴰ}
-use Prim.Native.Nat.{ℕ, _+_, _/_}
-use native.Mathlib.Nat.{add-zero}
+use mathlib.Core.List.{List, [], _∷_, _++_, map, List·Permᴰ, List·Permᴰ·nil, List·Permᴰ·cons, List·Permᴰ·swap, List·Permᴰ·trans, Permᴰ·refl, Permᴰ·append-left, Permᴰ·middle}
+use Prim.Native.Nat.{ℕ, suc, _+_, _/_}
+use native.Mathlib.Nat.{add-zero, zero-add}
 use native.Mathlib.Omega.{arith}
 use lib.ListN.{length}
 use lib.Ieee.{Float}
@@ -15,18 +15,23 @@ use Rattle.stock.specs.Spec.{cleanSpec, specGood}
 use Rattle.stock.proofs.Count.{no-answer, same-answer}
 use Rattle.rings.specs.declared.Ring.{Ring}
 use Rattle.rings.specs.declared.Removed.the-variants.{Stored}
+use Rattle.rings.specs.declared.StoredAs.the-variants as stored
 use Rattle.rings.specs.Ring.{covers, covered, filled, clip}
 use Rattle.rings.specs.Points.{Disjoint}
 use Rattle.rings.specs.Store.{extentOf, ringsOf, storeAs, countFits, ringsGood, raisedBy}
-use Rattle.rings.specs.Remove.{RingStore, RingCount, countsOf, ringsAfter, removeRing, removeRings, Removes}
+use Rattle.rings.specs.Remove as rings
+use Rattle.rings.specs.Remove.{RingStore, RingCount, countsOf, ringsAfter, removeRing, removeRings, StoresAs, Removes}
 use Rattle.rings.proofs.Flat.{rings-stored}
 use Rattle.rings.proofs.Fitting.{store-disjoint}
 use Rattle.rings.proofs.Covering.{covered-turns}
 use Rattle.rings.proofs.Taken.{ring-taken, ring-passes, ring-covers, rings-pass, rings-pass-again, rings-cover, rings-either-order}
-use Rattle.moves.specs.Move.{Left, moveOf, partsOf}
-use Rattle.moves.proofs.Accepted.{passed-disjoint, raised-turns, move-disjoint, move-covers, either-cells, either-generation, either-covers}
+use Rattle.moves.specs.declared.Moved.the-variants as moved
+use Rattle.moves.specs.Move as moves
+use Rattle.moves.specs.Move.{Left, generationAfter, moveOf, partsOf, Moves}
+use Rattle.moves.proofs.Accepted.{taken, passed-disjoint, raised-turns, move-disjoint, move-covers, either-cells, either-generation, either-covers}
 use Rattle.moves.proofs.Rebuilt.{parts-disjoint, parts-cover, parts-either-order}
-use Rattle.demands.specs.Run.{Store, RanRings, done, ring}
+use Rattle.demands.specs.Run.{Store, RanRings, done, ring, Held, Move, ringsIn, RanMoves, no-moves, made-move}
+use Rattle.demands.proofs.Third.{perm-length}
 
 -- a ring as it is clipped to the stock
 abbrev clipped : TurnStockSpec → Ring → Ring
@@ -59,6 +64,38 @@ took {spec} {xs} {n} {g} {q} {m} {h} {ys} a = go (removeRing spec xs n g q) refl
           numbers = c;
           generation = ap (λ (x : RingCount). x .generation) k;
         }
+
+-- ---- one call that is lent rings: `remove_rings`, `from_parts`, and `apply_move`
+
+-- what was answered and left, by the rule p
+pub record ListBy (p : Paper (List Ring)) (m : ℕ) (ys : List Float) : Type 0 where
+  pub rings : List Ring
+  pub rule : p ≡ answers rings
+  pub held : ringsOf m ys ≡ rings
+
+pub list-by : {xs ys : List Float} {p : Paper (List Ring)} {m : ℕ} → StoresAs xs p (stored.Rings m) ys → ListBy p m ys
+unfolding rings.countOf onward
+list-by {xs} {ys} {p} {m} a = go p (a .answer) (a .store)
+  where
+    go : (p : Paper (List Ring)) → answers m ≡ rings.countOf p → ys ≡ rings.storeAfter xs p → ListBy p m ys
+    go (refuses r) b c = absurd (no-answer r m (sym b))
+    go (answers l) b c = record { rings = l; rule = refl; held = ap₂ ringsOf (same-answer b) c ∙ rings-stored xs l }
+
+pub record LeftBy (p : Paper Left) (m h : ℕ) (cs' ys : List Float) : Type 0 where
+  pub left : Left
+  pub rule : p ≡ answers left
+  pub cells : cs' ≡ left .cells
+  pub rings : ringsOf m ys ≡ left .rings
+  pub generation : h ≡ left .generation
+
+pub left-by : {cs cs' xs ys : List Float} {p : Paper Left} {m h : ℕ} → Moves p (moved.Stored m h) cs cs' xs ys → LeftBy p m h cs' ys
+left-by {cs} {cs'} {xs} {ys} {p} {m} {h} a = go p (a .answer) (a .cells) (a .rings)
+  where
+    go : (p : Paper Left) → answers (record { rings = m; generation = h }) ≡ moves.countsOf p → cs' ≡ moves.cellsAfter p cs → ys ≡ moves.ringsAfter p xs → LeftBy p m h cs' ys
+    go (refuses r) b c d = absurd (no-answer r _ (sym b))
+    go (answers l) b c d =
+        let k : _≡_ {A = RingCount} (record { rings = m; generation = h }) (record { rings = length (l .rings); generation = l .generation }) = same-answer b in
+        record { left = l; rule = refl; cells = c; rings = ap₂ ringsOf (ap (λ (x : RingCount). x .rings) k) d ∙ rings-stored xs (l .rings); generation = ap (λ (x : RingCount). x .generation) k }
 
 -- ---- single rings, one call after the other
 
@@ -119,6 +156,21 @@ module _ (spec : TurnStockSpec) (xs : List Float) (n : ℕ) (f : countFits (exte
       → (z r : Float) → covered l z r ≡ covered l' z r
   list-either-order news news' l l' d h h' = rings-either-order spec xs n f news news' l l' d h h'
 
+  -- the same of the lent numbers that the call leaves
+  pub list-call-covers : (news : List Float) (m : ℕ) (ys : List Float) → StoresAs xs (removeRings spec xs n news) (stored.Rings m) ys → (z r : Float)
+      → covered (ringsOf m ys) z r ≡ (covered (ringsOf n xs) z r || covered (map (clipped spec) (ringsOf (length news / 4) news)) z r)
+  list-call-covers news m ys a z r = let w = list-by a in ap (λ (l : List Ring). covered l z r) (w .held) ∙ list-covers news (w .rings) (w .rule) z r
+
+  pub list-call-disjoint : (news : List Float) (m : ℕ) (ys : List Float) → specGood (cleanSpec spec) ≡ true → ringsGood news ≡ true → StoresAs xs (removeRings spec xs n news) (stored.Rings m) ys → Disjoint (ringsOf m ys)
+  list-call-disjoint news m ys g o a = let w = list-by a in subst Disjoint (sym (w .held)) (list-disjoint news (w .rings) g o (w .rule))
+
+  pub list-call-either-order : (news news' : List Float) (m m' : ℕ) (ys ys' : List Float) → List·Permᴰ (ringsOf (length news / 4) news) (ringsOf (length news' / 4) news') → StoresAs xs (removeRings spec xs n news) (stored.Rings m) ys
+      → StoresAs xs (removeRings spec xs n news') (stored.Rings m') ys' → (z r : Float) → covered (ringsOf m ys) z r ≡ covered (ringsOf m' ys') z r
+  list-call-either-order news news' m m' ys ys' d a a' z r =
+      let w = list-by a in
+      let w' = list-by a' in
+      ap (λ (l : List Ring). covered l z r) (w .held) ∙ list-either-order news news' (w .rings) (w' .rings) d (w .rule) (w' .rule) z r ∙ ap (λ (l : List Ring). covered l z r) (sym (w' .held))
+
 -- ---- a move
 
 module _ (spec : TurnStockSpec) (cs xs : List Float) (count g : ℕ) (is : List ℕ) (ys : List Float) (k : ℕ) where
@@ -142,6 +194,98 @@ module _ (spec : TurnStockSpec) (cs xs : List Float) (count g : ℕ) (is : List 
     pub moved-either-order : (z r : Float) → covered (a .rings) z r ≡ covered (a' .rings) z r
     moved-either-order = either-covers spec cs xs count g is ys k removed removed' a a' turn h h'
 
+  -- the same of the lent numbers that the call leaves
+  pub moved-call-covers : (removed : List Float) (m h : ℕ) (cs' xs' : List Float) → Moves (moveOf spec cs xs count g is ys k removed) (moved.Stored m h) cs cs' xs xs' → (z r : Float)
+      → covered (ringsOf m xs') z r ≡ (covered (ringsOf count xs) z r || covered (map (clipped spec) (ringsOf (length removed / 4) removed)) z r)
+  moved-call-covers removed m h cs' xs' a z r = let w = left-by a in ap (λ (l : List Ring). covered l z r) (w .rings) ∙ moved-covers removed (w .left) (w .rule) z r
+
+  pub moved-call-disjoint : (removed : List Float) (m h : ℕ) (cs' xs' : List Float) → Moves (moveOf spec cs xs count g is ys k removed) (moved.Stored m h) cs cs' xs xs' → Disjoint (ringsOf m xs')
+  moved-call-disjoint removed m h cs' xs' a = let w = left-by a in subst Disjoint (sym (w .rings)) (moved-disjoint removed (w .left) (w .rule))
+
+  -- either order of its rings leaves the same cells and the same generation, and the same points covered
+  pub moved-call-either-order : (removed removed' : List Float) (m m' h h' : ℕ) (cs' cs'' xs' xs'' : List Float) → List·Permᴰ (ringsOf (length removed / 4) removed) (ringsOf (length removed' / 4) removed')
+      → Moves (moveOf spec cs xs count g is ys k removed) (moved.Stored m h) cs cs' xs xs' → Moves (moveOf spec cs xs count g is ys k removed') (moved.Stored m' h') cs cs'' xs xs''
+      → (cs' ≡ cs'') × (h ≡ h') × ((z r : Float) → covered (ringsOf m xs') z r ≡ covered (ringsOf m' xs'') z r)
+  moved-call-either-order removed removed' m m' h h' cs' cs'' xs' xs'' d a a' =
+      let w = left-by a in
+      let w' = left-by a' in (
+        w .cells ∙ moved-either-cells removed removed' (w .left) (w' .left) d (w .rule) (w' .rule) ∙ sym (w' .cells),
+        w .generation ∙ moved-either-generation removed removed' (w .left) (w' .left) d (w .rule) (w' .rule) ∙ sym (w' .generation),
+        λ z r. ap (λ (l : List Ring). covered l z r) (w .rings) ∙ moved-either-order removed removed' (w .left) (w' .left) d (w .rule) (w' .rule) z r ∙ ap (λ (l : List Ring). covered l z r) (sym (w' .rings)),
+      )
+
+-- ---- several moves, one call after the other
+
+-- What the store covers at the end: what it covered at the start and what the clipped rings of all moves cover, and nothing else.
+pub moves-cover : {spec : TurnStockSpec} {s t : Held} {vs : List Move} → RanMoves spec s vs t → (z r : Float)
+    → covered (ringsOf (t .store .count) (t .store .numbers)) z r ≡ (covered (ringsOf (s .store .count) (s .store .numbers)) z r || covered (map (clipped spec) (ringsIn vs)) z r)
+unfolding covered ringsIn
+moves-cover {s = s} no-moves z r = sym (or-false (covered (ringsOf (s .store .count) (s .store .numbers)) z r))
+moves-cover {spec} (made-move {v} {vs} {cs} {cs'} {xs} {ys} {n} {g} {m} {h} a b) z r =
+    let qs = ringsOf (length (v .removed) / 4) (v .removed) in
+    moves-cover b z r
+    ∙ ap (λ (x : Bool). x || covered (map (clipped spec) (ringsIn vs)) z r) (moved-call-covers spec cs xs n g (v .indices) (v .numbers) (v .count) (v .removed) m h cs' ys a z r)
+    ∙ or-assoc (covered (ringsOf n xs) z r) (covered (map (clipped spec) qs) z r) (covered (map (clipped spec) (ringsIn vs)) z r)
+    ∙ ap (λ (x : Bool). covered (ringsOf n xs) z r || x) (sym (covers-append qs (ringsIn vs)))
+  where
+    covers-append : (qs ps : List Ring) → covered (map (clipped spec) (qs ++ ps)) z r ≡ (covered (map (clipped spec) qs) z r || covered (map (clipped spec) ps) z r)
+    covers-append [] ps = refl
+    covers-append (q ∷ qs) ps = ap (λ (x : Bool). covers (clipped spec q) z r || x) (covers-append qs ps) ∙ sym (or-assoc (covers (clipped spec q) z r) (covered (map (clipped spec) qs) z r) (covered (map (clipped spec) ps) z r))
+
+-- No two stored rings share a point, if none did at the start.
+pub moves-disjoint : {spec : TurnStockSpec} {s t : Held} {vs : List Move} → RanMoves spec s vs t → Disjoint (ringsOf (s .store .count) (s .store .numbers)) → Disjoint (ringsOf (t .store .count) (t .store .numbers))
+moves-disjoint no-moves d = d
+moves-disjoint {spec} (made-move {v} {vs} {cs} {cs'} {xs} {ys} {n} {g} {m} {h} a b) d = moves-disjoint b (moved-call-disjoint spec cs xs n g (v .indices) (v .numbers) (v .count) (v .removed) m h cs' ys a)
+
+-- The generation rises by one for each move, and by one for each ring that is not empty after clipping.
+pub moves-rise : {spec : TurnStockSpec} {s t : Held} {vs : List Move} → RanMoves spec s vs t → t .store .generation ≡ s .store .generation + length vs + raisedBy (extentOf (cleanSpec spec)) (ringsIn vs)
+unfolding ringsIn raisedBy generationAfter
+moves-rise {s = s} no-moves = let g = s .store .generation in omega arith
+moves-rise {spec} (made-move {v} {vs} {cs} {cs'} {xs} {ys} {n} {g} {m} {h} a b) =
+    let e = extentOf (cleanSpec spec) in
+    let qs = ringsOf (length (v .removed) / 4) (v .removed) in
+    let w = left-by a in
+    let x : h ≡ g + 1 + raisedBy e qs = w .generation ∙ taken spec cs xs n g (v .indices) (v .numbers) (v .count) (v .removed) (w .left) (w .rule) .rises in
+    moves-rise b ∙ ap (λ (j : ℕ). j + length vs + raisedBy e (ringsIn vs)) x ∙ one g (raisedBy e qs) (length vs) (raisedBy e (ringsIn vs)) ∙ ap (λ (j : ℕ). g + suc (length vs) + j) (sym (raised-append e qs (ringsIn vs)))
+  where
+    one : (g a n b : ℕ) → g + 1 + a + n + b ≡ g + suc n + (a + b)
+    one g a n b = omega arith
+
+    three : (k a b : ℕ) → k + (a + b) ≡ k + a + b
+    three k a b = omega arith
+
+    raised-append : (e : Ring) (qs ps : List Ring) → raisedBy e (qs ++ ps) ≡ raisedBy e qs + raisedBy e ps
+    raised-append e [] ps = sym (zero-add (raisedBy e ps))
+    raised-append e (q ∷ qs) ps = ap (λ (j : ℕ). pick (filled (clip e q)) 1 0 + j) (raised-append e qs ps) ∙ three (pick (filled (clip e q)) 1 0) (raisedBy e qs) (raisedBy e ps)
+
+-- a list is an order of itself
+same-list : {l l' : List Ring} → l ≡ l' → List·Permᴰ l l'
+same-list {l} e = subst (λ (x : List Ring). List·Permᴰ l x) e (Permᴰ·refl l)
+
+-- two lists before a third change places
+turn-two : (a b c : List Ring) → List·Permᴰ (a ++ (b ++ c)) (b ++ (a ++ c))
+turn-two a [] c = Permᴰ·refl (a ++ c)
+turn-two a (q ∷ b) c = List·Permᴰ·trans (Permᴰ·middle q a (b ++ c)) (List·Permᴰ·cons refl (turn-two a b c))
+
+-- the rings of moves in another order are those rings in another order
+rings-turn : {vs vs' : List Move} → List·Permᴰ vs vs' → List·Permᴰ (ringsIn vs) (ringsIn vs')
+unfolding ringsIn
+rings-turn List·Permᴰ·nil = List·Permᴰ·nil
+rings-turn (List·Permᴰ·cons {b = b} {l₁ = l} e d) = List·Permᴰ·trans (same-list (ap (λ (v : Move). ringsOf (length (v .removed) / 4) (v .removed) ++ ringsIn l) e)) (Permᴰ·append-left (ringsOf (length (b .removed) / 4) (b .removed)) (rings-turn d))
+rings-turn (List·Permᴰ·swap {a = a} {b = b} {a′ = a′} {b′ = b′} {l = l} e f) =
+    List·Permᴰ·trans (turn-two (ringsOf (length (a .removed) / 4) (a .removed)) (ringsOf (length (b .removed) / 4) (b .removed)) (ringsIn l))
+    (same-list (ap₂ (λ (v w : Move). ringsOf (length (v .removed) / 4) (v .removed) ++ (ringsOf (length (w .removed) / 4) (w .removed) ++ ringsIn l)) f e))
+rings-turn (List·Permᴰ·trans d d′) = List·Permᴰ·trans (rings-turn d) (rings-turn d′)
+
+-- EITHER ORDER OF MOVES: two runs of the same moves, in any order, both accepted, cover the same points and come to the same generation.
+module _ {spec : TurnStockSpec} {s t t' : Held} {vs vs' : List Move} (turn : List·Permᴰ vs vs') (a : RanMoves spec s vs t) (b : RanMoves spec s vs' t') where
+  pub moves-either-order : (z r : Float) → covered (ringsOf (t .store .count) (t .store .numbers)) z r ≡ covered (ringsOf (t' .store .count) (t' .store .numbers)) z r
+  moves-either-order z r = moves-cover a z r ∙ ap (λ (x : Bool). covered (ringsOf (s .store .count) (s .store .numbers)) z r || x) (covered-turns (clipped spec) z r (rings-turn turn)) ∙ sym (moves-cover b z r)
+
+  pub moves-same-generation : t .store .generation ≡ t' .store .generation
+  moves-same-generation =
+      moves-rise a ∙ ap₂ (λ (n k : ℕ). s .store .generation + n + k) (perm-length turn) (raised-turns (extentOf (cleanSpec spec)) (rings-turn turn)) ∙ sym (moves-rise b)
+
 -- ---- a stock rebuilt from its parts
 
 module _ (spec : TurnStockSpec) (cs xs : List Float) where
@@ -157,3 +301,17 @@ module _ (spec : TurnStockSpec) (cs xs : List Float) where
   pub rebuilt-either-order : (given given' : List Float) (l l' : List Ring) → List·Permᴰ (ringsOf (length given / 4) given) (ringsOf (length given' / 4) given') → partsOf spec cs given xs ≡ answers l → partsOf spec cs given' xs ≡ answers l'
       → (z r : Float) → covered l z r ≡ covered l' z r
   rebuilt-either-order given given' l l' d h h' = parts-either-order spec cs xs given given' l l' d h h'
+
+  -- the same of the lent numbers that the call leaves
+  pub rebuilt-call-covers : (given : List Float) (m : ℕ) (ys : List Float) → StoresAs xs (partsOf spec cs given xs) (stored.Rings m) ys → (z r : Float) → covered (ringsOf m ys) z r ≡ covered (map (clipped spec) (ringsOf (length given / 4) given)) z r
+  rebuilt-call-covers given m ys a z r = let w = list-by a in ap (λ (l : List Ring). covered l z r) (w .held) ∙ rebuilt-covers given (w .rings) (w .rule) z r
+
+  pub rebuilt-call-disjoint : (given : List Float) (m : ℕ) (ys : List Float) → StoresAs xs (partsOf spec cs given xs) (stored.Rings m) ys → Disjoint (ringsOf m ys)
+  rebuilt-call-disjoint given m ys a = let w = list-by a in subst Disjoint (sym (w .held)) (rebuilt-disjoint given (w .rings) (w .rule))
+
+  pub rebuilt-call-either-order : (given given' : List Float) (m m' : ℕ) (ys ys' : List Float) → List·Permᴰ (ringsOf (length given / 4) given) (ringsOf (length given' / 4) given') → StoresAs xs (partsOf spec cs given xs) (stored.Rings m) ys
+      → StoresAs xs (partsOf spec cs given' xs) (stored.Rings m') ys' → (z r : Float) → covered (ringsOf m ys) z r ≡ covered (ringsOf m' ys') z r
+  rebuilt-call-either-order given given' m m' ys ys' d a a' z r =
+      let w = list-by a in
+      let w' = list-by a' in
+      ap (λ (l : List Ring). covered l z r) (w .held) ∙ rebuilt-either-order given given' (w .rings) (w' .rings) d (w .rule) (w' .rule) z r ∙ ap (λ (l : List Ring). covered l z r) (sym (w' .held))

@@ -8,7 +8,7 @@
 --   Edits: `changes_of_the_first_bin` (crate `cuts`); `difference_of_the_first_with_itself` (crate `changes`), which finds no change.
 -- - A commit that writes nothing, or the first change only: `commit-writes` here. Edits of crate `changes`: `commit_writes_its_first_bin_only`, and
 --   `commit_writes_the_before_cells`, which leaves the cells as they were.
--- - A move that stores its first ring and merely raises the generation for the others: `move-writes` here, and `moved-covers` in `Rings`.
+-- - A move that stores its first ring and merely raises the generation for the others: `move-writes` and `move-call-writes` here, and `moved-covers` in `Rings`.
 --   Edit of crate `moves`: `first_ring_only_stored`.
 -- - A change count that does not equal the records written: `preview-writes` here. Edits: `every_bin_counted` of this crate, `equal_cells_counted` of crate `changes`.
 use mathlib.Core.Path.{_≡_, refl, sym, ap, _∙_, subst}
@@ -42,9 +42,11 @@ use Rattle.changes.proofs.Stocks.{stock-good}
 use Rattle.changes.proofs.Accepted.{good-bins}
 use Rattle.changes.proofs.Proposal.{act-cuts}
 use Rattle.changes.proofs.Becomes.{difference-is}
+use Rattle.rings.specs.declared.Ring.{Ring}
 use Rattle.rings.specs.Ring.{covered, clip}
 use Rattle.rings.specs.Store.{extentOf, ringsOf}
-use Rattle.moves.specs.Move.{Left, generationAfter, moveOf}
+use Rattle.moves.specs.declared.Moved.the-variants.{Stored}
+use Rattle.moves.specs.Move.{Left, generationAfter, moveOf, Moves}
 use Rattle.moves.proofs.Answered.{answered}
 use Rattle.moves.proofs.Accepted.{taken}
 use Rattle.cuts.specs.declared.Tool.{Tool}
@@ -54,7 +56,7 @@ use Rattle.demands.specs.Tool.{Cutter, cutterAct, cutterPreview, cutterG
 use Rattle.demands.specs.Wrote.{NearestRoot, Lists, Previews, Writes}
 use Rattle.demands.proofs.InTurn.{lent-commits}
 use Rattle.demands.proofs.Tools.{tool-sound, accepted-good, good-accepted, tool-rule}
-use Rattle.demands.proofs.Rings.{moved-covers}
+use Rattle.demands.proofs.Rings.{left-by, moved-covers}
 use Rattle.demands.proofs.Written.{changes-list, changes-written}
 
 -- ---- the root
@@ -171,3 +173,11 @@ pub move-writes : (spec : TurnStockSpec) (cs xs : List Float) (count g : ℕ) (i
 move-writes spec cs xs count g is ys k removed a h =
     let t = taken spec cs xs count g is ys k removed a h in
     (subst (Writes (changesFrom is ys k) cs) (sym (t .cells)) (changes-written spec cs (t .bins) (changesFrom is ys k) (t .stock) (t .pass)), moved-covers spec cs xs count g is ys k removed a h, t .rises)
+
+-- the same of the call: what it leaves in the lent cells and rings
+pub move-call-writes : (spec : TurnStockSpec) (cs cs' xs xs' : List Float) (count g : ℕ) (is : List ℕ) (ys : List Float) (k : ℕ) (removed : List Float) (n h : ℕ) → Moves (moveOf spec cs xs count g is ys k removed) (Stored n h) cs cs' xs xs'
+    → Writes (changesFrom is ys k) cs cs' × ((z r : Float) → covered (ringsOf n xs') z r ≡ (covered (ringsOf count xs) z r || covered (map (clip (extentOf (cleanSpec spec))) (ringsOf (length removed / 4) removed)) z r)) × (h ≡ generationAfter spec g removed)
+move-call-writes spec cs cs' xs xs' count g is ys k removed n h m =
+    let t = left-by m in
+    let w = move-writes spec cs xs count g is ys k removed (t .left) (t .rule) in
+    (subst (Writes (changesFrom is ys k) cs) (sym (t .cells)) (w .0), λ z r. ap (λ (l : List Ring). covered l z r) (t .rings) ∙ w .1 z r, t .generation ∙ w .2)

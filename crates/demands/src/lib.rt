@@ -29,7 +29,8 @@
 // looked at (`proofs/Sights`).
 //
 // Demand 3, of cuts: below. Of rings (`proofs/Rings`): accepted rings cover the same points in every
-// order, and no two stored rings share one.
+// order, and no two stored rings share one; so it is of single rings, of a list, of a move, of several
+// moves in two orders and of a stock rebuilt, by the rules and in the lent memory that the calls leave.
 //
 // A job is a list of cuts over one stock, each previewed and then committed. `specs/Tool` names the
 // cuts. `specs/Run` is a run of the calls, by their promises. `specs/Job` puts the rules one after the
