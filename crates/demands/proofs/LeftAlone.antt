@@ -1,5 +1,5 @@
 -- The first demand over the calls themselves, by their promises: a call is refused exactly as its rule is, a refusal returns its number only, and every lent buffer keeps its contents, but for the two lists that a line of a job is lent as scratch.
--- A buffer that a call is lent to read alone it cannot write: that is its type. Here are those that it is lent to write. Assumes nothing.
+-- A buffer that a call is lent to read alone it cannot write: that is its type. Here are those that it is lent to write; at the C boundary they are in proofs/LeftAlone of turning. Assumes nothing.
 use mathlib.Core.Path.{_≡_, refl, sym, ap, _∙_, subst}
 use mathlib.Core.List.{List}
 use Prim.Native.Nat.{ℕ}
@@ -33,8 +33,10 @@ use Rattle.moves.specs.declared.Moved.the-variants as moved
 use Rattle.moves.specs.Move as moves
 use Rattle.moves.specs.Move.{Left, movedPaper, Moves}
 use Rattle.envelope.specs.Halving.{keptOf, Kept}
+use Rattle.change_slices.specs.Proposal.{Written}
+use Rattle.job_run.specs.declared.line.Carried.{Carried}
 use Rattle.job_run.specs.declared.line.Carried.the-variants as carried
-use Rattle.job_run.specs.Job.{Stand, Carries}
+use Rattle.job_run.specs.Job.{Stand, carriedPaper, jobAfter, Carries}
 use Rattle.demands.specs.Refused.{Asked, Exactly}
 use Rattle.demands.proofs.Asking.{refusalOf, same-number, exactly-as}
 
@@ -55,7 +57,22 @@ unfolding over numbersOf
 preview-left (answers l) c is is' xs xs' h = absurd (no-answer (numberOf c) (length l) (h .answer))
 preview-left (refuses n) c is is' xs xs' h = (same-number (h .answer), h .indices, h .numbers)
 
--- ---- a commit: the cells
+-- ---- a tool's changes into records: the records
+
+pub records-call : {p : Paper (List TurnChange)} {r : Previewed} {rs rs' : List TurnChange} {l : List Asked} → Written p r rs rs' → Exactly p l → Exactly (previewedPaper r) l
+unfolding refusalOf
+records-call {p} {r} h x = exactly-as (previewedPaper r) (ap refusalOf (h .answer) ∙ same p) x
+  where
+    same : (p : Paper (List TurnChange)) → refusalOf (countOf p) ≡ refusalOf p
+    same (answers l) = refl
+    same (refuses n) = refl
+
+pub records-left : (p : Paper (List TurnChange)) (c : Refusal) (rs rs' : List TurnChange) → Written p (previewed.Refused c) rs rs' → (p ≡ refuses (numberOf c)) × (rs' ≡ rs)
+unfolding over
+records-left (answers l) c rs rs' h = absurd (no-answer (numberOf c) (length l) (h .answer))
+records-left (refuses n) c rs rs' h = (same-number (h .answer), h .records)
+
+-- ---- a commit, over flat lists or over records, and `commit_unasked`: the cells
 
 pub commit-call : {p : Paper Committed} {r : Applied} {cs cs' : List Float} {l : List Asked} → Applies p r cs cs' → Exactly p l → Exactly (appliedPaper r) l
 unfolding refusalOf
@@ -114,6 +131,14 @@ move-left (answers k) c cs cs' xs xs' h = absurd (no-answer (numberOf c) _ (h .a
 move-left (refuses n) c cs cs' xs xs' h = (same-number (h .answer), h .cells, h .rings)
 
 -- ---- a line of a job: the cells and the rings. The two lists are scratch of the call: at the last generation a cut has written its changes there when its commit answers 12
+
+pub line-call : {p : Paper Stand} {r : Carried} {cs cs' xs xs' : List Float} {l : List Asked} → Carries p r cs cs' xs xs' → Exactly p l → Exactly (carriedPaper r) l
+unfolding refusalOf
+line-call {p} {r} h x = exactly-as (carriedPaper r) (ap refusalOf (h .answer) ∙ same p) x
+  where
+    same : (p : Paper Stand) → refusalOf (jobAfter p) ≡ refusalOf p
+    same (answers s) = refl
+    same (refuses n) = refl
 
 pub line-left : (p : Paper Stand) (c : Refusal) (cs cs' xs xs' : List Float) → Carries p (carried.Refused c) cs cs' xs xs' → (p ≡ refuses (numberOf c)) × (cs' ≡ cs) × (xs' ≡ xs)
 line-left (answers s) c cs cs' xs xs' h = absurd (no-answer (numberOf c) (s .job) (h .answer))

@@ -1,2 +1,3 @@
 pub mod Given
 pub mod Once
+pub mod LeftAlone
