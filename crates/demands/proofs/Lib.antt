@@ -3,6 +3,7 @@ pub mod Third
 pub mod Tools
 pub mod Calls
 pub mod Example
+pub mod ExampleRings
 pub mod LeastChord
 pub mod Asking
 pub mod First

@@ -64,8 +64,9 @@
 // A difference, committed, gives the second stock's cells where that only removes:
 // `difference-committed` (crate `changes`, `proofs/Becomes`).
 //
-// `proofs/Example` has a job to which this applies, with what it leaves, and a bin that both sides
-// reach, where the order does show. `proofs/LeastChord` computes a nose that the rules certify to
+// `proofs/Example` has jobs to which this applies, from outside and from inside, with a nose and a
+// polygon, the runs of calls that make them, and a bin that both sides reach, where the order does show;
+// `proofs/ExampleRings` a ring taken, a move, a stock rebuilt, a job refused and a line carried out. `proofs/LeastChord` computes a nose that the rules certify to
 // metal that it does not cut: the demands are about the rules, and this is what the rules say. Crate
 // `reach` says in `proofs/Forms` what a cut and the closed form are for each side in least and
 // greatest, and in `proofs/Deepest` what a deepest bound is.
