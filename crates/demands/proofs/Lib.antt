@@ -17,3 +17,4 @@ pub mod JobOrder
 pub mod Once
 pub mod Profile
 pub mod Sees
+pub mod NoseAnswers
