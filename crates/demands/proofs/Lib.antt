@@ -18,3 +18,4 @@ pub mod Once
 pub mod Profile
 pub mod Sees
 pub mod NoseAnswers
+pub mod Cells

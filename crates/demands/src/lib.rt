@@ -14,7 +14,8 @@
 // a preview lists the change of each bin that the cut changes and no other, and its count is that of
 // the records written; a commit writes each change and touches no other bin; what a preview proposes
 // a commit accepts. The programs that this excludes are named there one by one. In the domain every
-// root and every length that a nose asks for answers (`proofs/NoseAnswers`).
+// root and every length that a nose asks for answers (`proofs/NoseAnswers`). What `fill` leaves is a
+// stock, and the bounds of a cell that fits are finite (`proofs/Cells`).
 //
 // Each promise allows one outcome (`proofs/Once`): two answers that meet it are the same, and so is each
 // lent buffer. Every public call is listed there with the law that covers it.
