@@ -552,6 +552,25 @@ fn envelope_points_outside_the_domain() {
     );
 }
 
+/// camlib takes any query.
+#[test]
+fn envelope_queries_outside_the_domain() {
+    let points = vec![[0., 1.], [1., 1.]];
+    let envelope = Envelope::new(points.clone());
+    let (lo, hi) = (f64::NEG_INFINITY, f64::INFINITY);
+    assert_eq!(envelope.radius_range(lo, hi), Some([1., 1.]));
+    let u = f64::NAN;
+    assert_eq!(envelope.radius_at(u), None);
+    let points = points.as_flattened().to_vec();
+    let range = Call::RadiusRange {
+        points: points.clone(),
+        lo,
+        hi,
+    };
+    assert_eq!(here(range), Err(14));
+    assert_eq!(here(Call::RadiusAt { points, u }), Err(14));
+}
+
 /// lo > hi: camlib panics on three points or more that rise.
 #[test]
 fn a_range_turned_about() {
