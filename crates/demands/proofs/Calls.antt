@@ -135,6 +135,10 @@ module _ {spec : TurnStockSpec} {n : ℕ} {k m : Committed} {l : List Cutter} (h
   good : Good spec n (k .cells)
   good = stock-good hs hc e
 
+  -- the cells at its end fit
+  pub run-good : Good spec n (m .cells)
+  run-good = after hs r ht good .good
+
   -- THE CLOSED FORM: a run leaves it in each bin that one side only reaches
   pub run-leaves : (σ : TurnSide) (i : ℕ) → i < n → ToolsAt spec σ i l → cellAt (m .cells) i ≡ closed σ (cellAt (k .cells) i) (ownsAt σ (cellAt (k .cells) i) i (map (cutterAct spec) l))
   run-leaves σ i h os =

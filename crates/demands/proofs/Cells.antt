@@ -70,7 +70,7 @@ module _ {spec : TurnStockSpec} {n : ℕ} (hs : HeldSpec spec) (e : cellsOf spec
         inner = record { lower = i; upper = i; from-bore = le-self (number-of i); in-order = le-self (number-of i); to-outer = t };
       }
 
-  fresh-good : Good spec n (cellsLike (freshCell (cleanSpec spec)) n)
+  pub fresh-good : Good spec n (cellsLike (freshCell (cleanSpec spec)) n)
   fresh-good = record { count = e; long = length-like (freshCell (cleanSpec spec)) n; fit = λ i h. subst (CellFit (cleanSpec spec)) (sym (cell-of-like (freshCell (cleanSpec spec)) n i h)) fresh-cell }
 
   -- FRESH CELLS FIT: they pass 1, 2 and 3

@@ -16,7 +16,7 @@ use Rattle.refusals.specs.Limits.{lastGeneration}
 use Rattle.refusals.specs.Lent.{over}
 use Rattle.refusals.proofs.Written.{over-all}
 use Rattle.floats.specs.Each.{Each}
-use Rattle.floats.specs.Pick.{pick, pick-false}
+use Rattle.floats.specs.Pick.{pick, pick-true, pick-false}
 use Rattle.floats.proofs.Folds.{each-perm}
 use Rattle.stock.specs.declared.TurnStockSpec.{TurnStockSpec}
 use Rattle.stock.specs.declared.TurnChange.{TurnChange}
@@ -39,7 +39,7 @@ use Rattle.job_words.specs.declared.Line.the-variants as line
 use Rattle.job_words.specs.Number.{positive, negative, fieldNumber}
 use Rattle.job_words.specs.Kind.{mmOf, at, numbers, barOf, noseOn, noseOf, threadOf, threadInnerOf, drillOf, ringOf, kindOf, lineOf, fieldsOf}
 use Rattle.job_run.specs.declared.line.Job.{Job}
-use Rattle.job_run.specs.Job.{Stand, stand, lineLimit, fullRoom, cellsOfJob, madeCut, cutLine, laterLine, jobLine}
+use Rattle.job_run.specs.Job.{Stand, stand, lineLimit, fullRoom, cellsOfJob, madeCut, cutLine, firstLine, laterLine, jobLine}
 use Rattle.lines.specs.File.{piecesOf}
 use Rattle.job_run.specs.Run as run
 use Rattle.job_run.specs.Run.{State, next, outputOf, jobOf}
@@ -72,7 +72,7 @@ field-held (b ∷ l) = go (eqb b 45)
     go true = below (wholeOf l)
     go false = above (wholeOf (b ∷ l))
 
-at-held : (fs : List (List ℕ)) (i : ℕ) → T (fits binary64 (at fs i))
+pub at-held : (fs : List (List ℕ)) (i : ℕ) → T (fits binary64 (at fs i))
 unfolding at
 at-held fs i = field-held (getD fs i [])
 
@@ -85,7 +85,7 @@ either-held true a b p q = p
 either-held false a b p q = q
 
 -- the cut of a line, if it is one
-line-held : (l : List ℕ) → HeldCut (cutIn (lineOf l))
+pub line-held : (l : List ℕ) → HeldCut (cutIn (lineOf l))
 unfolding lineOf kindOf barOf noseOf noseOn threadOf threadInnerOf drillOf ringOf cutIn
 line-held l =
     let fs = fieldsOf l in
@@ -106,7 +106,7 @@ lines-held (l ∷ ls) = (line-held l, lines-held ls)
 -- ---- cells over the front of others
 
 module _ (a : ℕ) (xs cs : List Float) (e : length xs ≡ length (take a cs)) where
-  front-is : take a (over xs cs) ≡ xs
+  pub front-is : take a (over xs cs) ≡ xs
   unfolding over
   front-is = go (leb a (length cs)) refl
     where
@@ -131,7 +131,7 @@ module _ (a : ℕ) (xs cs : List Float) (e : length xs ≡ length (take a cs)) w
           ap (drop a) (over-all xs cs k) ∙ drop-of-length-le xs {i = a} (omega arith) ∙ sym (drop-of-length-le cs {i = a} (omega arith))
 
 -- a commit leaves as many numbers
-commit-long : (spec : TurnStockSpec) (cs : List Float) (gen : ℕ) (l : List TurnChange) (k : Committed) → commitOf spec cs gen l ≡ answers k → length (k .cells) ≡ length cs
+pub commit-long : (spec : TurnStockSpec) (cs : List Float) (gen : ℕ) (l : List TurnChange) (k : Committed) → commitOf spec cs gen l ≡ answers k → length (k .cells) ≡ length cs
 unfolding commitOf commitIn
 commit-long spec cs gen l k h =
     let s = answered (stockOf spec cs) _ k h in
@@ -143,14 +143,14 @@ commit-long spec cs gen l k h =
 -- ---- one line that is a cut
 
 -- it was previewed, and its changes committed
-record CutMade (st : State) (l : List ℕ) (s : Stand) : Type 0 where
-  changes : List TurnChange
-  left : Committed
-  preview : cutterPreview (st .run .job .spec) (lineCutter l) (ownOf st .cells) fullRoom ≡ answers changes
-  commit : commitOf (st .run .job .spec) (ownOf st .cells) (ownOf st .generation) changes ≡ answers left
-  stood : s ≡ stand (record { spec = st .run .job .spec; cells = st .run .job .cells; rings = st .run .job .rings; generation = left .generation }) (over (left .cells) (st .cells)) (st .rings)
+pub record CutMade (st : State) (l : List ℕ) (s : Stand) : Type 0 where
+  pub changes : List TurnChange
+  pub left : Committed
+  pub preview : cutterPreview (st .run .job .spec) (lineCutter l) (ownOf st .cells) fullRoom ≡ answers changes
+  pub commit : commitOf (st .run .job .spec) (ownOf st .cells) (ownOf st .generation) changes ≡ answers left
+  pub stood : s ≡ stand (record { spec = st .run .job .spec; cells = st .run .job .cells; rings = st .run .job .rings; generation = left .generation }) (over (left .cells) (st .cells)) (st .rings)
 
-cut-made : (st : State) (l : List ℕ) (s : Stand) → IsCut l → eqb (st .run .job .cells) 0 ≡ false → lineIn st l ≡ answers s → CutMade st l s
+pub cut-made : (st : State) (l : List ℕ) (s : Stand) → IsCut l → eqb (st .run .job .cells) 0 ≡ false → lineIn st l ≡ answers s → CutMade st l s
 unfolding jobLine laterLine cutLine madeCut previewTool
 cut-made st l s c b e =
     let j = st .run .job in
@@ -160,6 +160,15 @@ cut-made st l s c b e =
     let m = answered (madeCut (j .spec) (cellsOfJob j (st .cells)) (j .generation) u fullRoom) _ s f in
     let p = answered (previewCut (j .spec) (cellsOfJob j (st .cells)) u fullRoom) _ (m .value) (m .first) in
     record { changes = p .value; left = m .value; preview = p .first; commit = p .then; stood = sym (same-answer (m .then)) }
+
+-- a cut is carried out after the bar alone
+cut-later : (st : State) (l : List ℕ) (s : Stand) → IsCut l → lineIn st l ≡ answers s → eqb (st .run .job .cells) 0 ≡ false
+unfolding jobLine firstLine
+cut-later st l s c e = by (eqb (st .run .job .cells) 0) refl
+  where
+    by : (t : Bool) → eqb (st .run .job .cells) 0 ≡ t → t ≡ false
+    by false b = refl
+    by true b = absurd (no-answer 15 s (ap (λ (x : Line). firstLine x (st .cells) (st .rings)) (sym c) ∙ sym (pick-true _ _ _ b) ∙ demanded _ _ _ _ e .1))
 
 -- ---- lines that are cuts
 
@@ -237,12 +246,13 @@ no-lines [] e = refl
 no-lines (x ∷ l) e = absurd (omega arith)
 
 -- LINES THAT ARE CUTS OF ONE SIDE, IN ANY ORDER, all of them carried out, leave the same run: job, cells, rings and number of lines. The numbers in lent memory are values of f64.
-pub cuts-any-order : (st m m' : State) (ls ls' : List (List ℕ)) → List·Permᴰ ls ls' → st .run .refused ≡ 0 → eqb (st .run .job .cells) 0 ≡ false → HeldSpec (st .run .job .spec) → HeldList (ownOf st .cells) → Each IsCut ls
+pub cuts-any-order : (st m m' : State) (ls ls' : List (List ℕ)) → List·Permᴰ ls ls' → st .run .refused ≡ 0 → HeldSpec (st .run .job .spec) → HeldList (ownOf st .cells) → Each IsCut ls
     → (σ : TurnSide) → ToolsOf (st .run .job .spec) σ (map lineCutter ls) → linesOn st ls ≡ answers m → linesOn st ls' ≡ answers m' → m ≡ m'
 unfolding linesOn
-cuts-any-order st m m' [] ls' d g b hs hc cs σ os e e' = same-answer (sym e ∙ ap (linesOn st) (sym (no-lines ls' (perm-length d))) ∙ e')
-cuts-any-order st m m' (l ∷ ls) ls' d g b hs hc cs σ os e e' =
+cuts-any-order st m m' [] ls' d g hs hc cs σ os e e' = same-answer (sym e ∙ ap (linesOn st) (sym (no-lines ls' (perm-length d))) ∙ e')
+cuts-any-order st m m' (l ∷ ls) ls' d g hs hc cs σ os e e' =
     let a = answered (lineIn st l) _ m e in
+    let b = cut-later st l (a .value) (cs .0) (a .first) in
     let c = cut-made st l (a .value) (cs .0) b (a .first) in
     let s = preview-is (st .run .job .spec) (lineCutter l) (ownOf st .cells) fullRoom (c .changes) (c .preview) in
     same-states st m m' (l ∷ ls) ls' d hs hc σ os (cuts-made (l ∷ ls) st m g b cs e) (cuts-made ls' st m' g b (each-perm IsCut d cs) e') (s .0) (s .1)
@@ -267,13 +277,13 @@ lines-behind ks bs st m end e f = sym (onward-answers m (λ x. linesOn x bs)) �
 -- THE DEMAND: two jobs that differ in the order of lines one after the other that are cuts of one side, neither of them refused, write the same bytes. `reached` is the run where those lines begin.
 module _ (st reached : State) (before ls ls' after : List (List ℕ)) (s s' : List ℕ) (end end' : State) (o : NoneOffends st (piecesOf s) end) (o' : NoneOffends st (piecesOf s') end')
     (e : o .lines ≡ before ++ (ls ++ after)) (e' : o' .lines ≡ before ++ (ls' ++ after)) (d : List·Permᴰ ls ls') (g : st .run .refused ≡ 0) (b : linesOn st before ≡ answers reached) where
-  pub job-any-order : reached .run .refused ≡ 0 → eqb (reached .run .job .cells) 0 ≡ false → HeldSpec (reached .run .job .spec) → HeldList (ownOf reached .cells) → Each IsCut ls → (σ : TurnSide) → ToolsOf (reached .run .job .spec) σ (map lineCutter ls)
+  pub job-any-order : reached .run .refused ≡ 0 → HeldSpec (reached .run .job .spec) → HeldList (ownOf reached .cells) → Each IsCut ls → (σ : TurnSide) → ToolsOf (reached .run .job .spec) σ (map lineCutter ls)
       → outputOf (jobOf st s) ≡ outputOf (jobOf st s')
-  job-any-order r c hs hc cs σ os =
+  job-any-order r hs hc cs σ os =
       let f = lines-behind before (ls ++ after) st reached end b (ap (linesOn st) (sym e) ∙ o .carried) in
       let f' = lines-behind before (ls' ++ after) st reached end' b (ap (linesOn st) (sym e') ∙ o' .carried) in
       let a = answered (linesOn reached ls) _ end (sym (lines-split ls after reached) ∙ f) in
       let a' = answered (linesOn reached ls') _ end' (sym (lines-split ls' after reached) ∙ f') in
-      let m = cuts-any-order reached (a .value) (a' .value) ls ls' d r c hs hc cs σ os (a .first) (a' .first) in
+      let m = cuts-any-order reached (a .value) (a' .value) ls ls' d r hs hc cs σ os (a .first) (a' .first) in
       let same : end ≡ end' = same-answer (sym (a .then) ∙ ap (λ (x : State). linesOn x after) m ∙ a' .then) in
       ap outputOf (job-answered st s g end o .0 ∙ same ∙ sym (job-answered st s' g end' o' .0))

@@ -19,3 +19,4 @@ pub mod Profile
 pub mod Sees
 pub mod NoseAnswers
 pub mod Cells
+pub mod JobHeld

@@ -52,8 +52,9 @@
 // The same of other runs (`proofs/Runs`): with the change list as records (`records-ran`), with commits
 // that ask nothing again (`unasked-ran`), and of calls whose answers are not known beforehand: with room
 // for every cell, cuts in their domain and generations to spare, whatever meets the promises is accepted
-// (`tried-accepted`), so that every order is (`tried-any-order`). Of a job (`proofs/JobOrder`): lines that
-// are cuts of one side write the same bytes in every order, where no line is refused (`job-any-order`).
+// (`tried-accepted`), so that every order is (`tried-any-order`). Of a job (`proofs/JobOrder`,
+// `proofs/JobHeld`): lines that are cuts of one side write the same bytes in every order, where no line
+// is refused (`job-order`).
 //
 // By the rules alone (`proofs/Tools`: `tools-leave`, `tools-any-order`, `tools-any-order-bin`,
 // `tools-however-often`) the same holds, and no cut is refused: where every cut is in its domain,
