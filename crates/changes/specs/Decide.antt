@@ -1,3 +1,4 @@
+-- Proved equal to `commitOf` (`conclude-is`, proofs/Decided); need not be believed.
 -- A list of changes that is decided change by change: how far it is, one change on, and how it comes out. Assumes nothing.
 use mathlib.Core.Bool.{Bool, true, false, not, _&&_, _||_}
 use mathlib.Core.List.{List, foldl}

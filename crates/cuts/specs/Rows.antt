@@ -1,3 +1,4 @@
+-- Proved equal to `nose/specs/Nose` and `polygon/specs/Polygon` by the proofs of the previews; need not be believed.
 -- Low and high of all bins in two lent rows, two places a bin: a number, and whether it is there. A pass over the bins fills them, cut by cut, and where the bins' ends fall tells it which bins to visit. Assumes nothing.
 use mathlib.Core.Path.{_≡_}
 use mathlib.Core.Bool.{Bool, true, false, not}

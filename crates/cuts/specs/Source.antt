@@ -1,3 +1,4 @@
+-- Proved equal to `cutAct`, `noseAct` and `polygonAct` by the proofs of the previews; need not be believed.
 -- Where the loop over the bins takes from what a cut reaches: from the numbers of a thread or a drill, or from rows that were filled before; and which bins it visits. Assumes nothing.
 use mathlib.Core.Path.{_≡_}
 use mathlib.Core.Bool.{Bool, true, _&&_}

@@ -1,4 +1,5 @@
--- A segment with what no bin changes worked out once: the form the fast passes take. That it says the same as Nose.antt is proved (proofs/Tracks.antt). Assumes nothing.
+-- Proved equal to `specs/Nose` (proofs/Tracks); need not be believed.
+-- A segment with what no bin changes worked out once: the form the fast passes take. Assumes nothing.
 use mathlib.Core.Bool.{Bool, true, false, _&&_, _||_}
 use mathlib.Core.Option.{Option, none, some}
 use lib.Ieee.{Float, lt, le, eq, ne}

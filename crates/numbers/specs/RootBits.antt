@@ -1,3 +1,4 @@
+-- Proved equal to `rootOf` by the proof of `root` (proofs/Nearest); need not be believed.
 -- The parts of the root's work: the whole number nearest to a root, and the bits of an f64. Assumes nothing.
 use mathlib.Core.Path.{_≡_}
 use Prim.Native.Nat.{ℕ, suc, _+_, _-_, _*_, _/_, _%_, _^_}

@@ -1,3 +1,4 @@
+-- Proved equal to `volumeOf` (proofs/Passes); need not be believed.
 -- Both bounds of the volume in one pass, as the functions hand them on. Assumes nothing.
 use Prim.Native.Nat.{ℕ}
 use mathlib.Core.List.{List}

@@ -9,7 +9,7 @@ use Rattle.stock.specs.declared.TurnSide.the-variants.{Outer, Inner}
 use Rattle.reach.specs.declared.Reach.{Reach}
 use Rattle.reach.specs.declared.Reach.the-variants.{Passed, Low, Both}
 
--- the bin is passed over; a low only; a low and a high
+-- The bin is passed over; a low only; a low and a high. The low is for the deep bound and the high for the sure one, inside too, where the low is the greater radius.
 pub data Reached : Type 0 where
   passed : Reached
   low : Float → Reached

@@ -1,3 +1,4 @@
+-- Proved equal to `countFits` by the proof of `rings_fit` (proofs/Boxes); need not be believed.
 -- Boxes about blocks of 16 stored rings, by which whole blocks are found apart from a ring at once. Assumes nothing.
 use Prim.Native.Nat.{ℕ, _/_, _%_, _≤_, _<_}
 use mathlib.Core.Bool.{Bool}

@@ -1,3 +1,4 @@
+-- Proved equal to `subtractAll` and `inHand` (proofs/InHand); need not be believed.
 -- The pieces in hand, in a buffer with room for so many. Where there are more, one more than the room stands for their number. Assumes nothing.
 use Prim.Native.Nat.{ℕ, _+_, _*_, _≤_, min}
 use mathlib.Core.Path.{_≡_}

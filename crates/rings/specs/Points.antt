@@ -1,4 +1,5 @@
--- What the theorems say of points: how many rings cover one, and that no two rings share one. Assumes nothing.
+-- What the theorems say of points: how many rings cover one, and that no two rings share one. A point is any pair of numbers m * 2 ^ e, however large m and however small e, so that what holds of
+-- every point holds of every real (z, r): a ring is half open, and its edges are such numbers. Assumes nothing.
 use Prim.Native.Nat.{ℕ, _+_, _≤_}
 use mathlib.Core.Bool.{Bool, true, false}
 use mathlib.Core.List.{List, [], _∷_}

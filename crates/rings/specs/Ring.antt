@@ -33,7 +33,7 @@ covered (q ∷ qs) z r = covers q z r || covered qs z r
 abbrev pub filled : Ring → Bool
 filled q = lt (q .z0) (q .z1) && lt (q .r0) (q .r1)
 
--- one ends where the other starts, or before it, in z or in r
+-- one ends where the other starts, or before it, in z or in r; of two that are not empty, as 000 asks it of what they have in common (`apart-as-000`, proofs/Cover)
 abbrev pub apart : Ring → Ring → Bool
 apart p k = le (p .z1) (k .z0) || le (k .z1) (p .z0) || le (p .r1) (k .r0) || le (k .r1) (p .r0)
 

@@ -61,6 +61,7 @@ between s c =
     le (s .«bore_radius_mm») (c .outer .«lower_mm») && le (c .outer .«lower_mm») (c .outer .«upper_mm») && le (c .outer .«upper_mm») (s .«outer_radius_mm»)
     && le (s .«bore_radius_mm») (c .inner .«lower_mm») && le (c .inner .«lower_mm») (c .inner .«upper_mm») && le (c .inner .«upper_mm») (s .«outer_radius_mm»)
 
+-- Both pairs fit. In a spec that is not refused bore and outer radius are finite, and so then are the four bounds (`cell-finite` of `demands`); a spec of infinities lets infinities fit.
 unfoldable pub cellFits : TurnStockSpec → TurnCell → Bool
 cellFits s c = pairFits s (c .outer) && pairFits s (c .inner)
 
