@@ -45,6 +45,15 @@ pub mod c {
         turning_radius_range(
             points: In, points_len: usize, lo: f64, hi: f64, found: *mut u32, lowest: Out, highest: Out
         );
+        turning_job_take(
+            state: *mut [u64; 8], bar: *mut [f64; 5], cells: *mut [f64; 2048], rings: *mut [f64; 256],
+            line: *mut [u8; 128], bytes: *const u8, bytes_len: usize
+        );
+        turning_job_finish(state: *const [u64; 8], line: *mut u64);
+        turning_job_output(
+            state: *const [u64; 8], cells: *const [f64; 2048], rings: *const [f64; 256], k: usize,
+            out: *mut [u8; 128], len: Size
+        );
     }
     declare_with_spec! {
         turning_validate(n: Size);

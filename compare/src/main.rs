@@ -1,8 +1,8 @@
 //! compare whole [SECONDS] [SEED] [PROGRAM..]
 //! compare FAMILY|all [COUNT] [SEED] | thousandths [STEP] | far [COUNT] [SEED] | record [COUNT] [SEED] [FAMILY] | bench [WORD] [PICTURE]
 //! compare stack [COUNT] [SEED]
-//! compare jobs [COUNT] [SEED] PROGRAM [WORD..] | job | job_bench PROGRAM [WORD..]
-use compare::generate::{FAMILIES, SEQUENCE};
+//! compare jobs [COUNT] [SEED] PROGRAM [WORD..] | job | job_bench PROGRAM [WORD..] | parts_bench
+use compare::generate::{FAMILIES, JOB_PARTS, SEQUENCE};
 use compare::{bench, far, jobs, record, run, stack, whole};
 use std::io::{Read, Write};
 use std::process::ExitCode;
@@ -30,7 +30,8 @@ fn usage() -> ExitCode {
     eprintln!("compare jobs COUNT SEED PROGRAM..   so many jobs through a job program");
     eprintln!("compare job                     the job on standard input, over the Rust");
     eprintln!("compare job_bench PROGRAM..     times a job program beside the Rust");
-    let families = FAMILIES.iter().chain([&SEQUENCE]);
+    eprintln!("compare parts_bench             times a job in parts, through the C calls");
+    let families = FAMILIES.iter().chain([&SEQUENCE, &JOB_PARTS]);
     let names = families.map(|(name, count)| format!("{name} ({count})"));
     let names: Vec<String> = names.collect();
     eprintln!("families: {}", names.join(", "));
@@ -50,6 +51,10 @@ fn main() -> ExitCode {
     }
     if name == "job_bench" && words.len() > 1 {
         jobs::bench(&words[1..], 100_000);
+        return ExitCode::SUCCESS;
+    }
+    if name == "parts_bench" {
+        jobs::parts_bench();
         return ExitCode::SUCCESS;
     }
     if name == "bench" {
@@ -85,7 +90,7 @@ fn main() -> ExitCode {
         let differences = jobs::compare(&words[3..], count as usize, seed);
         return ExitCode::from((differences > 0) as u8);
     }
-    let mut families = FAMILIES.iter().chain([&SEQUENCE]);
+    let mut families = FAMILIES.iter().chain([&SEQUENCE, &JOB_PARTS]);
     let family = families.find(|(family, ..)| family == name);
     let default = match (name.as_str(), family) {
         (_, Some((_, count))) => *count as u64,
@@ -127,7 +132,7 @@ fn main() -> ExitCode {
         }
         "all" => {
             let mut differences = 0;
-            for (family, default) in FAMILIES.iter().chain([&SEQUENCE]) {
+            for (family, default) in FAMILIES.iter().chain([&SEQUENCE, &JOB_PARTS]) {
                 differences += run::family(family, default / 100 * count, seed);
             }
             return ExitCode::from((differences > 0) as u8);

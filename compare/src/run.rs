@@ -1,8 +1,9 @@
 //! Runs a family: every call of it by the oracle and by the library.
 use crate::call::{Call, Outcome};
 use crate::count::Counts;
-use crate::generate::{self, Rng, SEQUENCE};
+use crate::generate::{self, JOB_PARTS, Rng, SEQUENCE};
 use crate::guess::{Guess, guess};
+use crate::jobs::Parts;
 use crate::memory::Memory;
 use crate::sequence::Sequences;
 use crate::shrink::shrink;
@@ -31,6 +32,9 @@ struct Calls {
 pub fn source(name: &str, seed: u64) -> Box<dyn Source> {
     if name == SEQUENCE.0 {
         return Box::new(Sequences::new(seed));
+    }
+    if name == JOB_PARTS.0 {
+        return Box::new(Parts::new(seed));
     }
     Box::new(Calls {
         name: name.into(),

@@ -1,6 +1,7 @@
 //! How much stack each call needs: a thread's stack is painted, and where the paint is gone after calls of every kind tells.
 //! What is counted begins in the caller, so that it is never less than what the call itself takes.
 use crate::generate::{FAMILIES, Rng, family};
+use crate::jobs::parts;
 use crate::memory::Memory;
 use crate::{call::Call, library, limits};
 use std::collections::BTreeMap;
@@ -34,18 +35,25 @@ fn used(top: usize) -> usize {
     touched.map_or(0, |word| top - word as usize)
 }
 
-/// The bytes of stack from this frame down to the deepest that the call wrote.
+/// The bytes of stack from this frame down to the deepest that a run wrote.
 #[inline(never)]
-pub fn needs(call: &Call) -> usize {
-    let mut memory = Memory::of(call);
+pub fn used_by(run: impl FnOnce()) -> usize {
     let here = 0_u64;
     let top = black_box(&here) as *const u64 as usize;
     paint(top);
-    black_box(library::run(call, black_box(&mut memory)));
+    run();
     used(top)
 }
 
-/// The most of each call, over COUNT calls of each family from the seed and every call at a limit.
+/// The same of a call.
+pub fn needs(call: &Call) -> usize {
+    let mut memory = Memory::of(call);
+    used_by(|| {
+        black_box(library::run(call, black_box(&mut memory)));
+    })
+}
+
+/// The most of each call, over COUNT calls of each family and COUNT jobs from the seed, and every call at a limit.
 pub fn most(count: usize, seed: u64) -> BTreeMap<&'static str, usize> {
     let measure = move || {
         let mut most = BTreeMap::new();
@@ -58,6 +66,10 @@ pub fn most(count: usize, seed: u64) -> BTreeMap<&'static str, usize> {
         for (name, ..) in FAMILIES {
             let (make, mut rng) = (family(name).expect("a family"), Rng::new(seed));
             (0..count).for_each(|_| add(make(&mut rng)));
+        }
+        for (name, bytes) in parts::stack(count, seed) {
+            let entry = most.entry(name).or_insert(0);
+            *entry = bytes.max(*entry);
         }
         most
     };

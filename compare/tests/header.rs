@@ -2,6 +2,7 @@
 //! each parameter's name and type, in order. Every call is compared and timed, and needs no more stack than the header says.
 use compare::bench;
 use compare::generate::{FAMILIES, Rng, family};
+use compare::jobs::parts;
 use compare::stack;
 use std::collections::{BTreeMap, BTreeSet};
 
@@ -81,6 +82,7 @@ fn number(name: &str) -> &str {
     match name {
         "f64" => "double",
         "usize" => "size_t",
+        "u8" => "uint8_t",
         "u32" => "uint32_t",
         "u64" => "uint64_t",
         "i32" => "int32_t",
@@ -88,10 +90,38 @@ fn number(name: &str) -> &str {
     }
 }
 
+/// The arrays that are lent have these lengths.
+fn array_length(name: &str) -> usize {
+    match name {
+        "WORDS" => 8,
+        "BAR" => 5,
+        "CELL_NUMBERS" => 2048,
+        "RING_NUMBERS" => 256,
+        "LINE_LIMIT" | "LINE_ROOM" => 128,
+        other => other.parse().expect("a length"),
+    }
+}
+
+/// An array of a fixed length as C has it, lent to be written or (`const `) to be read.
+fn array(constant: &str, kind: &str, name: &str) -> Option<String> {
+    let (of, length) = kind
+        .strip_prefix('[')?
+        .strip_suffix(']')?
+        .split_once("; ")?;
+    let (of, length) = (number(of), array_length(length));
+    Some(format!("{constant}{of} {name}[{length}]"))
+}
+
 /// A parameter of the code as C has it: a slice is a pointer and a length.
 fn of_code(text: &str) -> Vec<String> {
     let (name, kind) = text.split_once(": ").unwrap();
     let length = format!("size_t {name}_len");
+    for (mark, constant) in [("&mut ", ""), ("&", "const ")] {
+        let kind = kind.strip_prefix(mark);
+        if let Some(found) = kind.and_then(|k| array(constant, k, name)) {
+            return vec![found];
+        }
+    }
     if let Some(n) = kind.strip_prefix("&mut [") {
         return vec![
             format!("{} * {name}", number(n.trim_end_matches(']'))),
@@ -141,11 +171,23 @@ fn of_library(kind: &str) -> String {
         "Out" => "double *".into(),
         "Sizes" => "const size_t *".into(),
         "Size" => "size_t *".into(),
-        _ => match kind.strip_prefix("*mut ") {
-            Some(n) => format!("{} *", number(n)),
-            None => number(kind).into(),
+        _ => match (kind.strip_prefix("*mut "), kind.strip_prefix("*const ")) {
+            (Some(n), _) => format!("{} *", number(n)),
+            (_, Some(n)) => format!("const {} *", number(n)),
+            _ => number(kind).into(),
         },
     }
+}
+
+/// A parameter of src/library.rs in C's words.
+fn parameter_of_library(name: &str, kind: &str) -> String {
+    for (mark, constant) in [("*mut ", ""), ("*const ", "const ")] {
+        let kind = kind.strip_prefix(mark);
+        if let Some(found) = kind.and_then(|k| array(constant, k, name)) {
+            return found;
+        }
+    }
+    format!("{} {name}", of_library(kind))
 }
 
 /// The declarations of src/library.rs.
@@ -153,7 +195,7 @@ fn library() -> Calls {
     let text = read("compare/src/library.rs");
     let of = |part: &str| {
         part.split_once(": ")
-            .map(|(name, kind)| format!("{} {name}", of_library(kind)))
+            .map(|(name, kind)| parameter_of_library(name, kind))
     };
     let returned = text.split("-> ").nth(1).unwrap().split(';').next().unwrap();
     let spec = &text[text.find("z_min: f64").unwrap()..];
@@ -204,12 +246,16 @@ fn every_call_is_compared() {
         let (make, mut rng) = (family(name).unwrap(), Rng::new(1));
         made.extend((0..100).map(|_| make(&mut rng).name().to_string()));
     }
+    made.extend(parts::NAMES.map(String::from));
     assert_eq!(made, declared());
 }
 
 #[test]
 fn every_call_is_timed() {
-    let timed: BTreeSet<String> = bench::names().map(String::from).collect();
+    let timed: BTreeSet<String> = bench::names()
+        .chain(parts::NAMES)
+        .map(String::from)
+        .collect();
     assert_eq!(timed, declared());
 }
 

@@ -100,3 +100,6 @@ pub const FAMILIES: [(&str, usize); 17] = [
 
 /// Sequences of calls on one stock.
 pub const SEQUENCE: (&str, usize) = ("sequence", 20_000);
+
+/// Jobs handed over in parts.
+pub const JOB_PARTS: (&str, usize) = ("job_parts", 20_000);

@@ -1,6 +1,7 @@
 //! The times of long jobs, of a job program and of the one over camlib.
 use super::driver::written;
 use super::generate::cut_line;
+use super::parts::answered;
 use super::program::run;
 use crate::generate::Rng;
 use std::time::Instant;
@@ -71,5 +72,34 @@ pub fn bench(program: &[String], lines: usize) {
             shown(rust),
             shown(ours)
         );
+    }
+}
+
+/// Prints the time of a job of some 300 KiB through the C calls, in parts of several sizes.
+pub fn parts_bench() {
+    let mut rng = Rng::new(26);
+    let input = long_job(&mut rng, 10_000, |kind| kind != "ring");
+    let expected = run(input.as_bytes());
+    println!(
+        "## A job of {} bytes in parts, through the C calls\n",
+        input.len()
+    );
+    println!("The median of {JOB_RUNS} runs in ms, and the least and the greatest in brackets.\n");
+    println!(
+        "| bytes in a part | parts | time | a part, over the whole at once |\n|---|---|---|---|"
+    );
+    let mut whole = 0.;
+    for size in [input.len(), 4096, 16, 1] {
+        let (found, [median, least, most]) = timed(&input, |input| answered(input.chunks(size)));
+        assert!(
+            found == expected,
+            "parts of {size} bytes: the answers differ"
+        );
+        let parts = input.len().div_ceil(size);
+        if parts == 1 {
+            whole = least;
+        }
+        let each = (least - whole) * 1e6 / parts as f64;
+        println!("| {size} | {parts} | {median:.1} ({least:.1}..{most:.1}) | {each:.0} ns |");
     }
 }

@@ -53,7 +53,7 @@ impl Source for Jobs {
 }
 
 /// The number of a job's refusal, or 0.
-fn refusal(output: &[u8]) -> u32 {
+pub fn refusal(output: &[u8]) -> u32 {
     let text = String::from_utf8_lossy(output);
     let refused = text.strip_prefix("refused\t");
     let number = refused.and_then(|t| t.trim_end().rsplit('\t').next());

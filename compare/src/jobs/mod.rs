@@ -2,8 +2,10 @@
 mod bench;
 mod driver;
 mod generate;
+pub mod parts;
 mod program;
 
-pub use bench::bench;
+pub use bench::{bench, parts_bench};
 pub use driver::{Jobs, compare};
+pub use parts::Parts;
 pub use program::run;

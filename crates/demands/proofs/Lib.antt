@@ -20,3 +20,6 @@ pub mod Sees
 pub mod NoseAnswers
 pub mod Cells
 pub mod JobHeld
+pub mod Streamed
+pub mod FieldNumbers
+pub mod JobNumbers

@@ -30,6 +30,11 @@
 // there, or a band within the one before. Crate `queries` has what an answer says of the bins that are
 // looked at (`proofs/Sights`).
 //
+// Jobs longer than memory (`proofs/Streamed`): however the bytes of a job are cut into parts for
+// `take_part`, and whatever the lent room held, the bytes that `output_line` puts after `finish` are the
+// answer to the whole file. `proofs/JobNumbers`: a job is refused with 1, 2, 5, 11, 13 or 15, and with
+// 12 only where its generation is the last; and its cells and rings fit after every line.
+//
 // Demand 3, of cuts: below. Of rings (`proofs/Rings`): accepted rings cover the same points in every
 // order, and no two stored rings share one; so it is of single rings, of a list, of a move, of several
 // moves in two orders and of a stock rebuilt, by the rules and in the lent memory that the calls leave.

@@ -3,3 +3,5 @@ pub mod Made
 pub mod Lines
 pub mod Bytes
 pub mod WholeFile
+pub mod Room
+pub mod Streamed

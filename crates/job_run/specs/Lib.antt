@@ -1,2 +1,3 @@
 pub mod Job
 pub mod Run
+pub mod InParts

@@ -2,3 +2,4 @@ pub mod Hands
 pub mod Parts
 pub mod OneFile
 pub mod AnyCut
+pub mod Alike

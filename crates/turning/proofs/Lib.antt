@@ -1,3 +1,5 @@
 pub mod Given
 pub mod Once
 pub mod LeftAlone
+pub mod Keeping
+pub mod JobCut

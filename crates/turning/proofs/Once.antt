@@ -13,6 +13,9 @@
 --   gives-store-once      turning_from_parts
 --   gives-found-once      turning_radius_at
 --   gives-found-two-once  turning_envelope_at, turning_radius_range
+--   takes-job-once        turning_job_take
+--   ends-job-once         turning_job_finish
+--   writes-job-once       turning_job_output
 -- A buffer that is lent to be read only is as it was.
 use mathlib.Core.Path.{_≡_, sym, _∙_}
 use mathlib.Core.List.{List}
@@ -27,6 +30,9 @@ use Rattle.changes.specs.Commit.{Committed}
 use Rattle.rings.specs.declared.Ring.{Ring}
 use Rattle.rings.specs.Remove.{RingStore}
 use Rattle.moves.specs.Move.{Left}
+use Rattle.job_run.specs.declared.Run.{Run}
+use Rattle.job_run.specs.Run.{State, Hold}
+use Rattle.turning.specs.Jobs.{TakesJob, EndsJob, WritesJob}
 use Rattle.turning.specs.Boundary.{Gives, GivesTwo, GivesBin, GivesCells, GivesChanges, GivesStock, GivesRings, GivesMove, GivesStore, GivesFound, GivesFoundTwo}
 
 -- one number
@@ -73,3 +79,17 @@ gives-found-once p r r' f f₁ f₂ x x₁ x₂ a b = (a .code ∙ sym (b .code)
 -- two numbers, if they are found
 pub gives-found-two-once : {A : Type 0} (g h : A → Float) (p : Paper (Option A)) (r r' f f₁ f₂ : ℕ) (x x₁ x₂ y y₁ y₂ : Float) → GivesFoundTwo g h p r f f₁ x x₁ y y₁ → GivesFoundTwo g h p r' f f₂ x x₂ y y₂ → (r ≡ r') × (f₁ ≡ f₂) × (x₁ ≡ x₂) × (y₁ ≡ y₂)
 gives-found-two-once g h p r r' f f₁ f₂ x x₁ x₂ y y₁ y₂ a b = (a .code ∙ sym (b .code), a .found ∙ sym (b .found), a .one ∙ sym (b .one), a .other ∙ sym (b .other))
+
+-- a job's words, its bar, its cells and rings and the unfinished line
+pub takes-job-once : (h : Hold) (r r' : ℕ) (ws ws₁ ws₂ : List ℕ) (bar bar₁ bar₂ cs₁ cs₂ rs₁ rs₂ : List Float) (l₁ l₂ : List ℕ) → TakesJob h r ws ws₁ bar bar₁ cs₁ rs₁ l₁ → TakesJob h r' ws ws₂ bar bar₂ cs₂ rs₂ l₂
+    → (r ≡ r') × (ws₁ ≡ ws₂) × (bar₁ ≡ bar₂) × (cs₁ ≡ cs₂) × (rs₁ ≡ rs₂) × (l₁ ≡ l₂)
+takes-job-once h r r' ws ws₁ ws₂ bar bar₁ bar₂ cs₁ cs₂ rs₁ rs₂ l₁ l₂ a b =
+    (a .code ∙ sym (b .code), a .kept .words ∙ sym (b .kept .words), a .kept .numbers ∙ sym (b .kept .numbers), a .cells ∙ sym (b .cells), a .rings ∙ sym (b .rings), a .line ∙ sym (b .line))
+
+-- a job's refusal and its line
+pub ends-job-once : (e : Run) (r r' l l₁ l₂ : ℕ) → EndsJob e r l l₁ → EndsJob e r' l l₂ → (r ≡ r') × (l₁ ≡ l₂)
+ends-job-once e r r' l l₁ l₂ a b = (a .code ∙ sym (b .code), a .line ∙ sym (b .line))
+
+-- a line of its answer, and its length
+pub writes-job-once : (st : State) (k r r' n₁ n₂ : ℕ) (out out₁ out₂ : List ℕ) → WritesJob st k r n₁ out out₁ → WritesJob st k r' n₂ out out₂ → (r ≡ r') × (n₁ ≡ n₂) × (out₁ ≡ out₂)
+writes-job-once st k r r' n₁ n₂ out out₁ out₂ a b = (a .code ∙ sym (b .code), a .line .wrote .end ∙ sym (b .line .wrote .end), a .line .wrote .text ∙ sym (b .line .wrote .text))

@@ -1,1 +1,3 @@
 pub mod Boundary
+pub mod Jobs
+pub mod JobCalls

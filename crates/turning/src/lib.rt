@@ -3,9 +3,11 @@
 // Every call returns 0 where it is accepted, else the refusal number of document 01, and a refusal
 // writes nothing. The calls are thin: each makes the spec, calls the library, and turns its answer
 // into a number and out-parameters. Their promises cite the library's own rules.
+// `turning_job_finish` alone tells a refusal that is not its own: that of the job, with its line.
 // Each promise allows one outcome (`proofs/Once`).
 mod cuts_c;
 mod envelope_c;
+mod job_c;
 mod numbers_c;
 mod queries_c;
 mod rings_c;
@@ -21,6 +23,9 @@ pub use envelope_c::turning_envelope_order;
 pub use envelope_c::turning_radius_at;
 pub use envelope_c::turning_radius_range;
 pub use envelope_c::turning_within;
+pub use job_c::turning_job_finish;
+pub use job_c::turning_job_output;
+pub use job_c::turning_job_take;
 pub use numbers_c::turning_length;
 pub use numbers_c::turning_root;
 pub use queries_c::turning_envelope_at;
