@@ -79,6 +79,7 @@ pub enum Call {
     Within { points: Vec<f64>, lo: f64, hi: f64 },
     RadiusAt { points: Vec<f64>, u: f64 },
     RadiusRange { points: Vec<f64>, lo: f64, hi: f64 },
+    Segments { points: Vec<f64>, tolerance: f64, segments_len: usize },
 }
 
 impl Call {
@@ -107,6 +108,7 @@ impl Call {
             Call::Within { .. } => "within",
             Call::RadiusAt { .. } => "radius_at",
             Call::RadiusRange { .. } => "radius_range",
+            Call::Segments { .. } => "segments",
         }
     }
 }
@@ -134,6 +136,8 @@ pub enum Answer {
     Order(i32),
     /// A part of the points: its first and how many.
     Part(usize, usize),
+    /// The chords of a profile.
+    Chords(Vec<[f64; 5]>),
 }
 
 /// An answer, or document 01's number of the refusal.

@@ -4,6 +4,7 @@
 //! 01 accepts, camlib's own code. A `Memory` is all that is lent to the call, with a pattern in every
 //! place that has no meaning yet and around each buffer. The call is right where its number is the
 //! oracle's and the memory afterwards is what the oracle's answer writes, every word of it.
+pub mod arcs;
 pub mod bench;
 pub mod call;
 pub mod count;

@@ -54,6 +54,9 @@ pub mod c {
             state: *const [u64; 8], cells: *const [f64; 2048], rings: *const [f64; 256], k: usize,
             out: *mut [u8; 128], len: Size
         );
+        turning_segments(
+            points: In, points_len: usize, tolerance: f64, segments: Out, segments_len: usize, count: Size
+        );
     }
     declare_with_spec! {
         turning_validate(n: Size);
@@ -202,6 +205,9 @@ pub fn run(call: &Call, memory: &mut Memory) -> u32 {
             }
             Call::RadiusRange { lo, hi, .. } => c::turning_radius_range(
                 m[0].start(), m[0].size(), *lo, *hi, m[1].start(), m[2].start(), m[3].start()
+            ),
+            Call::Segments { tolerance, .. } => c::turning_segments(
+                m[0].start(), m[0].size(), *tolerance, m[1].start(), m[1].size(), m[2].start()
             ),
         }
     }

@@ -1,10 +1,11 @@
 //! Calls at document 01's limits and one beyond, each with the number that 01 gives; lengths at the
-//! corners of their rule; and envelope queries at the corners where a look at a part of the points
-//! could miss a segment.
+//! corners of their rule; envelope queries at the corners where a look at a part of the points could
+//! miss a segment; and profiles at the corners of theirs.
 use crate::call::{Answer, Call, List, Outcome, Room, Simple, Spec, Store};
 use crate::oracle::{
-    ARGUMENT, BEFORE, CELLS, COUNT, ENVELOPE, GENERATION, MILLION, MOST_CELLS,
-    MOST_ENVELOPE_POINTS, MOST_POINTS, MOST_RINGS, MOST_SEGMENTS, PIECES, ROOM, STORED,
+    ARGUMENT, BEFORE, CELLS, CHORDS, COUNT, ENVELOPE, GENERATION, MILLION, MOST_CELLS,
+    MOST_ENVELOPE_POINTS, MOST_POINTS, MOST_PROFILE_POINTS, MOST_RINGS, MOST_SEGMENTS, PIECES,
+    PROFILE, ROOM, STORED,
 };
 
 type Ring = [f64; 4];
@@ -97,11 +98,24 @@ fn listed() -> Vec<(Call, u32)> {
         for (over, number) in [(0, 0), (1, ARGUMENT)] {
             for side in [0, 1] {
                 let (spec, cells) = (bar(n), whole(n));
-                let segments = chords(MOST_SEGMENTS + over).0;
                 let points = chords(MOST_POINTS + over).1;
-                calls.push((nose(spec, &cells, side, 1., segments, ALL), number));
                 calls.push((polygon(spec, cells, side, 0.5, points), number));
             }
+        }
+        for side in [0, 1] {
+            let segments = chords(64).0;
+            calls.push((nose(bar(n), &whole(n), side, 1., segments, ALL), 0));
+        }
+    }
+    // The most segments, and one more: a chord that is gone again and again, so that a recorded line stays short.
+    for (count, number) in [
+        (MOST_SEGMENTS - 1, 0),
+        (MOST_SEGMENTS, 0),
+        (MOST_SEGMENTS + 1, ARGUMENT),
+    ] {
+        for side in [0, 1] {
+            let segments = chords(1).0.repeat(count);
+            calls.push((nose(bar(64), &whole(64), side, 1., segments, ALL), number));
         }
     }
     for (x, number) in [(MILLION, 0), (MILLION.next_up(), ARGUMENT)] {
@@ -615,6 +629,249 @@ fn lengths() -> Vec<(Call, u32)> {
         .to_vec()
 }
 
+/// A profile of two points.
+fn arc(a: [f64; 3], b: [f64; 3]) -> Vec<f64> {
+    [a, b].as_flattened().to_vec()
+}
+
+/// So many points in a row, each the start of a semicircle.
+fn semicircles(count: usize) -> Vec<f64> {
+    let point = |k: usize| [1., 2. * k as f64, 1.];
+    (0..count).flat_map(point).collect()
+}
+
+/// Profiles at the corners of Req 07 of 02, by name: the points, the tolerance, the room in numbers, and how many
+/// chords they have or their refusal.
+pub fn profiles() -> Vec<(&'static str, Call, Result<usize, u32>)> {
+    let bits = f64::from_bits;
+    let semi = || arc([1., 0., 1.], [1., 2., 0.]);
+    let line = |z: f64| arc([1., 0., 0.], [1., z, 0.]);
+    let three = || {
+        [
+            [20., 0., 0.3],
+            [20., 10., 0.3],
+            [20., 20., 0.3],
+            [20., 30., 0.],
+        ]
+        .as_flattened()
+        .to_vec()
+    };
+    let many = 5 * 1024;
+    let mut list = vec![];
+    let mut at = |name, points: Vec<f64>, tolerance, segments_len, outcome| {
+        let call = Call::Segments {
+            points,
+            tolerance,
+            segments_len,
+        };
+        list.push((name, call, outcome));
+    };
+    at(
+        "ten halvings reach it",
+        semi(),
+        bits(0x3EB3BD3C88CDCBE7),
+        many,
+        Ok(1024),
+    );
+    at(
+        "ten halvings do not",
+        semi(),
+        bits(0x3EB3BD3C88CDCBE6),
+        many,
+        Err(CHORDS),
+    );
+    at(
+        "tolerance 0 of an arc",
+        arc([1., 0., 0.5], [1., 2., 0.]),
+        0.,
+        many,
+        Err(CHORDS),
+    );
+    at(
+        "a half bulge that rounds to 0",
+        arc([1., 0., LEAST], [1., 2., 0.]),
+        0.,
+        100,
+        Ok(2),
+    );
+    at(
+        "the same to the other side",
+        arc([1., 0., -LEAST], [1., 2., 0.]),
+        0.,
+        100,
+        Ok(2),
+    );
+    at("a line", line(2.), 0., 100, Ok(1));
+    at(
+        "a line by -0.0",
+        arc([1., 0., -0.], [1., 2., -0.]),
+        -0.,
+        100,
+        Ok(1),
+    );
+    at(
+        "halves of unequal depth",
+        arc([9., 0., 0.3], [1., 7., 0.]),
+        bits(0x3FDA0FD9955EBE9A),
+        100,
+        Ok(3),
+    );
+    let near = arc([700000., 900000., 0.1], [700000., 900000.0000000016, 0.]);
+    at("chords that are points", near, 1e-12, 100, Ok(16));
+    at(
+        "below the axis",
+        arc([0., 0., 1.], [0., 2., 0.]),
+        0.5,
+        100,
+        Ok(2),
+    );
+    at(
+        "past a million",
+        arc([1e6, 0., -1.], [1e6, 2., 0.]),
+        0.5,
+        100,
+        Ok(2),
+    );
+    at(
+        "-0.0 in a middle",
+        arc([1., -LEAST, -LEAST], [3., 0., 0.]),
+        0.,
+        100,
+        Ok(2),
+    );
+    at("exact room", three(), 0.1, 60, Ok(12));
+    at("four numbers over", three(), 0.1, 64, Ok(12));
+    at("one number short", three(), 0.1, 59, Err(CHORDS));
+    at("one chord short", three(), 0.1, 55, Err(CHORDS));
+    at("no chord's room", three(), 0.1, 4, Err(CHORDS));
+    at("no room", three(), 0.1, 0, Err(CHORDS));
+    at("distance 1e-9", line(1e-9), 0.1, 100, Err(PROFILE));
+    at(
+        "the next distance",
+        line(1e-9_f64.next_up()),
+        0.1,
+        100,
+        Ok(1),
+    );
+    at("equal neighbours", line(0.), 0.1, 100, Err(PROFILE));
+    at(
+        "a last bulge over 1",
+        arc([1., 0., 0.], [1., 2., 1_f64.next_up()]),
+        0.1,
+        100,
+        Err(PROFILE),
+    );
+    at(
+        "bulges of 1",
+        arc([1., 0., 1.], [1., 2., -1.]),
+        1.,
+        100,
+        Ok(1),
+    );
+    at(
+        "a bulge over 1",
+        arc([1., 0., -1_f64.next_up()], [1., 2., 0.]),
+        9.,
+        100,
+        Err(PROFILE),
+    );
+    at(
+        "a radius below 0",
+        arc([-LEAST, 0., 0.], [1., 2., 0.]),
+        0.1,
+        100,
+        Err(PROFILE),
+    );
+    at(
+        "a radius of -0.0",
+        arc([-0., 0., 0.], [1., 2., 0.]),
+        0.1,
+        100,
+        Ok(1),
+    );
+    for x in [
+        f64::NAN,
+        f64::INFINITY,
+        f64::NEG_INFINITY,
+        MILLION.next_up(),
+        -MILLION.next_up(),
+    ] {
+        for place in 0..6 {
+            let mut points = line(2.);
+            points[place] = x;
+            at(
+                "a number that is not usable",
+                points,
+                0.1,
+                100,
+                Err(PROFILE),
+            );
+        }
+        at(
+            "a tolerance that is not usable",
+            line(2.),
+            x,
+            100,
+            Err(PROFILE),
+        );
+    }
+    at(
+        "a million everywhere",
+        arc([MILLION, -MILLION, 0.], [MILLION, MILLION, 0.]),
+        MILLION,
+        100,
+        Ok(1),
+    );
+    at("a negative tolerance", line(2.), -LEAST, 100, Err(PROFILE));
+    for len in [0, 3, 5, 7] {
+        at(
+            "no whole points, or one",
+            line(2.).repeat(2)[..len].to_vec(),
+            0.1,
+            100,
+            Err(PROFILE),
+        );
+    }
+    let most = MOST_PROFILE_POINTS;
+    at(
+        "the most points",
+        semicircles(most),
+        1.,
+        5 * most,
+        Ok(most - 1),
+    );
+    at(
+        "one point more",
+        semicircles(most + 1),
+        1.,
+        5 * most,
+        Err(PROFILE),
+    );
+    let fine = bits(0x3EB3BD3C88CDCBE7);
+    at(
+        "261,120 chords into a small room",
+        semicircles(most),
+        fine,
+        100,
+        Err(CHORDS),
+    );
+    at(
+        "17 before 18",
+        arc([1., 0., 0.5], [1., 2., 2.]),
+        0.,
+        0,
+        Err(PROFILE),
+    );
+    list
+}
+
+fn arcs() -> Vec<(Call, u32)> {
+    let calls = profiles().into_iter();
+    calls
+        .map(|(_, call, outcome)| (call, outcome.err().unwrap_or(0)))
+        .collect()
+}
+
 /// Every call at a limit or a corner, with its number.
 pub fn calls() -> Vec<(Call, u32)> {
     [
@@ -627,6 +884,7 @@ pub fn calls() -> Vec<(Call, u32)> {
         parts(),
         queries(),
         at_corners(),
+        arcs(),
     ]
     .concat()
 }

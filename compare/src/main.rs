@@ -1,9 +1,9 @@
 //! compare whole [SECONDS] [SEED] [PROGRAM..]
-//! compare FAMILY|all [COUNT] [SEED] | thousandths [STEP] | far [COUNT] [SEED] | record [COUNT] [SEED] [FAMILY] | bench [WORD] [PICTURE]
+//! compare FAMILY|all [COUNT] [SEED] | thousandths [STEP] | far|arcs [COUNT] [SEED] | record [COUNT] [SEED] [FAMILY] | bench [WORD] [PICTURE]
 //! compare stack [COUNT] [SEED]
 //! compare jobs [COUNT] [SEED] PROGRAM [WORD..] | job | job_bench PROGRAM [WORD..] | parts_bench
 use compare::generate::{FAMILIES, JOB_PARTS, SEQUENCE};
-use compare::{bench, far, jobs, record, run, stack, whole};
+use compare::{arcs, bench, far, jobs, record, run, stack, whole};
 use std::io::{Read, Write};
 use std::process::ExitCode;
 
@@ -19,6 +19,7 @@ fn usage() -> ExitCode {
     eprintln!(
         "compare far [COUNT] [SEED]      the distance of 01's length from the untouched Rust"
     );
+    eprintln!("compare arcs [COUNT] [SEED]     how far a chord's told sag is from the true one");
     eprintln!(
         "compare record [COUNT] [SEED] [FAMILY|limits]   COUNT lines a family, see record.rs"
     );
@@ -96,6 +97,7 @@ fn main() -> ExitCode {
         (_, Some((_, count))) => *count as u64,
         ("all", _) => 100,
         ("far", _) => 1_000_000,
+        ("arcs", _) => 100_000,
         ("thousandths", _) => 19,
         ("record", _) => 40,
         ("stack", _) => 1000,
@@ -107,6 +109,7 @@ fn main() -> ExitCode {
     let count = count as usize;
     match name.as_str() {
         "far" => far::far(count, seed),
+        "arcs" => arcs::arcs(count, seed),
         "thousandths" => {
             return ExitCode::from((run::thousandths(count.max(1)) > 0) as u8);
         }

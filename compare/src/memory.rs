@@ -223,6 +223,15 @@ impl Memory {
                 m.push(Lent::blank("found", 1));
                 m.extend([Lent::blank("lowest", 1), Lent::blank("highest", 1)]);
             }
+            Call::Segments {
+                points,
+                segments_len,
+                ..
+            } => {
+                m.push(Lent::holding("points", points));
+                m.push(Lent::blank("segments", *segments_len));
+                m.push(Lent::blank("count", 1));
+            }
         }
         Self { lent: m }
     }
@@ -301,6 +310,10 @@ impl Memory {
             Answer::Part(first, count) => {
                 self.put_word("first", *first as u64);
                 self.put_word("count", *count as u64);
+            }
+            Answer::Chords(chords) => {
+                self.put("segments", chords.as_flattened());
+                self.put_word("count", chords.len() as u64);
             }
         }
     }

@@ -13,6 +13,7 @@
 //! STORE    rings_len rings_count, then 4 numbers for each ring stored
 //! CHANGES  how many, then for each its index and 8 numbers
 //! RINGS    how many, then 4 numbers for each
+//! CHORDS   how many, then 5 numbers for each
 //!
 //! root x = 0 root                              length x y = 0 length
 //! validate SPEC = 0 n                          bin SPEC i = 0 za zb
@@ -32,6 +33,7 @@
 //! within NUMBERS lo hi = 0 first count
 //! radius_at NUMBERS u = 0 found [radius]
 //! radius_range NUMBERS lo hi = 0 found [lowest highest]
+//! segments NUMBERS tolerance segments_len = 0 CHORDS
 //! ```
 //!
 //! Of a list or store whose count is beyond what is lent, no change and no ring is given. What is
@@ -46,13 +48,13 @@ const LONGEST: usize = 8192;
 
 /// The replay has room for so many fields, indices and numbers of a list, and no line at a limit has
 /// so many bytes.
-const LINE: usize = 65536;
+const LINE: usize = 131072;
 const FIELDS: usize = 36864;
 const INDICES: usize = 4096;
 const NUMBERS: usize = 32768;
 
 /// So far back goes a repeat, and so many fields at least does it say.
-const PERIOD: usize = 9;
+const PERIOD: usize = 32;
 const WORTH: usize = 8;
 
 #[derive(Default)]
@@ -232,6 +234,11 @@ fn inputs(line: &mut Line, call: &Call) {
         Call::Within { points, lo, hi } => line.numbers(points).number(*lo).number(*hi),
         Call::RadiusAt { points, u } => line.numbers(points).number(*u),
         Call::RadiusRange { points, lo, hi } => line.numbers(points).number(*lo).number(*hi),
+        Call::Segments {
+            points,
+            tolerance,
+            segments_len,
+        } => (line.numbers(points).number(*tolerance)).size(segments_len),
     };
 }
 
@@ -255,6 +262,7 @@ fn written(line: &mut Line, call: &Call, answer: &Answer) {
         Answer::Found(Some(values)) => line.size(1).each(values),
         Answer::Order(order) => line.size(order),
         Answer::Part(first, count) => line.size(first).size(count),
+        Answer::Chords(chords) => line.size(chords.len()).each(chords.as_flattened()),
     };
 }
 
@@ -273,6 +281,7 @@ fn held(call: &Call) -> bool {
         }
         Call::RemoveRing { store, .. } | Call::Volume { store, .. } => (0, store.rings.len()),
         Call::FromParts { rings_len, .. } => (0, *rings_len),
+        Call::Segments { segments_len, .. } => (0, *segments_len),
         _ => (0, 0),
     };
     indices <= INDICES && numbers <= NUMBERS

@@ -300,6 +300,9 @@ impl Shrink for Call {
             Call::Within { points, lo, hi } | Call::RadiusRange { points, lo, hi } => Parts {
                 items: vec![Items::Flat(points, 2)], numbers: vec![lo, hi], ..none
             },
+            Call::Segments { points, tolerance, .. } => Parts {
+                items: vec![Items::Flat(points, 3)], numbers: vec![tolerance], ..none
+            },
         }
     }
 }

@@ -13,7 +13,7 @@ use std::thread;
 use std::time::{Duration, Instant};
 
 /// What part of the time each takes, in hundredths.
-const SHARES: [(&str, u64); 21] = [
+const SHARES: [(&str, u64); 22] = [
     ("root", 3),
     ("length", 4),
     ("stock", 4),
@@ -31,7 +31,8 @@ const SHARES: [(&str, u64); 21] = [
     ("volume", 4),
     ("envelope_at", 3),
     ("envelope", 3),
-    ("sequence", 14),
+    ("profile", 3),
+    ("sequence", 11),
     ("jobs", 5),
     ("job_parts", 3),
     ("far", 3),

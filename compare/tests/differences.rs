@@ -6,7 +6,7 @@ use compare::oracle::answer;
 use compare::oracle::stock::{camlib_spec, to_camlib};
 use compare::run::difference;
 use plain::motion::{Curve, Plane};
-use plain::turning::profile::Envelope;
+use plain::turning::profile::{Envelope, Seg, TurnProfile};
 use plain::turning::stock::{TurnChange, TurnSide, TurnStock};
 use std::panic::{AssertUnwindSafe, catch_unwind};
 
@@ -386,9 +386,9 @@ fn more_than_64_points() {
     assert_eq!(polygon(&points, 0.), Err(5));
 }
 
-/// camlib's own arcs have up to 4,096 segments.
+/// camlib's own arcs have up to 4,096 segments too; it takes more where they are handed in.
 #[test]
-fn more_than_64_segments() {
+fn more_than_4096_segments() {
     let with = |count: usize| {
         here(Call::Preview {
             spec: BAR,
@@ -399,8 +399,63 @@ fn more_than_64_segments() {
             room: ROOM,
         })
     };
-    assert_eq!(with(64), no_change());
-    assert_eq!(with(65), Err(5));
+    assert_eq!(with(4096), no_change());
+    assert_eq!(with(4097), Err(5));
+}
+
+fn profile(points: &[[f64; 3]], tolerance: f64) -> Outcome {
+    here(Call::Segments {
+        points: points.as_flattened().to_vec(),
+        tolerance,
+        segments_len: 5 * 1024,
+    })
+}
+
+/// camlib keeps an arc as its circle, and cuts it in equal parts; here it is halved, and a chord's ends lie on that circle.
+#[test]
+fn arcs_by_halving() {
+    let points = [[9., 0., 0.3], [1., 7., 0.]];
+    let theirs = TurnProfile {
+        points: points.to_vec(),
+    }
+    .segments();
+    let Seg::Arc { a, c, .. } = theirs.unwrap()[0] else {
+        panic!()
+    };
+    let radius = (a[0] - c[0]).hypot(a[1] - c[1]);
+    let Ok(Answer::Chords(chords)) = profile(&points, f64::from_bits(0x3FDA0FD9955EBE9A)) else {
+        panic!()
+    };
+    assert_eq!(chords.len(), 3);
+    for chord in chords {
+        let end = (chord[3] - c[0]).hypot(chord[2] - c[1]);
+        assert!((end - radius).abs() < 1e-9);
+    }
+}
+
+/// An arc of more than half a circle; and camlib does not look at the last point's bulge.
+#[test]
+fn bulge_over_one() {
+    for points in [[[1., 0., 2.], [1., 2., 0.]], [[1., 0., 0.], [1., 2., 2.]]] {
+        let theirs = TurnProfile {
+            points: points.to_vec(),
+        }
+        .segments();
+        assert_eq!(theirs.unwrap().len(), 1);
+        assert_eq!(profile(&points, 9.), Err(17));
+    }
+}
+
+#[test]
+fn more_than_256_points() {
+    let points: Vec<[f64; 3]> = (0..257).map(|k| [1., k as f64, 0.]).collect();
+    let theirs = TurnProfile {
+        points: points.clone(),
+    }
+    .segments();
+    assert_eq!(theirs.unwrap().len(), 256);
+    assert_eq!(profile(&points, 0.), Err(17));
+    assert!(profile(&points[1..], 0.).is_ok());
 }
 
 /// No C call takes an arc; the job program refuses its line.

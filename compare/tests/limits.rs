@@ -1,7 +1,7 @@
 //! Each call at a limit of document 01 answers the number that 01 gives, by the oracle and by the
 //! library.
 use compare::call::{Answer, Call};
-use compare::limits::{calls, corners, edges};
+use compare::limits::{calls, corners, edges, profiles};
 use compare::oracle::{answer, full_look};
 use compare::run::{difference, number};
 
@@ -79,4 +79,39 @@ fn edges_show_the_most_of_their_bins() {
     assert_eq!(shown("an empty last bin")[0], band(0.25, 4.));
     assert_eq!(shown("a last bin turned about")[0], band(0.25, 4.));
     assert_eq!(shown("bins below an ulp")[0], band(0., 2.));
+}
+
+/// The corners of a profile have the chords, or the refusal, that 02 gives; chords join by equal bits and have no -0.0.
+#[test]
+fn profiles_have_their_chords() {
+    for (name, call, expected) in profiles() {
+        let found = match answer(&call) {
+            Ok(Answer::Chords(chords)) => {
+                let bits = |x: [f64; 2]| x.map(f64::to_bits);
+                for w in chords.windows(2) {
+                    assert_eq!(bits([w[0][2], w[0][3]]), bits([w[1][0], w[1][1]]), "{name}");
+                }
+                let minus = (-0_f64).to_bits();
+                let unsigned = chords.as_flattened().iter().all(|x| x.to_bits() != minus);
+                assert!(unsigned, "{name}");
+                Ok(chords.len())
+            }
+            Err(number) => Err(number),
+            other => panic!("{name}: {other:?}"),
+        };
+        assert_eq!(found, expected, "{name}");
+    }
+}
+
+/// Two of the sixteen chords have both ends at one place.
+#[test]
+fn a_chord_may_be_a_point() {
+    let named = profiles()
+        .into_iter()
+        .find(|(n, ..)| *n == "chords that are points");
+    let Ok(Answer::Chords(chords)) = answer(&named.unwrap().1) else {
+        panic!()
+    };
+    let dots = chords.iter().filter(|c| c[..2] == c[2..4]).count();
+    assert_eq!(dots, 2);
 }

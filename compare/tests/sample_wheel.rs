@@ -253,8 +253,8 @@ fn limits() {
             room: ROOM,
         })
     };
-    assert_eq!(with(64), with(1));
-    assert_eq!(with(65), Err(5));
+    assert_eq!(with(4096), with(1));
+    assert_eq!(with(4097), Err(5));
     let bins = |z_max: f64, max_cells: usize| {
         let spec = Spec {
             z_max,

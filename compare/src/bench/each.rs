@@ -12,7 +12,7 @@ type Row = (
 );
 
 #[rustfmt::skip]
-const EACH: [Row; 24] = [
+const EACH: [Row; 26] = [
     ("root", "1,024 of shop size", 1024, sides::root),
     ("length", "1,024 of shop size", 1024, sides::length),
     ("validate", "4,096 bins", 4096, sides::validate),
@@ -37,6 +37,8 @@ const EACH: [Row; 24] = [
     ("within", "1,024 points that rise", 1024, sides::within),
     ("radius_at", "1,024 points that rise", 1024, sides::radius_at),
     ("radius_range", "1,024 points that rise", 1024, sides::radius_range),
+    ("segments", "an arc as 512 chords", 9, sides::segments),
+    ("segments", "an arc as 1 chord", 0, sides::segments),
 ];
 
 /// The names of the calls that the table has.

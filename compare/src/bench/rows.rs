@@ -36,6 +36,7 @@ pub fn all(table: &Table) {
     let bar = bar(&spec(4096, 50., 0.)).unwrap();
     cells(table, &bar);
     noses(table, &bar);
+    many_segments(table, &bar);
     polygons(table, &bar);
     rings(table);
     volumes(table, &bar);
@@ -248,6 +249,41 @@ fn noses(table: &Table, bar: &Bar) {
             "outside",
             0,
         );
+    }
+}
+
+/// Noses at the limit of segments, short ones and long, and an arc as 512 chords.
+fn many_segments(table: &Table, bar: &Bar) {
+    let cells = fresh(bar);
+    let stock = camlib_stock(bar, &cells, &[]);
+    let ruled = stock_with_length(bar, &cells);
+    let z_max = bar.spec.z_max;
+    let rn = 0.8;
+    let mut rng = Rng::new(1);
+    let mut short = |_| {
+        let z = rng.between(1., z_max - 1.);
+        let r = rng.between(30., 48.);
+        [
+            r + rn,
+            z,
+            r + rn + rng.between(-1., 1.),
+            z + rng.between(-0.2, 0.2),
+            0.,
+        ]
+    };
+    let long = |k: usize| {
+        let by = k as f64 * 0.001;
+        [38. + rn + by, 0.5 + by, 36.3 + rn, z_max - 0.5, 0.]
+    };
+    let arc = [38., 0., 0.1, 38., z_max, 0.];
+    let chords = crate::oracle::profile::segments(&arc, 25.6 * 0.25_f64.powi(9), 5 * 4096);
+    let lists: [(&str, Vec<[f64; 5]>); 3] = [
+        ("4,096 short", (0..4096).map(&mut short).collect()),
+        ("4,096 long", (0..4096).map(long).collect()),
+        ("an arc as 512 chords", chords.unwrap()),
+    ];
+    for (name, list) in &lists {
+        nose_row(table, bar, &stock, &ruled, rn, name, list, "outside", 0);
     }
 }
 

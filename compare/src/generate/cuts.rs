@@ -7,6 +7,9 @@ use crate::call::{Call, Simple};
 use crate::oracle::stock::Bar;
 use crate::oracle::{MOST_POINTS, MOST_SEGMENTS};
 
+/// A path has about so many segments at most. The limit is met by a path that is gone again and again.
+const OFTEN: usize = 64;
+
 fn cut_call(rng: &mut Rng, make: impl Fn(&mut Rng, &Bar) -> Simple) -> Call {
     let base = base(rng);
     let cells = good_cells(rng, &base);
@@ -119,7 +122,7 @@ pub fn segments(rng: &mut Rng, base: &Bar, rn: f64) -> Vec<f64> {
 
 /// The same, with a tiny chord for once in so many segments.
 fn path(rng: &mut Rng, base: &Bar, rn: f64, once_in: usize) -> Vec<f64> {
-    let count = how_many(rng, MOST_SEGMENTS);
+    let count = how_many(rng, OFTEN);
     let mut p = [r_near(rng, base), z_near(rng, base)];
     let mut list = vec![];
     for _ in 0..count {
@@ -163,6 +166,11 @@ fn path(rng: &mut Rng, base: &Bar, rn: f64, once_in: usize) -> Vec<f64> {
         };
     }
     list.iter_mut().for_each(|x| *x = x.clamp(-1e6, 1e6));
+    if count > 0 && base.n < 9 && rng.once_in(30) {
+        let goes = MOST_SEGMENTS / count + 1;
+        list = list.repeat(goes);
+        list.truncate(5 * (MOST_SEGMENTS + rng.below(2)));
+    }
     list
 }
 

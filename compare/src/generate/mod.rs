@@ -6,6 +6,7 @@ pub mod changes;
 pub mod cuts;
 pub mod envelope;
 pub mod numbers;
+pub mod profile;
 pub mod rings;
 pub mod sequence;
 pub mod stock;
@@ -73,12 +74,13 @@ pub fn family(name: &str) -> Option<fn(&mut Rng) -> Call> {
         "volume" => rings::volume,
         "envelope_at" => stock::envelope_at,
         "envelope" => envelope::envelope_call,
+        "profile" => profile::segments_call,
         _ => return None,
     })
 }
 
 /// Every family of single calls, and how many calls are made by default.
-pub const FAMILIES: [(&str, usize); 17] = [
+pub const FAMILIES: [(&str, usize); 18] = [
     ("root", 20_000_000),
     ("length", 20_000_000),
     ("stock", 200_000),
@@ -96,6 +98,7 @@ pub const FAMILIES: [(&str, usize); 17] = [
     ("volume", 100_000),
     ("envelope_at", 200_000),
     ("envelope", 400_000),
+    ("profile", 1_000_000),
 ];
 
 /// Sequences of calls on one stock.

@@ -9,13 +9,14 @@ pub mod cuts;
 mod envelope;
 mod full;
 pub mod numbers;
+pub mod profile;
 pub mod queries;
 pub mod rings;
 pub mod stock;
 
 use crate::call::{Answer, Call, Outcome};
 
-/// Document 01's refusal numbers.
+/// The refusal numbers of document 01, and of the requests after it.
 pub const SPEC: u32 = 1;
 pub const COUNT: u32 = 2;
 pub const CELLS: u32 = 3;
@@ -29,13 +30,16 @@ pub const RING: u32 = 10;
 pub const PIECES: u32 = 11;
 pub const GENERATION: u32 = 12;
 pub const ENVELOPE: u32 = 14;
+pub const PROFILE: u32 = 17;
+pub const CHORDS: u32 = 18;
 
-/// Document 01's limits.
+/// Document 01's limits, and those of Req 07 of 02: a nose's segments and a profile's points.
 pub const MILLION: f64 = 1e6;
 pub const MOST_CELLS: usize = 4096;
-pub const MOST_SEGMENTS: usize = 64;
+pub const MOST_SEGMENTS: usize = 4096;
 pub const MOST_POINTS: usize = 64;
 pub const MOST_ENVELOPE_POINTS: usize = 1024;
+pub const MOST_PROFILE_POINTS: usize = 256;
 pub const MOST_RINGS: usize = 256;
 pub const MOST_PIECES: usize = 256;
 
@@ -143,5 +147,10 @@ pub fn answer(call: &Call) -> Outcome {
         Call::RadiusRange { points, lo, hi } => {
             envelope::radius_range(points, *lo, *hi).map(Answer::Found)
         }
+        Call::Segments {
+            points,
+            tolerance,
+            segments_len,
+        } => profile::segments(points, *tolerance, *segments_len).map(Answer::Chords),
     }
 }

@@ -57,13 +57,16 @@ use Rattle.moves.specs.Move.{generationAfter, moveIn, moveOf, partsOf}
 use Rattle.change_slices.specs.Move.{moveListOf}
 use Rattle.queries.specs.Envelope.{envelopeAt}
 use Rattle.queries.specs.Volume.{volumeOf}
+use Rattle.profile.specs.Profile.{profileGood}
+use Rattle.profile.specs.Chords.{Chord, profileChords, segmentsOf}
+use Rattle.profile.specs.Chords as profile
 use Rattle.envelope.specs.Envelope.{pointsGood, orderedOf, withinOf, withinRefusalOf, radiusAtOf, radiusRangeOf}
 use Rattle.job_words.specs.declared.Line.{Line}
 use Rattle.job_words.specs.declared.Line.the-variants.{Bar, Cutting, Removing, Arc, Bad}
 use Rattle.job_words.specs.Kind.{lineOf}
 use Rattle.job_run.specs.declared.line.Job.{Job}
 use Rattle.job_run.specs.Job.{lineLimit, cellsOfJob, barLine, madeCut, cutLine, removingLine, firstLine, laterLine, jobLine}
-use Rattle.demands.specs.Refused.{Asked, ask, Exactly, rootAsks, lengthAsks, countGood, specAsks, binAsks, newAsks, stockAsks, roomGood, previewCutAsks, previewAsks, previewNoseAsks, previewPolygonAsks, previewToolAsks, eachAsks, changeAsks, passAsks, commitInAsks, commitAsks, applyAsks, differenceAsks, removeAsks, roomForAll, allStored, removeRingsAsks, partsAsks, moveInAsks, moveListAsks, moveAsks, volumeAsks, pointsAsks, radiusAsks, withinAsks, barAsks, cutLineAsks, firstLineAsks, laterLineAsks, lineAsks}
+use Rattle.demands.specs.Refused.{Asked, ask, Exactly, rootAsks, lengthAsks, countGood, specAsks, binAsks, newAsks, stockAsks, roomGood, previewCutAsks, previewAsks, previewNoseAsks, previewPolygonAsks, previewToolAsks, eachAsks, changeAsks, passAsks, commitInAsks, commitAsks, applyAsks, differenceAsks, removeAsks, roomForAll, allStored, removeRingsAsks, partsAsks, moveInAsks, moveListAsks, moveAsks, volumeAsks, pointsAsks, radiusAsks, withinAsks, barAsks, cutLineAsks, firstLineAsks, laterLineAsks, lineAsks, chordsFit, segmentsAsks}
 use Rattle.demands.proofs.Asking.{refusalOf, Asks, exactly, exactly-as, asks-none, asks-more, asks-of, asks-on, asks-then, asks-as, asks-holds, asks-fails, onward-demand}
 
 -- ---- the root and the length
@@ -440,3 +443,15 @@ either false h k = k
 pub line-exactly : (j : Job) (s : List ℕ) (room : ℕ) (cs rs : List Float) → Exactly (jobLine j s room cs rs) (lineAsks j s room cs rs)
 unfolding jobLine
 line-exactly j s room cs rs = exactly (asks-more (ltb (length s) lineLimit) 15 (λ _. either (eqb (j .cells) 0) (first-line-asks (lineOf s) cs rs) (later-line-asks j (lineOf s) room cs rs)))
+
+-- ---- profiles: 17, 18
+
+chords-asks : (room : ℕ) (o : Option (List Chord)) → Asks (profile.roomFor room o) (ask (chordsFit room o) 18 ∷ [])
+unfolding profile.roomFor demand
+chords-asks room none = asks-more {p = answers []} false 18 (λ _. asks-none [])
+chords-asks room (some l) = asks-more (leb (length l) room) 18 (λ _. asks-none l)
+
+-- `segments`: 17, 18
+pub segments-exactly : (xs : List Float) (tol : Float) (room : ℕ) → Exactly (segmentsOf xs tol room) (segmentsAsks xs tol room)
+unfolding segmentsOf
+segments-exactly xs tol room = exactly (asks-more (profileGood xs tol) 17 (λ _. chords-asks room (profileChords xs tol)))

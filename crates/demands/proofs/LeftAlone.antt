@@ -2,7 +2,7 @@
 -- A buffer that a call is lent to read alone it cannot write: that is its type. Here are those that it is lent to write; at the C boundary they are in proofs/LeftAlone of turning. Assumes nothing.
 use mathlib.Core.Path.{_≡_, refl, sym, ap, _∙_, subst}
 use mathlib.Core.List.{List}
-use Prim.Native.Nat.{ℕ}
+use Prim.Native.Nat.{ℕ, _/_}
 use lib.IntN.{ℤ}
 use lib.ListN.{length}
 use lib.Ieee.{Float}
@@ -35,6 +35,10 @@ use Rattle.moves.specs.Move.{Left, movedPaper, Moves}
 use Rattle.envelope.specs.Halving.{keptOf, Kept}
 use Rattle.change_slices.specs.Proposal.{Written}
 use Rattle.job_run.specs.declared.line.Carried.{Carried}
+use Rattle.profile.specs.declared.Chopped.{Chopped}
+use Rattle.profile.specs.declared.Chopped.the-variants as chopped
+use Rattle.profile.specs.Chords.{Chord, flatOf, segmentsOf, writtenOf, choppedPaper, Segmented}
+use Rattle.profile.specs.Chords as chords
 use Rattle.job_run.specs.declared.line.Carried.the-variants as carried
 use Rattle.job_run.specs.Job.{Stand, carriedPaper, jobAfter, Carries}
 use Rattle.demands.specs.Refused.{Asked, Exactly}
@@ -158,3 +162,21 @@ plain-call {l = l} e x = subst (λ y. Exactly y l) (sym e) x
 -- an `Envelope`, which `new` makes with the order's number of its points: its methods answer by the same rules
 pub kept-call : {A : Type 0} {ps : List Float} {z : ℤ} {r way rule : Paper A} {l : List Asked} → Kept ps z r way rule → z ≡ keptOf ps → Exactly rule l → Exactly r l
 kept-call k e x = plain-call (k .ruled e) x
+
+-- ---- chords of a profile: the numbers that they are written to
+
+pub segments-call : {xs : List Float} {tol : Float} {r : Chopped} {out out' : List Float} {l : List Asked} → Segmented xs tol r out out' → Exactly (segmentsOf xs tol (length out / 5)) l → Exactly (choppedPaper r) l
+unfolding refusalOf chords.countOf
+segments-call {xs} {tol} {r} {out} h x = exactly-as (choppedPaper r) (ap refusalOf (h .answer) ∙ same (segmentsOf xs tol (length out / 5))) x
+  where
+    same : (p : Paper (List Chord)) → refusalOf (chords.countOf p) ≡ refusalOf p
+    same (answers l) = refl
+    same (refuses n) = refl
+
+pub segments-left : (xs : List Float) (tol : Float) (c : Refusal) (out out' : List Float) → Segmented xs tol (chopped.Refused c) out out' → (segmentsOf xs tol (length out / 5) ≡ refuses (numberOf c)) × (out' ≡ out)
+unfolding over flatOf writtenOf chords.countOf
+segments-left xs tol c out out' h = go (segmentsOf xs tol (length out / 5)) (h .answer) (h .out)
+  where
+    go : (p : Paper (List Chord)) → refuses (numberOf c) ≡ chords.countOf p → out' ≡ over (flatOf (writtenOf p)) out → (p ≡ refuses (numberOf c)) × (out' ≡ out)
+    go (answers l) e o = absurd (no-answer (numberOf c) (length l) e)
+    go (refuses n) e o = (same-number e, o)

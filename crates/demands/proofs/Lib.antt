@@ -23,3 +23,4 @@ pub mod JobHeld
 pub mod Streamed
 pub mod FieldNumbers
 pub mod JobNumbers
+pub mod Arcs

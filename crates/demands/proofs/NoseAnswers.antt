@@ -67,7 +67,7 @@ pub record SegmentAnswers (s : Segment) (rn c : Float) : Type 0 where
 
 segment-answers : (s : Segment) (rn c : Float) → SegmentWithin s → Within binary64 21 rn → Within binary64 34 c → SegmentAnswers s rn c
 segment-answers s rn c w R C = record {
-  length = length-answers (within-sub (w .b .r) (w .a .r) (lit< tt)) (within-sub (w .b .z) (w .a .z) (lit< tt));
+  length = length-answers (within-weaken (lit≤ tt) (within-sub (w .b .r) (w .a .r) (lit< tt))) (within-weaken (lit≤ tt) (within-sub (w .b .z) (w .a .z) (lit< tt)));
   first = end-answers (s .a) rn c (w .a) R C;
   second = end-answers (s .b) rn c (w .b) R C;
 }

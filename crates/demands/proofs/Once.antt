@@ -37,6 +37,7 @@
 --   rings     remove_ring (removed-once), remove_rings (Once.stored-once of moves)
 --   moves     apply_move (Once.moved-once of moves), from_parts (Once.stored-once of moves)
 --   envelope  held::Envelope: new (new-once), order (order-once), within (within-once, of the numbers), radius_at (radius-at-once), radius_range (radius-range-once)
+--   profile   segments (Laws.segments-once of profile)
 --   text      put, put_digits, put_decimal, put_hex, put_four (put-once), ring_line (wrote-once)
 --   job_answer cell_line, gen_line, refused_line, answer_line (wrote-once)
 --   job_run   carry_out (Carrying.once of job_run; its two lists by the equations of `ChangesOver`), take_part (taken-once), output_line (wrote-once)

@@ -11,6 +11,8 @@
 -- - A move that stores its first ring and merely raises the generation for the others: `move-writes` and `move-call-writes` here, and `moved-covers` in `Rings`.
 --   Edit of crate `moves`: `first_ring_only_stored`.
 -- - A change count that does not equal the records written: `preview-writes` here. Edits: `every_bin_counted` of this crate, `equal_cells_counted` of crate `changes`.
+-- Of the chords of a profile (`segments`), the laws of crate `profile`: `chords-join`, `chords-ends`, `chords-within`, `chords-finite`, `chords-count` (`proofs/Laws`), `line-sag` (`proofs/Lines`),
+-- and `chords-cut` in `Arcs`. Edits of crate `profile`: `second_half_with_the_whole_bulge`, `refused_call_wrote`.
 use mathlib.Core.Path.{_≡_, refl, sym, ap, _∙_, subst}
 use mathlib.Core.Bool.{true, false, _||_}
 use mathlib.Core.List.{List, map}

@@ -43,6 +43,8 @@ use Rattle.job_words.specs.declared.Line.the-variants.{Bar, Cutting, Removing, 
 use Rattle.job_words.specs.Kind.{lineOf}
 use Rattle.job_run.specs.declared.line.Job.{Job}
 use Rattle.job_run.specs.Job.{lineLimit, cellsOfJob}
+use Rattle.profile.specs.Profile.{profileGood}
+use Rattle.profile.specs.Chords.{Chord, profileChords}
 
 -- ---- what "exactly when, in this order" means
 
@@ -266,3 +268,14 @@ laterLineAsks j Bad room cs rs = ask false 15 ∷ []
 -- 127 bytes at most without the newline, then by its place
 abbrev pub lineAsks : Job → List ℕ → ℕ → List Float → List Float → List Asked
 lineAsks j s room cs rs = ask (ltb (length s) lineLimit) 15 ∷ pick (eqb (j .cells) 0) (firstLineAsks (lineOf s) cs) (laterLineAsks j (lineOf s) room cs rs)
+
+-- ---- profiles
+
+-- ten halvings reached the tolerance, and there is room for the chords
+abbrev pub chordsFit : ℕ → Option (List Chord) → Bool
+chordsFit room none = false
+chordsFit room (some l) = leb (length l) room
+
+-- the chords of a profile, into a room
+abbrev pub segmentsAsks : List Float → Float → ℕ → List Asked
+segmentsAsks xs tol room = ask (profileGood xs tol) 17 ∷ ask (chordsFit room (profileChords xs tol)) 18 ∷ []

@@ -26,6 +26,10 @@
 // else, for lo <= hi, the look at all segments in order. Crate `envelope` has the law behind it,
 // once for every order (`narrow-full`).
 //
+// Arcs (`proofs/Arcs`): the chords of an accepted profile are segments that a nose takes. Crate `profile`
+// has what they are (`proofs/Laws`): they join by equal bits, begin and end where the profile does, are
+// 1 to 1,024 a segment, finite, and each sag is from 0 to the tolerance.
+//
 // The most that may remain at a height (`proofs/Sees`): what an accepted commit leaves shows nothing
 // there, or a band within the one before. Crate `queries` has what an answer says of the bins that are
 // looked at (`proofs/Sights`).

@@ -6,7 +6,7 @@ use native.Mathlib.Nat.{le-of-eq}
 use native.Mathlib.Omega.{arith}
 use mathlib.Core.Bool.{Bool, true, false, not}
 use mathlib.Core.Option.{Option, none, some}
-use lib.Dec.{T, lit<, not-T}
+use lib.Dec.{T, lit<, lit≤, not-T}
 use lib.Ieee.{Float, binary64, neg, eq, lt, le}
 use lib.Ieee.Bits.{is-false}
 use Rattle.refusals.specs.Paper.{answers}
@@ -17,7 +17,7 @@ use Rattle.floats.proofs.Keys.{top, key}
 use Rattle.floats.proofs.Order.{to-le, of-le, of-lt, to-eq, of-eq, le→nlt, nlt→le}
 use Rattle.floats.proofs.Exact.{zero-key}
 use Rattle.floats.proofs.Signed.{zero+, number-zero, number-finite, of-nonneg, to-nonneg, of-positive, sub-number, sub-nonneg, sub-positive}
-use Rattle.floats.proofs.Within.{finite-within, within-sub}
+use Rattle.floats.proofs.Within.{finite-within, within-sub, within-weaken}
 use Rattle.numbers.specs.Length.{lengthOf}
 use Rattle.numbers.proofs.Units.{zero-is}
 use Rattle.numbers.proofs.Lengths.{length-answers, length-finite, length-nonneg, length-zero-only}
@@ -89,11 +89,14 @@ normal-none a b wa wb = (
     Y : Within binary64 21 dz
     Y = within-sub (wb .z) (wa .z) (lit< tt)
 
+    has : (l : Float) × (lengthOf dr dz ≡ answers l)
+    has = length-answers (within-weaken (lit≤ tt) X) (within-weaken (lit≤ tt) Y)
+
     l : Float
-    l = length-answers X Y .0
+    l = has .0
 
     e : lengthOf dr dz ≡ answers l
-    e = length-answers X Y .1
+    e = has .1
 
     n : Point
     n = facing (pt (dz /₆₄ l) (neg dr /₆₄ l))

@@ -9,19 +9,20 @@ use mathlib.Core.Bool.{Bool, true, false}
 use lib.IntN.{negsuc}
 use lib.Dec.{T, lit<, lit≤}
 use lib.Pow.{pow-add, pow-pos, pow-mono}
-use lib.Ieee.{Float, fin, binary64, fits, le, lt, eq}
+use lib.Ieee.{Float, fin, binary64, fits, le, lt, eq, isNan}
 use lib.Ieee.Scale.{finite}
 use Rattle.refusals.specs.Paper.{answers}
-use Rattle.floats.specs.Numbers.{_+₆₄_, _*₆₄_, _/₆₄_, sizeOf, zero64}
-use Rattle.floats.specs.Kinds.{Finite, Within}
+use Rattle.floats.specs.Numbers.{_+₆₄_, _*₆₄_, _/₆₄_, sizeOf, zero64, minusZero}
+use Rattle.floats.specs.Kinds.{Plain, Finite, Within}
 use Rattle.floats.proofs.Keys.{mag}
 use Rattle.floats.proofs.Order.{to-le}
 use Rattle.floats.proofs.Rounded.{rounded, rounded-zero}
 use Rattle.floats.proofs.Signed.{zero+, number-finite, mul-number, product, mul-nonneg, size-of-positive}
+use Rattle.floats.proofs.Zeros.{mul-plain}
 use Rattle.floats.proofs.Within.{finite-within, within, size-within, within-weaken, within-mul, within-add}
 use Rattle.numbers.specs.Length.{scaleUp, scaleDown, tinyParts, plainLength, lengthOf}
 use Rattle.numbers.proofs.Units.{mul-size, nonneg-key, product-most, product-least, finite-sized, size-key, over-within}
-use Rattle.numbers.proofs.Sizes.{root-finite, root-nonneg, root-bounded}
+use Rattle.numbers.proofs.Sizes.{root-finite, root-nonneg, root-plain, root-bounded}
 use Rattle.numbers.proofs.Units.{zero-size}
 use Rattle.numbers.proofs.Ruled.{within-squared, plain-answers, plain-zero, first-part, second-part, first-some, second-some}
 use Rattle.numbers.proofs.Tiny.{down-is, below-finite, down-finite, below-size, down-size, scaled-within, length-tiny, length-plain, scaled-size, back-size, ByRule, Scaled, length-cases}
@@ -98,6 +99,14 @@ rule-zero {x} {y} {l} r = (λ h. absurd (no-units 674 (least (r .large)) h), λ 
     least (inl h) = first-some (r .parts) (r .is) 674 274 refl (lit≤ tt) below-finite below-size h
     least (inr h) = second-some (r .parts) (r .is) 674 274 refl (lit≤ tt) below-finite below-size h
 
+-- 2 ^ -600 is not below zero, and no -0.0
+down-nonneg : T (le zero+ scaleDown)
+down-nonneg = subst (λ (z : Float). T (le zero+ z)) (sym down-is) (unfold le lt eq in tt)
+
+down-plain : Plain binary64 scaleDown
+unfolding minusZero isNan
+down-plain = subst (Plain binary64) (sym down-is) (record { held = unfold fits in tt; number = tt; unsigned = tt })
+
 module _ (x y l : Float) (f : T (fits binary64 x)) (g : T (fits binary64 y)) (e : lengthOf x y ≡ answers l) where
   -- the parts are finite
   pub parts-finite : Finite binary64 x × Finite binary64 y
@@ -136,7 +145,18 @@ module _ (x y l : Float) (f : T (fits binary64 x)) (g : T (fits binary64 y)) (e 
     where
       go : ByRule x y l ⊎ Scaled x y l → T (le zero+ l)
       go (inl r) = root-nonneg (r .parts .both) (r .is)
-      go (inr s) = subst (λ (z : Float). T (le zero+ z)) (s .back) (mul-nonneg (long-finite s) down-finite (root-nonneg (s .parts .both) (s .is)) (subst (λ (z : Float). T (le zero+ z)) (sym down-is) (unfold le lt eq in tt)))
+      go (inr s) = subst (λ (z : Float). T (le zero+ z)) (s .back) (mul-nonneg (long-finite s) down-finite (root-nonneg (s .parts .both) (s .is)) down-nonneg)
+
+  -- nor is it -0.0
+  pub length-unsigned : Plain binary64 l
+  unfolding plainLength
+  length-unsigned = go (length-cases x y l f g e)
+    where
+      go : ByRule x y l ⊎ Scaled x y l → Plain binary64 l
+      go (inl r) = root-plain (r .parts .both) (r .is)
+      go (inr s) =
+          subst (Plain binary64) (s .back)
+          (mul-plain (root-plain (s .parts .both) (s .is)) down-plain (long-finite s) down-finite (root-nonneg (s .parts .both) (s .is)) down-nonneg)
 
   -- each part is at most the length, in units
   pub part-sizes : (mag binary64 x ≤ mag binary64 l) × (mag binary64 y ≤ mag binary64 l)
@@ -177,9 +197,9 @@ module _ (x y l : Float) (f : T (fits binary64 x)) (g : T (fits binary64 y)) (e 
       most : {z : Float} → Finite binary64 z → mag binary64 z ≤ mag binary64 l → T (le (sizeOf z) l)
       most {z} p h = to-le (number-finite (finite-sized p)) (number-finite length-finite) (omega (arith, size-key p, nonneg-key (number-finite length-finite) length-nonneg))
 
--- ---- parts of at most 2 ^ 21
-module _ {x y : Float} (X : Within binary64 21 x) (Y : Within binary64 21 y) where
-  wide : {z : Float} → Within binary64 21 z → Within binary64 200 z
+-- ---- parts of at most 2 ^ 41
+module _ {x y : Float} (X : Within binary64 41 x) (Y : Within binary64 41 y) where
+  wide : {z : Float} → Within binary64 41 z → Within binary64 200 z
   wide w = within-weaken (lit≤ tt) w
 
   -- they have a length
@@ -190,13 +210,13 @@ module _ {x y : Float} (X : Within binary64 21 x) (Y : Within binary64 21 y) whe
       go true t = let a = length-tiny x y (X .held) (Y .held) t in (a .0 *₆₄ scaleDown, a .2)
       go false t = let a = plain-answers (within-squared (wide X) (wide Y)) in (a .0, length-plain x y (X .held) (Y .held) t ∙ a .1)
 
-  -- it is at most 2 ^ 22
-  pub length-within : {l : Float} → lengthOf x y ≡ answers l → Within binary64 22 l
+  -- it is at most 2 ^ 42
+  pub length-within : {l : Float} → lengthOf x y ≡ answers l → Within binary64 42 l
   unfolding plainLength
   length-within {l} e = go (length-cases x y l (X .held) (Y .held) e)
     where
-      go : ByRule x y l ⊎ Scaled x y l → Within binary64 22 l
-      go (inl r) = root-bounded 22 (x *₆₄ x +₆₄ y *₆₄ y) l (unfold fits in tt) (within-weaken (lit≤ tt) (within-add (within-mul X X (lit≤ tt)) (within-mul Y Y (lit≤ tt)) (lit< tt))) (r .is)
+      go : ByRule x y l ⊎ Scaled x y l → Within binary64 42 l
+      go (inl r) = root-bounded 42 (x *₆₄ x +₆₄ y *₆₄ y) l (unfold fits in tt) (within-weaken (lit≤ tt) (within-add (within-mul X X (lit≤ tt)) (within-mul Y Y (lit≤ tt)) (lit< tt))) (r .is)
       go (inr s) = within-weaken zero-le (scaled-small s)
 
 -- ---- a part over a length that is not zero is at most 1 in size

@@ -1,4 +1,4 @@
-// What is refused: one case for each row of 01's table of refusal numbers.
+// What is refused: one case for each row of 01's table of refusal numbers, and of the requests after it.
 //
 // A refusal returns its number only, and every lent buffer keeps its contents. The rules of the
 // other crates' specs/ speak of numbers, as 01 does (`Paper`); the code speaks of these cases, and
@@ -15,7 +15,7 @@ pub enum Refusal {
     CellsDoNotFit,
     // 4: a stored ring is wrong, two overlap, or there are more than the room
     StoredRings,
-    // 5: an argument of a cut or a root outside its domain, or over 64 segments or points
+    // 5: an argument of a cut or a root outside its domain, or over 4,096 segments or 64 points
     ArgumentOutside,
     // 6: more changes than lent records
     ChangesOverRoom,
@@ -37,6 +37,10 @@ pub enum Refusal {
     EnvelopeOutside,
     // 15: a malformed job line
     LineMalformed,
+    // 17: points of a profile or a tolerance outside the domain, or over 256 points
+    ProfileOutside,
+    // 18: ten halvings do not reach the tolerance, or more chords than the lent room
+    ChordsOutgrow,
 }
 
 // 01's number of a refusal.
@@ -59,17 +63,21 @@ pub fn number(r: Refusal) -> u32
         Refusal::Arc => 13,
         Refusal::EnvelopeOutside => 14,
         Refusal::LineMalformed => 15,
+        Refusal::ProfileOutside => 17,
+        Refusal::ChordsOutgrow => 18,
     }
 }
 
-// The limits of 01, at which a refusal begins.
+// The limits of 01 and of Req 07 of 02, at which a refusal begins.
 pub const CELL_LIMIT: usize = 4096;
 
-pub const SEGMENT_LIMIT: usize = 64;
+pub const SEGMENT_LIMIT: usize = 4096;
 
 pub const POINT_LIMIT: usize = 64;
 
 pub const ENVELOPE_LIMIT: usize = 1024;
+
+pub const PROFILE_LIMIT: usize = 256;
 
 pub const RING_LIMIT: usize = 256;
 

@@ -139,8 +139,8 @@ fn main() {
     cells(4095.0);
     cells(4096.0);
     cells(4097.0);
-    nose_along(&[1.0f64; 320]);
-    nose_along(&[1.0f64; 325]);
+    nose_along(&[1.0f64; 20480]);
+    nose_along(&[1.0f64; 20485]);
     records_for(&mut [0usize; 2]);
     records_for(&mut [0usize; 1]);
     thread_to(1000000.0);

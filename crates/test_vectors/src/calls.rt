@@ -181,7 +181,7 @@ pub fn list(
     }
 }
 
-// A stock.
+// A stock, or chords in the place of rings.
 pub fn change(
     kind: usize,
     g: Given,
@@ -247,6 +247,7 @@ pub fn change(
             g.changes,
             points,
         ),
+        table::SEGMENTS => turning::turning_segments(cells, g.x, rings, count),
         _ => turning::turning_from_parts(
             g.z_min,
             g.z_max,

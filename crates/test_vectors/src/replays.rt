@@ -82,12 +82,14 @@ fn stock(
     rings: &[f64],
 ) -> Mark {
     let done = s.code == 0;
-    let c = done & (kind != table::REMOVE_RING) & (kind != table::FROM_PARTS);
+    let chords = kind == table::SEGMENTS;
+    let c = done & (kind != table::REMOVE_RING) & (kind != table::FROM_PARTS) & !chords;
     let r = done & (kind != table::APPLY) & (kind != table::NEW);
     let n = cells.len() as u64;
     let m = answers::answer(words, p.answer, s);
     let i = answers::list(words, m, c, n, n, cells);
-    let k = answers::list(words, i, r, s.m, 4 * (s.m % 65536), rings);
+    let q = answers::list(words, i, r & !chords, s.m, 4 * (s.m % 65536), rings);
+    let k = answers::list(words, q, r & chords, s.m, 5 * (s.m % 65536), rings);
     let c_kept = words::only(n, !done);
     let r_kept = words::only(rings.len() as u64, !done);
     Mark {
@@ -99,7 +101,7 @@ fn stock(
     }
 }
 
-// A call that writes a stock.
+// A call that writes a stock, or chords in the place of rings.
 fn changed(words: &[u64; LIMIT], kind: usize, p: Places, g: Given) -> Mark {
     let room = words::after(p.changes, 1);
     let mut cells = [0.0f64; ROOM];
@@ -130,9 +132,12 @@ pub fn replay(words: &[u64; LIMIT], kind: usize) -> Mark {
         | table::THREAD_CUT_INNER
         | table::DRILL
         | table::CHANGES_TO => listed(words, kind, p, g),
-        table::NEW | table::APPLY | table::REMOVE_RING | table::APPLY_MOVE | table::FROM_PARTS => {
-            changed(words, kind, p, g)
-        }
+        table::NEW
+        | table::APPLY
+        | table::REMOVE_RING
+        | table::APPLY_MOVE
+        | table::FROM_PARTS
+        | table::SEGMENTS => changed(words, kind, p, g),
         _ => asked(words, kind, p, g),
     }
 }

@@ -43,8 +43,10 @@ pub const RADIUS_AT: usize = 19;
 
 pub const RADIUS_RANGE: usize = 20;
 
+pub const SEGMENTS: usize = 21;
+
 // A line whose name is not in the table.
-pub const UNREAD: usize = 21;
+pub const UNREAD: usize = 22;
 
 // Calls of kind k at k, those that differ at APART + k.
 const APART: usize = 32;
@@ -55,7 +57,7 @@ pub const COUNTS: usize = 64;
 // numbers the call writes besides lists.
 const ROW: usize = 27;
 
-const ROWS: usize = 22;
+const ROWS: usize = 23;
 
 const NAME: usize = 16;
 
@@ -91,6 +93,7 @@ envelope_order  0N000000 10\
 within          0N002000 20\
 radius_at       0N001000 11\
 radius_range    0N002000 12\
+segments        0N001001 00\
 unread          00000000 00";
     rows[ROW * (k % ROWS) + j % ROW]
 }

@@ -2,7 +2,7 @@
 use mathlib.Core.Path.{_≡_, refl, sym, ap, _∙_, subst}
 use mathlib.Core.Option.{Option}
 use mathlib.Core.List.{List}
-use Prim.Native.Nat.{ℕ}
+use Prim.Native.Nat.{ℕ, _/_}
 use lib.ListN.{length}
 use lib.Ieee.{Float}
 use borrow.Author.Tests.{eq-eqb, ne-eqb}
@@ -28,10 +28,13 @@ use Rattle.rings.specs.declared.StoredAs.{StoredAs}
 use Rattle.rings.specs.declared.Ring.{Ring}
 use Rattle.rings.specs.Remove as Remove
 use Rattle.rings.specs.Remove.{RingStore, RingCount, removedPaper, countsOf, Removes, storedPaper, StoresAs}
+use Rattle.profile.specs.declared.Chopped.{Chopped}
+use Rattle.profile.specs.Chords as Profile
+use Rattle.profile.specs.Chords.{Chord, choppedPaper, segmentsOf, Segmented}
 use Rattle.moves.specs.declared.Moved.{Moved}
 use Rattle.moves.specs.Move as Move
 use Rattle.moves.specs.Move.{Left, movedPaper, Moves}
-use Rattle.turning.specs.Boundary.{codeOf, outOf, Gives, GivesBin, GivesCells, GivesChanges, GivesStock, bySide, GivesTwo, GivesRings, GivesMove, GivesStore, GivesFound, GivesFoundTwo}
+use Rattle.turning.specs.Boundary.{codeOf, outOf, Gives, GivesBin, GivesCells, GivesChanges, GivesStock, bySide, GivesTwo, GivesRings, GivesMove, GivesStore, GivesChords, GivesFound, GivesFoundTwo}
 
 -- an answer that says what the rule says
 pub gives : {A : Type 0} (p q : Paper A) (r : ℕ) (x x' : A) → p ≡ q → Gives p r x x' → Gives q r x x'
@@ -138,6 +141,22 @@ gives-store p a r xs xs' k k' h q = record {
     same-code (refuses n) = refl
 
     same-count : (p : Paper (List Ring)) → outOf (λ (n : ℕ). n) (Remove.countOf p) k ≡ outOf (λ (l : List Ring). length l) p k
+    same-count (answers l) = refl
+    same-count (refuses n) = refl
+
+pub gives-chords : (ps : List Float) (tol : Float) (a : Chopped) (r : ℕ) (xs xs' : List Float) (k k' : ℕ) → Gives (choppedPaper a) r k k' → Segmented ps tol a xs xs' → GivesChords (segmentsOf ps tol (length xs / 5)) r xs xs' k k'
+unfolding Profile.countOf
+gives-chords ps tol a r xs xs' k k' h q = record {
+  code = h .code ∙ ap codeOf (q .answer) ∙ same-code (segmentsOf ps tol (length xs / 5));
+  chords = q .out;
+  count = h .out ∙ ap (λ (z : Paper ℕ). outOf (λ (n : ℕ). n) z k) (q .answer) ∙ same-count (segmentsOf ps tol (length xs / 5));
+}
+  where
+    same-code : (p : Paper (List Chord)) → codeOf (Profile.countOf p) ≡ codeOf p
+    same-code (answers l) = refl
+    same-code (refuses n) = refl
+
+    same-count : (p : Paper (List Chord)) → outOf (λ (n : ℕ). n) (Profile.countOf p) k ≡ outOf (λ (l : List Chord). length l) p k
     same-count (answers l) = refl
     same-count (refuses n) = refl
 

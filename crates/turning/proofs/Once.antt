@@ -11,6 +11,7 @@
 --   gives-rings-once      turning_remove_ring
 --   gives-move-once       turning_apply_move
 --   gives-store-once      turning_from_parts
+--   gives-chords-once     turning_segments
 --   gives-found-once      turning_radius_at
 --   gives-found-two-once  turning_envelope_at, turning_radius_range
 --   takes-job-once        turning_job_take
@@ -30,10 +31,11 @@ use Rattle.changes.specs.Commit.{Committed}
 use Rattle.rings.specs.declared.Ring.{Ring}
 use Rattle.rings.specs.Remove.{RingStore}
 use Rattle.moves.specs.Move.{Left}
+use Rattle.profile.specs.Chords.{Chord}
 use Rattle.job_run.specs.declared.Run.{Run}
 use Rattle.job_run.specs.Run.{State, Hold}
 use Rattle.turning.specs.Jobs.{TakesJob, EndsJob, WritesJob}
-use Rattle.turning.specs.Boundary.{Gives, GivesTwo, GivesBin, GivesCells, GivesChanges, GivesStock, GivesRings, GivesMove, GivesStore, GivesFound, GivesFoundTwo}
+use Rattle.turning.specs.Boundary.{Gives, GivesTwo, GivesBin, GivesCells, GivesChanges, GivesStock, GivesRings, GivesMove, GivesStore, GivesChords, GivesFound, GivesFoundTwo}
 
 -- one number
 pub gives-once : {A : Type 0} (p : Paper A) (r r' : ℕ) (x x₁ x₂ : A) → Gives p r x x₁ → Gives p r' x x₂ → (r ≡ r') × (x₁ ≡ x₂)
@@ -71,6 +73,10 @@ gives-move-once p r r' cs cs₁ cs₂ xs xs₁ xs₂ k k₁ k₂ g g₁ g₂ a b
 -- the rings and their count
 pub gives-store-once : (p : Paper (List Ring)) (r r' : ℕ) (xs xs₁ xs₂ : List Float) (k k₁ k₂ : ℕ) → GivesStore p r xs xs₁ k k₁ → GivesStore p r' xs xs₂ k k₂ → (r ≡ r') × (xs₁ ≡ xs₂) × (k₁ ≡ k₂)
 gives-store-once p r r' xs xs₁ xs₂ k k₁ k₂ a b = (a .code ∙ sym (b .code), a .rings ∙ sym (b .rings), a .count ∙ sym (b .count))
+
+-- the chords and their count
+pub gives-chords-once : (p : Paper (List Chord)) (r r' : ℕ) (xs xs₁ xs₂ : List Float) (k k₁ k₂ : ℕ) → GivesChords p r xs xs₁ k k₁ → GivesChords p r' xs xs₂ k k₂ → (r ≡ r') × (xs₁ ≡ xs₂) × (k₁ ≡ k₂)
+gives-chords-once p r r' xs xs₁ xs₂ k k₁ k₂ a b = (a .code ∙ sym (b .code), a .chords ∙ sym (b .chords), a .count ∙ sym (b .count))
 
 -- one number, if it is found
 pub gives-found-once : {A : Type 0} (p : Paper (Option A)) (r r' f f₁ f₂ : ℕ) (x x₁ x₂ : A) → GivesFound p r f f₁ x x₁ → GivesFound p r' f f₂ x x₂ → (r ≡ r') × (f₁ ≡ f₂) × (x₁ ≡ x₂)

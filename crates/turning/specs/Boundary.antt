@@ -1,7 +1,7 @@
 -- What a call of the C boundary returns, and what it leaves in its out-parameters. Assumes nothing.
 use mathlib.Core.Path.{_≡_}
 use mathlib.Core.List.{List}
-use Prim.Native.Nat.{ℕ}
+use Prim.Native.Nat.{ℕ, _/_}
 use lib.ListN.{length}
 use lib.Ieee.{Float}
 use mathlib.Core.Option.{Option, none, some}
@@ -24,6 +24,8 @@ use Rattle.changes.specs.Commit.{Committed, cellsAfter}
 use Rattle.cuts.specs.Preview.{previewNose, previewPolygon}
 use Rattle.rings.specs.declared.Ring.{Ring}
 use Rattle.rings.specs.Remove.{RingStore, ringsAfter, storeAfter}
+use Rattle.profile.specs.Chords as Profile
+use Rattle.profile.specs.Chords.{Chord, flatOf}
 use Rattle.moves.specs.Move as Move
 use Rattle.moves.specs.Move.{Left}
 
@@ -124,6 +126,12 @@ pub record GivesStore (p : Paper (List Ring)) (r : ℕ) (xs xs' : List Float) (k
   pub rings : xs' ≡ storeAfter xs p
   pub count : k' ≡ outOf (λ (l : List Ring). length l) p k
 
+-- the chords of a profile, over the beginning of the lent numbers, and their count
+pub record GivesChords (p : Paper (List Chord)) (r : ℕ) (xs xs' : List Float) (k k' : ℕ) : Type 0 where
+  pub code : r ≡ codeOf p
+  pub chords : xs' ≡ over (flatOf (Profile.writtenOf p)) xs
+  pub count : k' ≡ outOf (λ (l : List Chord). length l) p k
+
 -- ---- an answer that may find nothing
 
 -- 1 where something is found, else 0
@@ -185,6 +193,10 @@ HandsMove p r cells rings count generation =
 
 abbrev pub HandsStore : Paper (List Ring) → ℕ → Lent Float → Out ℕ → Type 0
 HandsStore p r rings count = GivesStore p r (now (rings .entry)) (now (rings .exit)) (now (count .entry)) (now (count .exit))
+
+-- with as much room for chords as the list has
+abbrev pub HandsChords : (ℕ → Paper (List Chord)) → ℕ → Lent Float → Out ℕ → Type 0
+HandsChords rule r segments count = GivesChords (rule (length (now (segments .entry)) / 5)) r (now (segments .entry)) (now (segments .exit)) (now (count .entry)) (now (count .exit))
 
 abbrev pub HandsFound : {A : Type 0} → Paper (Option A) → ℕ → Out ℕ → Out A → Type 0
 HandsFound p r found x = GivesFound p r (now (found .entry)) (now (found .exit)) (now (x .entry)) (now (x .exit))

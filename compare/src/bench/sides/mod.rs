@@ -2,12 +2,14 @@
 mod cuts;
 mod envelope;
 mod numbers;
+mod profile;
 mod rings;
 mod stock;
 
 pub use cuts::*;
 pub use envelope::*;
 pub use numbers::*;
+pub use profile::*;
 pub use rings::*;
 pub use stock::*;
 
