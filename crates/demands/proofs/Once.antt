@@ -13,7 +13,7 @@
 --   changes   room, change_at, held_of, is_accepted, put_after
 --   rings     rings_fit, rings_good, raised_by
 --   queries   bins_at
---   envelope  within, of the numbers of the part that is lent back
+--   envelope  within, of the numbers of the part that is lent back; number_of
 --   text      part, front, of the bytes that are lent back; part_count, same, read_whole
 --   job_words read_line, read_number
 --   job_run   fresh, finish
@@ -36,6 +36,7 @@
 --   change_slices apply, read_changes, propose (Once of change_slices), apply_move (Once.moved-once of moves)
 --   rings     remove_ring (removed-once), remove_rings (Once.stored-once of moves)
 --   moves     apply_move (Once.moved-once of moves), from_parts (Once.stored-once of moves)
+--   envelope  span_over (span-over-once), highest (highest-once)
 --   envelope  held::Envelope: new (new-once), order (order-once), within (within-once, of the numbers), radius_at (radius-at-once), radius_range (radius-range-once)
 --   profile   segments (Laws.segments-once of profile)
 --   text      put, put_digits, put_decimal, put_hex, put_four (put-once), ring_line (wrote-once)
@@ -87,7 +88,9 @@ use Rattle.envelope.specs.declared.RadiusAt.the-variants as radius-at
 use Rattle.envelope.specs.declared.RadiusRange.{RadiusRange}
 use Rattle.envelope.specs.declared.RadiusRange.the-variants as radius-range
 use Rattle.envelope.specs.Envelope.{orderedPaper, span, spannedPaper, lookedPaper, radiusAtPaper, Radii, radiusRangePaper}
-use Rattle.envelope.specs.Halving.{keptOf, OrderKept, WithinKept, RadiusAtKept, RadiusRangeKept}
+use Rattle.envelope.specs.declared.Radius.{Radius}
+use Rattle.envelope.specs.declared.Radius.the-variants as radius
+use Rattle.envelope.specs.Halving.{keptOf, radiusOf, OrderKept, SpanOver, Highest, WithinKept, RadiusAtKept, RadiusRangeKept}
 use Rattle.reach.specs.declared.Low.{Low}
 use Rattle.reach.specs.declared.Low.the-variants as low-case
 use Rattle.reach.specs.declared.Reach.{Reach}
@@ -318,6 +321,20 @@ order-once ps z r r' a b = same-ordered r r' (a .found ∙ sym (b .found))
 
 pub within-once : (ps : List Float) (z : ℤ) (lo hi : Float) (l l' : List Float) → WithinKept ps z lo hi l → WithinKept ps z lo hi l' → l ≡ l'
 within-once ps z lo hi l l' a b = a .found ∙ sym (b .found)
+
+-- a part of a rule, of any number beside the points
+pub span-over-once : (ps : List Float) (z : ℤ) (lo hi : Float) (r r' : Span) → SpanOver ps z lo hi r → SpanOver ps z lo hi r' → r ≡ r'
+span-over-once ps z lo hi r r' a b = a .found ∙ sym (b .found)
+
+pub same-radius : (r r' : Radius) → radiusOf r ≡ radiusOf r' → r ≡ r'
+unfolding radiusOf
+same-radius (radius.At x) (radius.At y) h = ap radius.At (same-some h)
+same-radius (radius.At x) radius.Nowhere h = absurd (none-some x (sym h))
+same-radius radius.Nowhere (radius.At y) h = absurd (none-some y h)
+same-radius radius.Nowhere radius.Nowhere h = refl
+
+pub highest-once : (ps : List Float) (z : ℤ) (u : Float) (r r' : Radius) → Highest ps z u r → Highest ps z u r' → r ≡ r'
+highest-once ps z u r r' a b = same-radius r r' (a .found ∙ sym (b .found))
 
 pub radius-at-once : (ps : List Float) (z : ℤ) (u : Float) (r r' : RadiusAt) → RadiusAtKept ps z u r → RadiusAtKept ps z u r' → r ≡ r'
 radius-at-once ps z u r r' a b = same-radius-at r r' (a .found ∙ sym (b .found))

@@ -1,5 +1,5 @@
 -- A chain of numbers that has an order: what a test against a bound says of the places in the order, and that where one point passes, every point before it does. Assumes nothing.
-use mathlib.Core.Path.{_≡_, refl, sym, subst}
+use mathlib.Core.Path.{_≡_, refl, sym, _∙_, subst}
 use mathlib.Core.Bool.{Bool, true, false, _&&_, false≢true}
 use mathlib.Core.Logic.{_⊎_, inl, inr, _↔_}
 use mathlib.Core.List.{List}
@@ -7,7 +7,7 @@ use Prim.Native.Nat.{ℕ, zero, suc, _+_, _-_, _≤_, _<_}
 use native.Mathlib.Nat.{add-zero, eq-or-lt-of-le, le-refl, le-trans}
 use native.Mathlib.Omega.{arith}
 use lib.Dec.{T}
-use lib.Ieee.{Float, binary64, le}
+use lib.Ieee.{Float, nan, inf, fin, binary64, le, lt, eq, fits, isNan}
 use Rattle.floats.specs.Kinds.{Number}
 use Rattle.floats.proofs.Keys.{key, lt-key, le-key}
 use Rattle.envelope.specs.declared.Test.{Test}
@@ -82,6 +82,18 @@ before AtMost a b x l h = omega arith
 before Above a b x l h = omega arith
 before AtLeast a b x l h = omega arith
 
+-- no u passes a test against a nan
+nan-passes : (t : Test) (u : Float) → passes t u nan ≡ false
+unfolding le lt eq
+nan-passes Below nan = refl
+nan-passes Below (inf s) = refl
+nan-passes Below (fin s m e) = refl
+nan-passes AtMost nan = refl
+nan-passes AtMost (inf s) = refl
+nan-passes AtMost (fin s m e) = refl
+nan-passes Above u = refl
+nan-passes AtLeast u = refl
+
 module _ (ps : List Float) (num : (i : ℕ) → i < count ps → Number binary64 (uAt ps i)) where
   -- the place of point i
   abbrev pub K : ℕ → ℕ
@@ -109,3 +121,10 @@ module _ (ps : List Float) (num : (i : ℕ) → i < count ps → Number binary64
       let g : i + (j - i) ≡ j = omega arith in
       let l = rw g at (leads t e i (j - i) (omega arith)) in
       is (passes t (uAt ps i) x) (test-key t (num i (omega arith)) nx .1 (before t (K i) (K j) (key binary64 x) l (test-key t (num j m) nx .0 (so p))))
+
+  -- and a nan as a bound passes none
+  pub closed-any : (t : Test) (x : Float) → T (fits binary64 x) → runs t ps ≡ true → (i j : ℕ) → i ≤ j → j < count ps → passes t (uAt ps j) x ≡ true → passes t (uAt ps i) x ≡ true
+  unfolding isNan
+  closed-any t nan f e i j h m p = absurd (false≢true (sym (nan-passes t (uAt ps j)) ∙ p))
+  closed-any t (inf s) f e i j h m p = closed t (record { held = f; number = tt }) e i j h m p
+  closed-any t (fin s n d) f e i j h m p = closed t (record { held = f; number = tt }) e i j h m p

@@ -9,7 +9,7 @@ use native.Mathlib.Decide.{decLe}
 use native.Mathlib.Omega.{arith}
 use lib.Dec.{T}
 use lib.IntN.{pos, negsuc}
-use lib.Ieee.{Float, binary64, le}
+use lib.Ieee.{Float, binary64, le, fits}
 use Rattle.floats.specs.Pick.{pick}
 use Rattle.floats.specs.Kinds.{Number}
 use Rattle.floats.proofs.Keys.{key, le-key}
@@ -19,7 +19,7 @@ use Rattle.envelope.specs.Envelope.{uAt, count, rises, falls, orderOf, p
 use Rattle.envelope.specs.Halving.{halve, splitOf, isZ, halvedSpan}
 use Rattle.envelope.proofs.Halves.{mid, done, step, split-le}
 use Rattle.envelope.proofs.Kept.{Lies, order-mixed}
-use Rattle.envelope.proofs.Chain.{K, Holds, test-key, runs, closed, is, so}
+use Rattle.envelope.proofs.Chain.{K, Holds, test-key, runs, closed, closed-any, is, so}
 
 not-le : {a b : ℕ} → (a ≤ b → ⊥) → b < a
 not-le h = omega arith
@@ -130,6 +130,21 @@ module _ (ps : List Float) (num : (i : ℕ) → i < count ps → Number binary64
     pub many-le : howMany ps t x ≤ count ps
     many-le = rw (← split-counted) (split-le ps t x)
 
+  -- a nan as a bound passes no point, and halving finds none
+  module _ (t : Test) (x : Float) (f : T (fits binary64 x)) (e : runs t ps ≡ true) where
+    pub any-counted : splitOf ps t x ≡ howMany ps t x
+    any-counted = counted ps t x (splitOf ps t x) (split-le ps t x) (split-parted ps t x (closed-any ps num t x f e))
+
+  -- halving finds what counting does, whatever the bounds
+  pub span-any : (lo hi : Float) → T (fits binary64 lo) → T (fits binary64 hi) → halvedSpan ps (orderOf ps) lo hi ≡ spanOf ps lo hi
+  unfolding halvedSpan spanOf isZ orderOf pick
+  span-any lo hi flo fhi = go (rises ps) (falls ps) refl refl
+    where
+      go : (a b : Bool) → rises ps ≡ a → falls ps ≡ b → halvedSpan ps (pick a (pos 1) (pick b (negsuc 0) (pos 0))) lo hi ≡ pick a (span (howMany ps Below lo) (howMany ps AtMost hi)) (pick b (span (howMany ps Above hi) (howMany ps AtLeast lo)) (allPoints ps))
+      go true b e f = ap₂ span (any-counted Below lo flo e) (any-counted AtMost hi fhi e)
+      go false true e f = ap₂ span (any-counted Above hi fhi f) (any-counted AtLeast lo flo f)
+      go false false e f = refl
+
   -- a span from where the points stop to pass one test to where they stop to pass another: its points fail the first, and pass the second
   module _ (s t : Test) {x y : Float} (nx : Number binary64 x) (ny : Number binary64 y) (es : runs s ps ≡ true) (et : runs t ps ≡ true) where
     points-between : (i : ℕ) → i < count ps → ((howMany ps s x ≤ i) × (i < howMany ps t y)) ↔ ((Holds s (K ps num i) (key binary64 x) → ⊥) × Holds t (K ps num i) (key binary64 y))
@@ -145,15 +160,8 @@ module _ (ps : List Float) (num : (i : ℕ) → i < count ps → Number binary64
         (not-lt (λ l. many-fail t ny et (howMany ps t y) (le-refl (howMany ps t y)) (omega arith) (f (K ps num (howMany ps t y)) (many-pass s nx es (howMany ps t y) l (omega arith)))), many-le t ny et)
 
   module _ (lo hi : Float) (nlo : Number binary64 lo) (nhi : Number binary64 hi) where
-    -- halving finds what counting does
     pub span-counted : halvedSpan ps (orderOf ps) lo hi ≡ spanOf ps lo hi
-    unfolding halvedSpan spanOf isZ orderOf pick
-    span-counted = go (rises ps) (falls ps) refl refl
-      where
-        go : (a b : Bool) → rises ps ≡ a → falls ps ≡ b → halvedSpan ps (pick a (pos 1) (pick b (negsuc 0) (pos 0))) lo hi ≡ pick a (span (howMany ps Below lo) (howMany ps AtMost hi)) (pick b (span (howMany ps Above hi) (howMany ps AtLeast lo)) (allPoints ps))
-        go true b e f = ap₂ span (split-counted Below nlo e) (split-counted AtMost nhi e)
-        go false true e f = ap₂ span (split-counted Above nhi f) (split-counted AtLeast nlo f)
-        go false false e f = refl
+    span-counted = span-any lo hi (nlo .held) (nhi .held)
 
     -- where lo <= hi it is not turned about
     pub span-lies : le lo hi ≡ true → Lies (spanOf ps lo hi) (count ps)

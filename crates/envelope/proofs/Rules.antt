@@ -20,12 +20,12 @@ use Rattle.floats.proofs.Within.{number-l}
 use Rattle.refusals.specs.Paper.{Paper, answers, refuses, demand}
 use Rattle.envelope.specs.declared.Span.{Span}
 use Rattle.refusals.specs.Limits.{envelopeLimit}
-use Rattle.envelope.specs.Envelope.{uAt, vAt, count, usableTo, pointsGood, rises, falls, orderOf, orderedOf, span, spanOf, partOf, withinOf, numbersOf, wider, highestIn, radiusAtOf, Radii, radiiIn, radiiOf, radiusRangeOf}
-use Rattle.envelope.specs.Halving.{isZ, keptOf, Kept, accepted, keptOrder, halvedSpan, straight, halvedPart, keptWithin, halvedAt, keptAt, halvedRadii, keptRange}
+use Rattle.envelope.specs.Envelope.{uAt, vAt, count, usableTo, pointsGood, rises, falls, orderOf, orderedOf, span, spanOf, partOf, withinOf, numbersOf, wider, highestIn, highestAt, radiusAtOf, Radii, radiiIn, radiiOf, radiusRangeOf}
+use Rattle.envelope.specs.Halving.{isZ, keptOf, Kept, Ruled, accepted, keptOrder, halvedSpan, straight, halvedPart, keptWithin, halvedAt, keptAt, halvedRadii, keptRange}
 use Rattle.envelope.specs.Full.{fullAt, fullRange}
 use Rattle.envelope.proofs.Kept.{Lies}
 use Rattle.envelope.proofs.Chain.{both, so, all-at}
-use Rattle.envelope.proofs.Counted.{span-counted, span-lies, span-exactly}
+use Rattle.envelope.proofs.Counted.{span-any, span-counted, span-lies, span-exactly}
 use Rattle.envelope.proofs.Narrow.{highest-full, radii-full}
 
 -- ---- the numbers of good points, and of a query
@@ -142,6 +142,14 @@ module _ (ps : List Float) (held : (i : ℕ) → T (fits binary64 (getD ps i nan
 
     pub range-kept : (r : Paper (Option Radii)) → r ≡ keptRange ps z lo hi → Kept ps z r (keptRange ps z lo hi) (radiusRangeOf ps lo hi)
     range-kept r e = record { found = e; ruled = λ g. e ∙ (ap (λ y. keptRange ps y lo hi) g ∙ range-rule ps held lo hi flo fhi) }
+
+  -- a part of a rule, of the points' own order
+  pub span-ruled : (lo hi : Float) → T (fits binary64 lo) → T (fits binary64 hi) → (r : Span) → r ≡ halvedSpan ps z lo hi → Ruled ps z r (halvedSpan ps z lo hi) (spanOf ps lo hi)
+  span-ruled lo hi flo fhi r e = record { found = e; ruled = λ good g. e ∙ (ap (λ y. halvedSpan ps y lo hi) g ∙ span-any ps (u-number ps good held) lo hi flo fhi) }
+
+  pub at-ruled : (u : Float) → T (fits binary64 u) → (r : Option Float) → r ≡ halvedAt ps z u → Ruled ps z r (halvedAt ps z u) (highestAt ps u)
+  unfolding halvedAt
+  at-ruled u fu r e = record { found = e; ruled = λ good g. e ∙ ap (λ s. highestIn ps (wider s (count ps)) u) (ap (λ y. halvedSpan ps y u u) g ∙ span-any ps (u-number ps good held) u u fu fu) }
 
 -- ---- the part of a chain that has an order
 module _ (ps : List Float) (held : (i : ℕ) → T (fits binary64 (getD ps i nan))) where

@@ -178,11 +178,13 @@ highestTo ps u a (suc k) = higher (highestTo ps u a k) (segmentAt (pointAt ps (a
 abbrev pub highestIn : List Float → Span → Float → Option Float
 highestIn ps s u = highestTo ps u (s .start) (s .end - s .start - 1)
 
--- the highest radius at u: over the part at u, one point wider on each side
+-- over the part at u, one point wider on each side
+abbrev pub highestAt : List Float → Float → Option Float
+highestAt ps u = highestIn ps (wider (spanOf ps u u) (count ps)) u
+
+-- the highest radius at u
 unfoldable pub radiusAtOf : List Float → Float → Paper (Option Float)
-radiusAtOf ps u =
-    demand (pointsGood ps && usable u) 14
-    (answers (highestIn ps (wider (spanOf ps (cleanOf u) (cleanOf u)) (count ps)) (cleanOf u)))
+radiusAtOf ps u = demand (pointsGood ps && usable u) 14 (answers (highestAt ps (cleanOf u)))
 
 -- what the answer of `radius_at` says, case by case
 abbrev pub radiusAtPaper : RadiusAt → Paper (Option Float)

@@ -1,7 +1,7 @@
 -- The way of the code, over points and an order's number that is kept beside them: the part is found by halving. Where the number is that of the points this is what
 -- the rules of `Envelope` say (proofs/Kept.antt). Assumes nothing.
 use mathlib.Core.Path.{_≡_}
-use mathlib.Core.Bool.{Bool, false, not, _&&_}
+use mathlib.Core.Bool.{Bool, true, false, not, _&&_}
 use mathlib.Core.List.{List}
 use mathlib.Core.Option.{Option, none, some}
 use Prim.Native.Nat.{ℕ, zero, suc, _+_, _/_, _-_}
@@ -15,8 +15,8 @@ use Rattle.refusals.specs.Paper.{Paper, answers, demand}
 use Rattle.envelope.specs.declared.Span.{Span}
 use Rattle.envelope.specs.declared.Test.{Test}
 use Rattle.envelope.specs.declared.Test.the-variants.{Below, AtMost, Above, AtLeast}
-use Rattle.envelope.specs.declared.segments.Radius.{Radius}
-use Rattle.envelope.specs.declared.segments.Radius.the-variants as radius
+use Rattle.envelope.specs.declared.Radius.{Radius}
+use Rattle.envelope.specs.declared.Radius.the-variants as radius
 use Rattle.envelope.specs.declared.segments.Extent.{Extent}
 use Rattle.envelope.specs.declared.segments.Extent.the-variants as extent
 use Rattle.envelope.specs.declared.Scanned.{Scanned}
@@ -24,7 +24,7 @@ use Rattle.envelope.specs.declared.Ordered.{Ordered}
 use Rattle.envelope.specs.declared.Spanned.{Spanned}
 use Rattle.envelope.specs.declared.RadiusAt.{RadiusAt}
 use Rattle.envelope.specs.declared.RadiusRange.{RadiusRange}
-use Rattle.envelope.specs.Envelope.{count, uAt, usableTo, pointsGood, rises, falls, orderOf, orderedOf, orderedPaper, passes, span, allPoints, withinOf, numbersOf, spannedPaper, wider, highestIn, radiusAtOf, radiusAtPaper, Radii, radiiIn, radiusRangeOf, radiusRangePaper}
+use Rattle.envelope.specs.Envelope.{count, uAt, usableTo, pointsGood, rises, falls, orderOf, orderedOf, orderedPaper, passes, span, allPoints, spanOf, withinOf, numbersOf, spannedPaper, wider, highestIn, highestAt, radiusAtOf, radiusAtPaper, Radii, radiiIn, radiusRangeOf, radiusRangePaper}
 
 -- what one pass over the points finds
 abbrev pub scanOf : List Float → Scanned
@@ -63,6 +63,11 @@ pub record Kept {A : Type 0} (ps : List Float) (z : ℤ) (r way rule : A) : Type
   pub found : r ≡ way
   pub ruled : z ≡ keptOf ps → r ≡ rule
 
+-- the same of a part of a rule, which asks nothing of the points: where they are accepted and the number is their order, what the rule says
+pub record Ruled {A : Type 0} (ps : List Float) (z : ℤ) (r way rule : A) : Type 0 where
+  pub found : r ≡ way
+  pub ruled : pointsGood ps ≡ true → z ≡ orderOf ps → r ≡ rule
+
 -- the order that is kept
 unfoldable pub keptOrder : ℤ → Paper ℤ
 keptOrder z = demand (accepted z) 14 (answers z)
@@ -76,6 +81,10 @@ unfoldable pub halvedSpan : List Float → ℤ → Float → Float → Span
 halvedSpan ps z lo hi =
     pick (isZ z (pos 1)) (span (splitOf ps Below lo) (splitOf ps AtMost hi))
     (pick (isZ z (negsuc 0)) (span (splitOf ps Above hi) (splitOf ps AtLeast lo)) (allPoints ps))
+
+-- what the span's promise says
+abbrev pub SpanOver : List Float → ℤ → Float → Float → Span → Type 0
+SpanOver ps z lo hi r = Ruled ps z r (halvedSpan ps z lo hi) (spanOf ps lo hi)
 
 -- nothing where the span is turned about
 unfoldable pub straight : Span → Span
@@ -102,6 +111,10 @@ radiusOf radius.Nowhere = none
 
 unfoldable pub halvedAt : List Float → ℤ → Float → Option Float
 halvedAt ps z u = highestIn ps (wider (halvedSpan ps z u u) (count ps)) u
+
+-- what the radius's promise says
+abbrev pub Highest : List Float → ℤ → Float → Radius → Type 0
+Highest ps z u r = Ruled ps z (radiusOf r) (halvedAt ps z u) (highestAt ps u)
 
 unfoldable pub keptAt : List Float → ℤ → Float → Paper (Option Float)
 keptAt ps z u = demand (accepted z && usable u) 14 (answers (halvedAt ps z (cleanOf u)))

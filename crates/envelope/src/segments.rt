@@ -5,17 +5,12 @@ ghost use Prim.Native.Nat.{_+_, _*_, _≤_};
 ghost use lib.ListN.{length};
 ghost use Rattle.envelope.specs.Envelope.{pointAt, across, segmentAt, higher, highestIn, taken, segmentOver, segmentIn, radiiIn};
 ghost use Rattle.envelope.specs.Halving.{radiusOf, extentOf};
+use super::Radius;
 use super::Span;
 
 struct Point {
     u: f64,
     v: f64,
-}
-
-// A radius, or none.
-pub enum Radius {
-    At(f64),
-    Nowhere,
 }
 
 // The lowest and the highest of some radii, or none.
