@@ -3,7 +3,7 @@
 //!
 //! Package `plain` has every file as it stands in the checkout. Package `length` has stock.rs with
 //! 01's length, as Req 03 of 02 has it, in the place of `hypot` and with `preview` cut in two, so that chords with
-//! their sag can be handed in, and profile.rs with `within` and the order made public.
+//! their sag can be handed in, and profile.rs with `within`, `eroded` and the order made public.
 use std::path::{Path, PathBuf};
 use std::{env, fs};
 
@@ -33,11 +33,15 @@ const STOCK: [(&str, &str); 3] = [
     (SPLIT, SPLIT_HERE),
     ("in &segments {", "in segments {"),
 ];
-const PROFILE: [(&str, &str); 2] = [
+const PROFILE: [(&str, &str); 3] = [
     ("    order: i8,", "    pub order: i8,"),
     (
         "    fn within(&self, lo: f64, hi: f64)",
         "    pub fn within(&self, lo: f64, hi: f64)",
+    ),
+    (
+        "    fn eroded(&self, u: f64, tol: f64)",
+        "    pub fn eroded(&self, u: f64, tol: f64)",
     ),
 ];
 

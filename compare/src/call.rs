@@ -80,6 +80,9 @@ pub enum Call {
     RadiusAt { points: Vec<f64>, u: f64 },
     RadiusRange { points: Vec<f64>, lo: f64, hi: f64 },
     Segments { points: Vec<f64>, tolerance: f64, segments_len: usize },
+    Excess { points: Vec<f64>, polygon: Vec<f64>, tolerance: f64 },
+    Penetration { points: Vec<f64>, polygon: Vec<f64>, tolerance: f64 },
+    Eroded { points: Vec<f64>, u: f64, tolerance: f64 },
 }
 
 impl Call {
@@ -109,6 +112,9 @@ impl Call {
             Call::RadiusAt { .. } => "radius_at",
             Call::RadiusRange { .. } => "radius_range",
             Call::Segments { .. } => "segments",
+            Call::Excess { .. } => "excess",
+            Call::Penetration { .. } => "penetration",
+            Call::Eroded { .. } => "eroded",
         }
     }
 }

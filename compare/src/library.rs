@@ -57,6 +57,13 @@ pub mod c {
         turning_segments(
             points: In, points_len: usize, tolerance: f64, segments: Out, segments_len: usize, count: Size
         );
+        turning_excess(
+            points: In, points_len: usize, polygon: In, polygon_len: usize, tolerance: f64, found: *mut u32, by: Out
+        );
+        turning_penetration(
+            points: In, points_len: usize, polygon: In, polygon_len: usize, tolerance: f64, found: *mut u32, by: Out
+        );
+        turning_eroded(points: In, points_len: usize, u: f64, tolerance: f64, found: *mut u32, radius: Out);
     }
     declare_with_spec! {
         turning_validate(n: Size);
@@ -208,6 +215,15 @@ pub fn run(call: &Call, memory: &mut Memory) -> u32 {
             ),
             Call::Segments { tolerance, .. } => c::turning_segments(
                 m[0].start(), m[0].size(), *tolerance, m[1].start(), m[1].size(), m[2].start()
+            ),
+            Call::Excess { tolerance, .. } => c::turning_excess(
+                m[0].start(), m[0].size(), m[1].start(), m[1].size(), *tolerance, m[2].start(), m[3].start()
+            ),
+            Call::Penetration { tolerance, .. } => c::turning_penetration(
+                m[0].start(), m[0].size(), m[1].start(), m[1].size(), *tolerance, m[2].start(), m[3].start()
+            ),
+            Call::Eroded { u, tolerance, .. } => c::turning_eroded(
+                m[0].start(), m[0].size(), *u, *tolerance, m[1].start(), m[2].start()
             ),
         }
     }

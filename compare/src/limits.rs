@@ -463,6 +463,63 @@ fn envelope(count: usize, order: i32) -> Vec<f64> {
     (0..count).flat_map(|k| [u(k), r(k)]).collect()
 }
 
+/// Inserts with so many points and such a tolerance.
+fn inserts() -> Vec<(Call, u32)> {
+    let points = || vec![0., 10., 2., 10., 2., 6., 5., 6., 5., 10., 8., 10.];
+    let around = |count: usize| -> Vec<f64> {
+        (0..count)
+            .flat_map(|k| [3. + (k % 7) as f64 / 8., 5. + (k % 5) as f64 / 4.])
+            .collect()
+    };
+    let over = MILLION.next_up();
+    let mut calls = vec![];
+    for (polygon, tolerance, number) in [
+        (around(MOST_POINTS), 0.1, 0),
+        (around(MOST_POINTS + 1), 0.1, ENVELOPE),
+        (around(4), MILLION, 0),
+        (around(4), over, ENVELOPE),
+        (around(4), -f64::from_bits(1), ENVELOPE),
+        (around(4), -0., 0),
+        (vec![MILLION, 1., -MILLION, 1.], 0.1, 0),
+        (vec![over, 1.], 0.1, ENVELOPE),
+        (vec![1., 1., 1.], 0.1, ENVELOPE),
+        (vec![], 0.1, 0),
+    ] {
+        calls.push((
+            Call::Excess {
+                points: points(),
+                polygon: polygon.clone(),
+                tolerance,
+            },
+            number,
+        ));
+        calls.push((
+            Call::Penetration {
+                points: points(),
+                polygon,
+                tolerance,
+            },
+            number,
+        ));
+    }
+    for (u, tolerance, number) in [
+        (MILLION, MILLION, 0),
+        (over, 0.1, ENVELOPE),
+        (3.5, over, ENVELOPE),
+        (3.5, -1., ENVELOPE),
+    ] {
+        calls.push((
+            Call::Eroded {
+                points: points(),
+                u,
+                tolerance,
+            },
+            number,
+        ));
+    }
+    calls
+}
+
 fn queries() -> Vec<(Call, u32)> {
     let mut calls = vec![];
     for (count, number) in [
@@ -483,9 +540,35 @@ fn queries() -> Vec<(Call, u32)> {
                 number,
             ));
             calls.push((Call::RadiusAt { points: again(), u }, number));
+            calls.push((
+                Call::Eroded {
+                    points: again(),
+                    u,
+                    tolerance: 0.1,
+                },
+                number,
+            ));
+            let polygon = vec![100.1, 2., 100.6, 2., 100.6, 9., 100.1, 9.];
+            calls.push((
+                Call::Excess {
+                    points: again(),
+                    polygon: polygon.clone(),
+                    tolerance: 0.1,
+                },
+                number,
+            ));
+            calls.push((
+                Call::Penetration {
+                    points: again(),
+                    polygon,
+                    tolerance: 0.1,
+                },
+                number,
+            ));
             calls.push((Call::RadiusRange { points, lo, hi }, number));
         }
     }
+    calls.extend(inserts());
     calls
 }
 

@@ -232,6 +232,20 @@ impl Memory {
                 m.push(Lent::blank("segments", *segments_len));
                 m.push(Lent::blank("count", 1));
             }
+            Call::Excess {
+                points, polygon, ..
+            }
+            | Call::Penetration {
+                points, polygon, ..
+            } => {
+                m.push(Lent::holding("points", points));
+                m.push(Lent::holding("polygon", polygon));
+                m.extend([Lent::blank("found", 1), Lent::blank("by", 1)]);
+            }
+            Call::Eroded { points, .. } => {
+                m.push(Lent::holding("points", points));
+                m.extend([Lent::blank("found", 1), Lent::blank("radius", 1)]);
+            }
         }
         Self { lent: m }
     }

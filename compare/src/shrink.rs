@@ -303,6 +303,12 @@ impl Shrink for Call {
             Call::Segments { points, tolerance, .. } => Parts {
                 items: vec![Items::Flat(points, 3)], numbers: vec![tolerance], ..none
             },
+            Call::Excess { points, polygon, tolerance } | Call::Penetration { points, polygon, tolerance } => Parts {
+                items: vec![Items::Flat(points, 2), Items::Flat(polygon, 2)], numbers: vec![tolerance], ..none
+            },
+            Call::Eroded { points, u, tolerance } => Parts {
+                items: vec![Items::Flat(points, 2)], numbers: vec![u, tolerance], ..none
+            },
         }
     }
 }

@@ -13,7 +13,7 @@ use std::thread;
 use std::time::{Duration, Instant};
 
 /// What part of the time each takes, in hundredths.
-const SHARES: [(&str, u64); 22] = [
+const SHARES: [(&str, u64); 23] = [
     ("root", 3),
     ("length", 4),
     ("stock", 4),
@@ -32,7 +32,8 @@ const SHARES: [(&str, u64); 22] = [
     ("envelope_at", 3),
     ("envelope", 3),
     ("profile", 3),
-    ("sequence", 11),
+    ("insert", 3),
+    ("sequence", 8),
     ("jobs", 5),
     ("job_parts", 3),
     ("far", 3),

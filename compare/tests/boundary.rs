@@ -55,6 +55,11 @@ fn null_with_length_0() {
         assert_eq!(turning_radius_at(none, 0, 0., &mut found, &mut x), 0);
         assert_eq!((order, first, count, found), (1, 0, 0, 0));
         assert_eq!(turning_radius_range(none, 0, 0., 1., &mut found, &mut x, &mut y), 0);
+        found = 7;
+        assert_eq!(turning_excess(none, 0, none, 0, 0., &mut found, &mut x), 0);
+        assert_eq!(found, 0);
+        assert_eq!(turning_penetration(none, 0, none, 0, 0., &mut found, &mut x), 0);
+        assert_eq!(turning_eroded(none, 0, 0., 0., &mut found, &mut x), 0);
     }
     assert_eq!(found, 0);
 }
@@ -82,6 +87,10 @@ fn lengths_near_the_end_are_refused_unread() {
             assert_eq!(turning_within(none, len, 0., 1., &mut first, &mut count), 14);
             assert_eq!(turning_radius_at(none, len, 0., &mut found, &mut x), 14);
             assert_eq!(turning_radius_range(none, len, 0., 1., &mut found, &mut x, &mut y), 14);
+            assert_eq!(turning_excess(none, len, none, 0, 0., &mut found, &mut x), 14);
+            assert_eq!(turning_excess(none, 0, none, len, 0., &mut found, &mut x), 14);
+            assert_eq!(turning_penetration(none, 0, none, len, 0., &mut found, &mut x), 14);
+            assert_eq!(turning_eroded(none, len, 0., 0., &mut found, &mut x), 14);
         }
     }
     assert_eq!((count, generation, first, order, found, x, y), (7, 5, 7, 7, 7, 7., 7.));

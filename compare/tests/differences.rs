@@ -644,6 +644,107 @@ fn a_range_turned_about() {
     assert_eq!(here(within), Ok(Answer::Part(0, 0)));
 }
 
+/// The wheel of docs/INSERT.md.
+const WHEEL: [[f64; 2]; 6] = [
+    [0., 10.],
+    [2., 10.],
+    [2., 6.],
+    [5., 6.],
+    [5., 10.],
+    [8., 10.],
+];
+
+fn excess(points: &[[f64; 2]], polygon: &[[f64; 2]], tolerance: f64) -> Outcome {
+    here(Call::Excess {
+        points: points.as_flattened().to_vec(),
+        polygon: polygon.as_flattened().to_vec(),
+        tolerance,
+    })
+}
+
+fn penetration(points: &[[f64; 2]], polygon: &[[f64; 2]], tolerance: f64) -> Outcome {
+    here(Call::Penetration {
+        points: points.as_flattened().to_vec(),
+        polygon: polygon.as_flattened().to_vec(),
+        tolerance,
+    })
+}
+
+/// Minus infinity in camlib: every candidate in front of the bore, or no material under the insert.
+#[test]
+fn nothing_touches() {
+    let nothing = Ok(Answer::Found(None));
+    let envelope = Envelope::new(WHEEL.to_vec());
+    let front = [[9., 5.], [10., 6.]];
+    assert_eq!(envelope.excess(&front, 0.1), f64::NEG_INFINITY);
+    assert_eq!(excess(&WHEEL, &front, 0.1), nothing);
+    let behind = [[-2., 5.], [-1., 6.]];
+    assert_eq!(envelope.penetration(&behind, 0.1), f64::NEG_INFINITY);
+    assert_eq!(penetration(&WHEEL, &behind, 0.1), nothing);
+    assert_eq!(Envelope::new(vec![]).excess(&front, 0.1), f64::NEG_INFINITY);
+    assert_eq!(excess(&[], &front, 0.1), nothing);
+    // the numbers of docs/INSERT.md
+    let found = |x: f64| Ok(Answer::Found(Some(vec![x])));
+    let insert = [[3., 5.5], [4., 5.5], [4., 9.], [3., 9.]];
+    assert_eq!(excess(&WHEEL, &insert, 0.1), found(2.9000000000000004));
+    assert_eq!(
+        penetration(&WHEEL, &insert, 0.1),
+        found(0.40000000000000036)
+    );
+    assert_eq!(penetration(&WHEEL, &[[3., 5.]], 0.), found(1.));
+    assert_eq!(excess(&WHEEL, &[[3., 5.]], 0.), found(-1.));
+    assert_eq!(excess(&WHEEL, &behind, 0.1), found(5.9));
+    let tube = [[0., 0.1], [8., 0.1]];
+    let low = [[3., -5.], [4., -5.]];
+    assert_eq!(penetration(&tube, &low, 0.1), nothing);
+    assert_eq!(penetration(&tube, &low, 0.05), found(5.05));
+    let eroded = |u: f64, tolerance: f64| {
+        here(Call::Eroded {
+            points: WHEEL.as_flattened().to_vec(),
+            u,
+            tolerance,
+        })
+    };
+    assert_eq!(eroded(3.5, 0.1), found(5.9));
+    assert_eq!(eroded(0.05, 0.1), nothing);
+    assert_eq!(eroded(0.1, 0.1), found(9.9));
+}
+
+/// camlib panics on points that have an order.
+#[test]
+fn a_polygon_with_no_points() {
+    let envelope = Envelope::new(vec![[0., 1.], [1., 1.]]);
+    assert!(panics(|| _ = envelope.excess(&[], 0.1)));
+    assert!(panics(|| _ = envelope.penetration(&[], 0.1)));
+    let points = [[0., 1.], [1., 1.]];
+    assert_eq!(excess(&points, &[], 0.1), Ok(Answer::Found(None)));
+    assert_eq!(penetration(&points, &[], 0.1), Ok(Answer::Found(None)));
+}
+
+#[test]
+fn polygon_or_tolerance_outside_the_domain() {
+    let envelope = Envelope::new(WHEEL.to_vec());
+    let insert = [[3., 5.5], [4., 5.5]];
+    assert!(envelope.penetration(&insert, -1.) > 0.);
+    assert_eq!(penetration(&WHEEL, &insert, -1.), Err(14));
+    assert_eq!(penetration(&WHEEL, &insert, f64::NAN), Err(14));
+    let far = [[3., 5.5], [4., 1_000_001.]];
+    assert!(envelope.penetration(&far, 0.1) > 0.);
+    assert_eq!(penetration(&WHEEL, &far, 0.1), Err(14));
+    assert_eq!(excess(&WHEEL, &[[3., f64::INFINITY]], 0.1), Err(14));
+}
+
+#[test]
+fn more_than_64_polygon_points() {
+    let insert = [[3., 5.]; 65];
+    assert_eq!(Envelope::new(WHEEL.to_vec()).penetration(&insert, 0.), 1.);
+    assert_eq!(penetration(&WHEEL, &insert, 0.), Err(14));
+    assert_eq!(
+        penetration(&WHEEL, &insert[1..], 0.),
+        Ok(Answer::Found(Some(vec![1.])))
+    );
+}
+
 /// A refusal is a number here, and a text in camlib.
 #[test]
 fn a_refusal() {

@@ -12,7 +12,7 @@ type Row = (
 );
 
 #[rustfmt::skip]
-const EACH: [Row; 26] = [
+const EACH: [Row; 31] = [
     ("root", "1,024 of shop size", 1024, sides::root),
     ("length", "1,024 of shop size", 1024, sides::length),
     ("validate", "4,096 bins", 4096, sides::validate),
@@ -39,6 +39,11 @@ const EACH: [Row; 26] = [
     ("radius_range", "1,024 points that rise", 1024, sides::radius_range),
     ("segments", "an arc as 512 chords", 9, sides::segments),
     ("segments", "an arc as 1 chord", 0, sides::segments),
+    ("excess", "64-point insert, 1,024 points that rise", 1024, sides::excess),
+    ("excess", "4-point insert, 16 points that rise", 16, sides::excess),
+    ("penetration", "64-point insert, 1,024 points that rise", 1024, sides::penetration),
+    ("penetration", "4-point insert, 16 points that rise", 16, sides::penetration),
+    ("eroded", "1,024 points that rise", 1024, sides::eroded),
 ];
 
 /// The names of the calls that the table has.

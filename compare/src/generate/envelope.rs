@@ -26,7 +26,7 @@ fn sign(rng: &mut Rng, way: usize) -> f64 {
 }
 
 /// Points (u, radius) whose u rises, falls, or does neither, with some repeated.
-fn points(rng: &mut Rng) -> Vec<[f64; 2]> {
+pub fn points(rng: &mut Rng) -> Vec<[f64; 2]> {
     let count = count(rng);
     let way = rng.below(5);
     let mut u = rng.written(-20., 20.);
@@ -59,7 +59,7 @@ fn points(rng: &mut Rng) -> Vec<[f64; 2]> {
 
 /// Points whose u stand at nine places, so that most are met again by a query: about 0, of any size
 /// from the least number above 0 to the edges of the domain.
-fn gridded(rng: &mut Rng) -> Vec<[f64; 2]> {
+pub fn gridded(rng: &mut Rng) -> Vec<[f64; 2]> {
     let least = f64::from_bits(1);
     let unit = rng.pick(&[
         1.,
@@ -86,7 +86,7 @@ fn gridded(rng: &mut Rng) -> Vec<[f64; 2]> {
 }
 
 /// A u at a point, between two, beside one, or past the ends.
-fn place(rng: &mut Rng, points: &[[f64; 2]]) -> f64 {
+pub fn place(rng: &mut Rng, points: &[[f64; 2]]) -> f64 {
     let Some(last) = points.len().checked_sub(1) else {
         return rng.written(-5., 5.);
     };

@@ -5,6 +5,7 @@
 pub mod changes;
 pub mod cuts;
 pub mod envelope;
+pub mod insert;
 pub mod numbers;
 pub mod profile;
 pub mod rings;
@@ -75,12 +76,13 @@ pub fn family(name: &str) -> Option<fn(&mut Rng) -> Call> {
         "envelope_at" => stock::envelope_at,
         "envelope" => envelope::envelope_call,
         "profile" => profile::segments_call,
+        "insert" => insert::insert_call,
         _ => return None,
     })
 }
 
 /// Every family of single calls, and how many calls are made by default.
-pub const FAMILIES: [(&str, usize); 18] = [
+pub const FAMILIES: [(&str, usize); 19] = [
     ("root", 20_000_000),
     ("length", 20_000_000),
     ("stock", 200_000),
@@ -99,6 +101,7 @@ pub const FAMILIES: [(&str, usize); 18] = [
     ("envelope_at", 200_000),
     ("envelope", 400_000),
     ("profile", 1_000_000),
+    ("insert", 400_000),
 ];
 
 /// Sequences of calls on one stock.

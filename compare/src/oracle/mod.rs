@@ -8,6 +8,7 @@ mod changes;
 pub mod cuts;
 mod envelope;
 mod full;
+mod insert;
 pub mod numbers;
 pub mod profile;
 pub mod queries;
@@ -152,5 +153,20 @@ pub fn answer(call: &Call) -> Outcome {
             tolerance,
             segments_len,
         } => profile::segments(points, *tolerance, *segments_len).map(Answer::Chords),
+        Call::Excess {
+            points,
+            polygon,
+            tolerance,
+        } => insert::excess(points, polygon, *tolerance).map(Answer::Found),
+        Call::Penetration {
+            points,
+            polygon,
+            tolerance,
+        } => insert::penetration(points, polygon, *tolerance).map(Answer::Found),
+        Call::Eroded {
+            points,
+            u,
+            tolerance,
+        } => insert::eroded(points, *u, *tolerance).map(Answer::Found),
     }
 }

@@ -61,12 +61,14 @@ use Rattle.profile.specs.Profile.{profileGood}
 use Rattle.profile.specs.Chords.{Chord, profileChords, segmentsOf}
 use Rattle.profile.specs.Chords as profile
 use Rattle.envelope.specs.Envelope.{pointsGood, orderedOf, withinOf, withinRefusalOf, radiusAtOf, radiusRangeOf}
+use Rattle.insert.specs.declared.Which.{Which}
+use Rattle.insert.specs.Insert.{touchAsks, erodedAsks, touched, erodedOf}
 use Rattle.job_words.specs.declared.Line.{Line}
 use Rattle.job_words.specs.declared.Line.the-variants.{Bar, Cutting, Removing, Arc, Bad}
 use Rattle.job_words.specs.Kind.{lineOf}
 use Rattle.job_run.specs.declared.line.Job.{Job}
 use Rattle.job_run.specs.Job.{lineLimit, cellsOfJob, barLine, madeCut, cutLine, removingLine, firstLine, laterLine, jobLine}
-use Rattle.demands.specs.Refused.{Asked, ask, Exactly, rootAsks, lengthAsks, countGood, specAsks, binAsks, newAsks, stockAsks, roomGood, previewCutAsks, previewAsks, previewNoseAsks, previewPolygonAsks, previewToolAsks, eachAsks, changeAsks, passAsks, commitInAsks, commitAsks, applyAsks, differenceAsks, removeAsks, roomForAll, allStored, removeRingsAsks, partsAsks, moveInAsks, moveListAsks, moveAsks, volumeAsks, pointsAsks, radiusAsks, withinAsks, barAsks, cutLineAsks, firstLineAsks, laterLineAsks, lineAsks, chordsFit, segmentsAsks}
+use Rattle.demands.specs.Refused.{Asked, ask, Exactly, rootAsks, lengthAsks, countGood, specAsks, binAsks, newAsks, stockAsks, roomGood, previewCutAsks, previewAsks, previewNoseAsks, previewPolygonAsks, previewToolAsks, eachAsks, changeAsks, passAsks, commitInAsks, commitAsks, applyAsks, differenceAsks, removeAsks, roomForAll, allStored, removeRingsAsks, partsAsks, moveInAsks, moveListAsks, moveAsks, volumeAsks, pointsAsks, radiusAsks, withinAsks, barAsks, cutLineAsks, firstLineAsks, laterLineAsks, lineAsks, chordsFit, segmentsAsks, insertAsks, erodingAsks}
 use Rattle.demands.proofs.Asking.{refusalOf, Asks, exactly, exactly-as, asks-none, asks-more, asks-of, asks-on, asks-then, asks-as, asks-holds, asks-fails, onward-demand}
 
 -- ---- the root and the length
@@ -455,3 +457,15 @@ chords-asks room (some l) = asks-more (leb (length l) room) 18 (λ _. asks-none 
 pub segments-exactly : (xs : List Float) (tol : Float) (room : ℕ) → Exactly (segmentsOf xs tol room) (segmentsAsks xs tol room)
 unfolding segmentsOf
 segments-exactly xs tol room = exactly (asks-more (profileGood xs tol) 17 (λ _. chords-asks room (profileChords xs tol)))
+
+-- ---- an insert: 14
+
+-- `excess` and `penetration`
+pub touch-exactly : (w : Which) (ps gs : List Float) (t : Float) → Exactly (touched w ps gs t) (insertAsks ps gs t)
+unfolding touched
+touch-exactly w ps gs t = exactly (asks-more (touchAsks ps gs t) 14 (λ _. asks-none _))
+
+-- `eroded`
+pub eroded-exactly : (ps : List Float) (u t : Float) → Exactly (erodedOf ps u t) (erodingAsks ps u t)
+unfolding erodedOf
+eroded-exactly ps u t = exactly (asks-more (erodedAsks ps u t) 14 (λ _. asks-none _))

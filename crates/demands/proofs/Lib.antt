@@ -24,3 +24,4 @@ pub mod Streamed
 pub mod FieldNumbers
 pub mod JobNumbers
 pub mod Arcs
+pub mod Inserts

@@ -26,6 +26,7 @@
 --   polygon   lowest (same-low), extent_of (same-extent)
 --   changes   first_refusal (same-passing), begin, step (same-deciding), conclude (same-applied)
 --   envelope  order_of (same-ordered), within_span (same-spanned), within_refusal (same-looked), radius_at (same-radius-at), radius_range (same-radius-range)
+--   insert    excess, penetration (same-touch), eroded (same-radius-at)
 --   queries   volume, envelope_at (Outcomes.volume-once, Outcomes.envelope-once of queries)
 --
 -- a record of equations: the answer and each lent buffer
@@ -91,6 +92,9 @@ use Rattle.envelope.specs.Envelope.{orderedPaper, span, spannedPaper, lookedPap
 use Rattle.envelope.specs.declared.Radius.{Radius}
 use Rattle.envelope.specs.declared.Radius.the-variants as radius
 use Rattle.envelope.specs.Halving.{keptOf, radiusOf, OrderKept, SpanOver, Highest, WithinKept, RadiusAtKept, RadiusRangeKept}
+use Rattle.insert.specs.declared.Touch.{Touch}
+use Rattle.insert.specs.declared.Touch.the-variants as touch
+use Rattle.insert.specs.Insert.{touchPaper}
 use Rattle.reach.specs.declared.Low.{Low}
 use Rattle.reach.specs.declared.Low.the-variants as low-case
 use Rattle.reach.specs.declared.Reach.{Reach}
@@ -277,6 +281,17 @@ same-radius-at radius-at.Nowhere (radius-at.Refused d) h = absurd (no-answer _ _
 same-radius-at (radius-at.Refused c) (radius-at.At y) h = absurd (no-answer _ _ h)
 same-radius-at (radius-at.Refused c) radius-at.Nowhere h = absurd (no-answer _ _ h)
 same-radius-at (radius-at.Refused c) (radius-at.Refused d) h = ap radius-at.Refused (same-refusal c d h)
+
+pub same-touch : (r r' : Touch) → touchPaper r ≡ touchPaper r' → r ≡ r'
+same-touch (touch.By x) (touch.By y) h = ap touch.By (same-some (same-answer h))
+same-touch (touch.By x) touch.Nothing h = absurd (none-some x (sym (same-answer h)))
+same-touch (touch.By x) (touch.Refused d) h = absurd (no-answer _ _ (sym h))
+same-touch touch.Nothing (touch.By y) h = absurd (none-some y (same-answer h))
+same-touch touch.Nothing touch.Nothing h = refl
+same-touch touch.Nothing (touch.Refused d) h = absurd (no-answer _ _ (sym h))
+same-touch (touch.Refused c) (touch.By y) h = absurd (no-answer _ _ h)
+same-touch (touch.Refused c) touch.Nothing h = absurd (no-answer _ _ h)
+same-touch (touch.Refused c) (touch.Refused d) h = ap touch.Refused (same-refusal c d h)
 
 pub same-radius-range : (r r' : RadiusRange) → radiusRangePaper r ≡ radiusRangePaper r' → r ≡ r'
 same-radius-range (radius-range.From a b) (radius-range.From a' b') h =

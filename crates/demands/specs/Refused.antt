@@ -37,6 +37,7 @@ use Rattle.rings.specs.Ring.{filled, clip, left}
 use Rattle.rings.specs.Store.{extentOf, ringsOf, roomOf, countFits, finiteRing, ringsGood}
 use Rattle.rings.specs.Remove.{roomFor}
 use Rattle.moves.specs.Move.{generationAfter}
+use Rattle.insert.specs.Insert.{touchAsks, erodedAsks}
 use Rattle.envelope.specs.Envelope.{pointsGood}
 use Rattle.job_words.specs.declared.Line.{Line}
 use Rattle.job_words.specs.declared.Line.the-variants.{Bar, Cutting, Removing, Arc, Bad}
@@ -279,3 +280,11 @@ chordsFit room (some l) = leb (length l) room
 -- the chords of a profile, into a room
 abbrev pub segmentsAsks : List Float → Float → ℕ → List Asked
 segmentsAsks xs tol room = ask (profileGood xs tol) 17 ∷ ask (chordsFit room (profileChords xs tol)) 18 ∷ []
+
+-- the points, an insert's polygon and the tolerance
+abbrev pub insertAsks : List Float → List Float → Float → List Asked
+insertAsks ps gs t = ask (touchAsks ps gs t) 14 ∷ []
+
+-- the points, a u and the tolerance
+abbrev pub erodingAsks : List Float → Float → Float → List Asked
+erodingAsks ps u t = ask (erodedAsks ps u t) 14 ∷ []

@@ -30,6 +30,11 @@
 // has what they are (`proofs/Laws`): they join by equal bits, begin and end where the profile does, are
 // 1 to 1,024 a segment, finite, and each sag is from 0 to the tolerance.
 //
+// Whether an insert touches (`proofs/Inserts`): what excess and penetration answer is given by some
+// candidate, and no candidate has more; nothing is answered exactly where no candidate gives anything;
+// what is eroded is the least over the samples of its window, less the tolerance. Crate `insert` has the
+// laws behind it (`proofs/Best`, `proofs/Eroding`).
+//
 // The most that may remain at a height (`proofs/Sees`): what an accepted commit leaves shows nothing
 // there, or a band within the one before. Crate `queries` has what an answer says of the bins that are
 // looked at (`proofs/Sights`).

@@ -16,6 +16,7 @@ pub fn ask(
     kind: usize,
     g: Given,
     cells: &[f64],
+    points: &[f64],
     rings: &[f64],
     n: &mut usize,
     m: &mut usize,
@@ -75,6 +76,9 @@ pub fn ask(
         table::ENVELOPE_ORDER => order(cells, n),
         table::WITHIN => turning::turning_within(cells, g.x, g.y, n, m),
         table::RADIUS_AT => turning::turning_radius_at(cells, g.x, found, x),
+        table::EXCESS => turning::turning_excess(cells, points, g.x, found, x),
+        table::PENETRATION => turning::turning_penetration(cells, points, g.x, found, x),
+        table::ERODED => turning::turning_eroded(cells, g.x, g.y, found, x),
         _ => turning::turning_radius_range(cells, g.x, g.y, found, x, y),
     }
 }

@@ -34,15 +34,17 @@ fn said(kind: usize, code: u32, n: u64, m: u64, found: bool, x: f64, y: f64) -> 
 // A call that writes sizes or numbers. Of those before ENVELOPE_AT none says whether there are any.
 fn asked(words: &[u64; LIMIT], kind: usize, p: Places, g: Given) -> Mark {
     let mut cells = [0.0f64; ROOM];
+    let mut points = [0.0f64; ROOM];
     let mut rings = [0.0f64; ROOM];
     let c = given::lent(words, p.cells, 1, PLAIN, &mut cells);
+    let q = given::lent(words, p.points, 1, PLAIN, &mut points);
     let r = given::lent(words, p.rings, 2, PLAIN, &mut rings);
     let mut n: usize = 0;
     let mut m: usize = 0;
     let mut found: u32 = 0;
     let mut x: f64 = 0.0;
     let mut y: f64 = 0.0;
-    let code = calls::ask(kind, g, c, r, &mut n, &mut m, &mut found, &mut x, &mut y);
+    let code = calls::ask(kind, g, c, q, r, &mut n, &mut m, &mut found, &mut x, &mut y);
     let any = (found != 0) | (kind < table::ENVELOPE_AT);
     let s = said(kind, code, n as u64 | found as u64, m as u64, any, x, y);
     answers::answer(words, p.answer, s)

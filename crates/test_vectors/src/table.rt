@@ -45,8 +45,14 @@ pub const RADIUS_RANGE: usize = 20;
 
 pub const SEGMENTS: usize = 21;
 
+pub const EXCESS: usize = 22;
+
+pub const PENETRATION: usize = 23;
+
+pub const ERODED: usize = 24;
+
 // A line whose name is not in the table.
-pub const UNREAD: usize = 22;
+pub const UNREAD: usize = 25;
 
 // Calls of kind k at k, those that differ at APART + k.
 const APART: usize = 32;
@@ -57,7 +63,7 @@ pub const COUNTS: usize = 64;
 // numbers the call writes besides lists.
 const ROW: usize = 27;
 
-const ROWS: usize = 23;
+const ROWS: usize = 26;
 
 const NAME: usize = 16;
 
@@ -94,6 +100,9 @@ within          0N002000 20\
 radius_at       0N001000 11\
 radius_range    0N002000 12\
 segments        0N001001 00\
+excess          0N0010N0 11\
+penetration     0N0010N0 11\
+eroded          0N002000 11\
 unread          00000000 00";
     rows[ROW * (k % ROWS) + j % ROW]
 }

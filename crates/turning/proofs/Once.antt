@@ -12,7 +12,7 @@
 --   gives-move-once       turning_apply_move
 --   gives-store-once      turning_from_parts
 --   gives-chords-once     turning_segments
---   gives-found-once      turning_radius_at
+--   gives-found-once      turning_radius_at, turning_excess, turning_penetration, turning_eroded
 --   gives-found-two-once  turning_envelope_at, turning_radius_range
 --   takes-job-once        turning_job_take
 --   ends-job-once         turning_job_finish

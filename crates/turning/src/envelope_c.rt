@@ -64,7 +64,7 @@ pub extern "C" fn turning_within(
 }
 
 // The radius if there is one, or the number of the refusal.
-fn give_radius(answer: RadiusAt, found: &mut u32, radius: &mut f64) -> u32
+pub fn give_radius(answer: RadiusAt, found: &mut u32, radius: &mut f64) -> u32
     ensures { λ r. ⌜ HandsFound (radiusAtPaper answer) r found radius ⌝ }
 {
     match answer {

@@ -7,6 +7,7 @@
 // Each promise allows one outcome (`proofs/Once`).
 mod cuts_c;
 mod envelope_c;
+mod insert_c;
 mod job_c;
 mod numbers_c;
 mod profile_c;
@@ -24,6 +25,9 @@ pub use envelope_c::turning_envelope_order;
 pub use envelope_c::turning_radius_at;
 pub use envelope_c::turning_radius_range;
 pub use envelope_c::turning_within;
+pub use insert_c::turning_eroded;
+pub use insert_c::turning_excess;
+pub use insert_c::turning_penetration;
 pub use job_c::turning_job_finish;
 pub use job_c::turning_job_output;
 pub use job_c::turning_job_take;

@@ -44,3 +44,59 @@ pub fn radius_range(points: usize) -> Sides<'static> {
     let go = move || black_box(&made).radius_range(black_box(lo), hi);
     pair(go, Call::RadiusRange { points, lo, hi })
 }
+
+/// A square insert of so many points over the middle of as many that rise.
+fn insert(points: usize, count: usize) -> (Vec<[f64; 2]>, Vec<[f64; 2]>) {
+    let (list, lo, hi) = rising(points);
+    let side = |k: usize| (k as f64 / count as f64 * 4.).fract();
+    let corner = |k: usize| match 4 * k / count {
+        0 => [lo + (hi - lo) * side(k), 18.],
+        1 => [hi, 18. + 6. * side(k)],
+        2 => [hi - (hi - lo) * side(k), 24.],
+        _ => [lo, 24. - 6. * side(k)],
+    };
+    (list, (0..count).map(corner).collect())
+}
+
+pub fn excess(points: usize) -> Sides<'static> {
+    let (list, polygon) = insert(points, if points < 64 { 4 } else { 64 });
+    let call = Call::Excess {
+        points: list.as_flattened().to_vec(),
+        polygon: polygon.as_flattened().to_vec(),
+        tolerance: 0.05,
+    };
+    let made = Envelope::new(list);
+    pair(
+        move || black_box(&made).excess(black_box(&polygon), 0.05),
+        call,
+    )
+}
+
+pub fn penetration(points: usize) -> Sides<'static> {
+    let (list, polygon) = insert(points, if points < 64 { 4 } else { 64 });
+    let call = Call::Penetration {
+        points: list.as_flattened().to_vec(),
+        polygon: polygon.as_flattened().to_vec(),
+        tolerance: 0.05,
+    };
+    let made = Envelope::new(list);
+    pair(
+        move || black_box(&made).penetration(black_box(&polygon), 0.05),
+        call,
+    )
+}
+
+pub fn eroded(points: usize) -> Sides<'static> {
+    let (list, u, _) = rising(points);
+    let points = list.as_flattened().to_vec();
+    let made = opened::Envelope::new(list);
+    let go = move || black_box(&made).eroded(black_box(u), 0.05);
+    pair(
+        go,
+        Call::Eroded {
+            points,
+            u,
+            tolerance: 0.05,
+        },
+    )
+}
