@@ -6,7 +6,7 @@ use lib.Dec.{leb}
 use lib.ListN.{length}
 use lib.Ieee.{Float}
 use borrow.Author.Tests.{le-leb}
-use Rattle.refusals.specs.Number.{numberOf}
+use Rattle.refusals.specs.Number.{reasonOf}
 use Rattle.refusals.specs.Paper.{Paper, answers, refuses, demand, onward, demand-true}
 use Rattle.refusals.specs.Lent.{over}
 use Rattle.stock.specs.declared.TurnStockSpec.{TurnStockSpec}
@@ -60,7 +60,7 @@ module _ (is : List ℕ) (ys : List Float) (k : ℕ) (room : k ≤ roomOf (lengt
 flat-holds : (p : Paper (List TurnChange)) (r : Previewed) (is is' : List ℕ) (xs xs' : List Float) → Proposed p r is is' xs xs' → changesFrom is' xs' (countIn r) ≡ writtenOf p
 unfolding changesFrom
 flat-holds (answers l) (Changes k) is is' xs xs' a = from-over l k is is' xs xs' (same-answer (a .answer)) (a .indices) (a .numbers)
-flat-holds (answers l) (Refused c) is is' xs xs' a = absurd (no-answer (numberOf c) (length l) (a .answer))
+flat-holds (answers l) (Refused c) is is' xs xs' a = absurd (no-answer (reasonOf c) (length l) (a .answer))
 flat-holds (refuses n) (Changes k) is is' xs xs' a = absurd (no-answer n k (sym (a .answer)))
 flat-holds (refuses n) (Refused c) is is' xs xs' a = refl
 

@@ -6,9 +6,9 @@ use Prim.Native.Nat.{ℕ, _+_}
 use lib.Dec.{leb, ltb}
 use lib.Ieee.{Float}
 use Rattle.refusals.specs.declared.Refusal.{Refusal}
-use Rattle.refusals.specs.Number.{numberOf}
+use Rattle.refusals.specs.Number.{reasonOf}
 use Rattle.refusals.specs.Limits.{lastGeneration}
-use Rattle.refusals.specs.Paper.{Paper, answers, refuses, demand, onward, papers}
+use Rattle.refusals.specs.Paper.{Paper, Reason, answers, refuses, only, demand, onward, papers}
 use Rattle.stock.specs.declared.TurnStockSpec.{TurnStockSpec}
 use Rattle.stock.specs.declared.TurnChange.{TurnChange}
 use Rattle.stock.specs.Spec.{cleanSpec}
@@ -31,7 +31,7 @@ module _ (k : Committed) where
   abbrev decides : Paper (Unit {0}) → Paper Committed
   decides p = onward p (λ _. demand (ltb 0 lastGeneration) 12 (answers k))
 
-  stops : (p : Paper (Unit {0})) (r : ℕ) → refuses r ≡ generationOf (decides p) → p ≡ refuses r
+  stops : (p : Paper (Unit {0})) (r : Reason) → refuses r ≡ generationOf (decides p) → p ≡ refuses r
   unfolding onward demand
   stops (answers a) r e = absurd (no-answer r (k .generation) e)
   stops (refuses j) r e = ap same (sym e)
@@ -46,17 +46,17 @@ module _ (k : Committed) where
   goes (refuses j) h e = absurd (no-answer j h (sym e))
 
 -- ---- what refuses a move whose changes are refused with k
-module _ (spec : TurnStockSpec) (cs xs : List Float) (count : ℕ) (removed : List Float) (k : ℕ) where
-  pub first-stock : (j : ℕ) → stockOf spec cs ≡ refuses j → refuses j ≡ refusedOf spec cs xs count removed k
+module _ (spec : TurnStockSpec) (cs xs : List Float) (count : ℕ) (removed : List Float) (k : Reason) where
+  pub first-stock : (j : Reason) → stockOf spec cs ≡ refuses j → refuses j ≡ refusedOf spec cs xs count removed k
   unfolding refusedOf
   first-stock j e = simp (papers, e)
 
   module _ (n : ℕ) (e : stockOf spec cs ≡ answers n) where
-    pub first-stored : countFits (extentOf (cleanSpec spec)) xs count ≡ false → refuses 4 ≡ refusedOf spec cs xs count removed k
+    pub first-stored : countFits (extentOf (cleanSpec spec)) xs count ≡ false → refuses (only 4) ≡ refusedOf spec cs xs count removed k
     unfolding refusedOf
     first-stored f = simp (papers, e, f)
 
-    pub first-removed : countFits (extentOf (cleanSpec spec)) xs count ≡ true → ringsGood removed ≡ false → refuses 10 ≡ refusedOf spec cs xs count removed k
+    pub first-removed : countFits (extentOf (cleanSpec spec)) xs count ≡ true → ringsGood removed ≡ false → refuses (only 10) ≡ refusedOf spec cs xs count removed k
     unfolding refusedOf
     first-removed f t = simp (papers, e, f, t)
 
@@ -103,10 +103,10 @@ module _ (spec : TurnStockSpec) (xs : List Float) (count g : ℕ) (removed : Lis
   unfolding demand onward
   rest-stored true true (answers u) true (answers rs) cs ds n h e = refl
   rest-stored true true (answers u) true (refuses r) cs ds n h e = absurd (no-answer r _ (sym e))
-  rest-stored true true (answers u) false rr cs ds n h e = absurd (no-answer 12 _ (sym e))
+  rest-stored true true (answers u) false rr cs ds n h e = absurd (no-answer (only 12) _ (sym e))
   rest-stored true true (refuses r) c rr cs ds n h e = absurd (no-answer r _ (sym e))
-  rest-stored true false p c rr cs ds n h e = absurd (no-answer 10 _ (sym e))
-  rest-stored false b p c rr cs ds n h e = absurd (no-answer 4 _ (sym e))
+  rest-stored true false p c rr cs ds n h e = absurd (no-answer (only 10) _ (sym e))
+  rest-stored false b p c rr cs ds n h e = absurd (no-answer (only 4) _ (sym e))
 
 module _ (spec : TurnStockSpec) (cs xs : List Float) (count g : ℕ) (l : List TurnChange) (removed : List Float) where
   abbrev fit : Bool
@@ -124,20 +124,20 @@ module _ (spec : TurnStockSpec) (cs xs : List Float) (count g : ℕ) (l : List T
   in-is n m = refl
 
   -- the changes are refused
-  move-refused : (decided : Applied) → appliedPaper decided ≡ generationOf (commitOf spec cs 0 l) → (r : Refusal) → decided ≡ applied.Refused r → moveListOf spec cs xs count g l removed ≡ refusedOf spec cs xs count removed (numberOf r)
+  move-refused : (decided : Applied) → appliedPaper decided ≡ generationOf (commitOf spec cs 0 l) → (r : Refusal) → decided ≡ applied.Refused r → moveListOf spec cs xs count g l removed ≡ refusedOf spec cs xs count removed (reasonOf r)
   unfolding moveListOf refusedOf commitOf commitIn onward
   move-refused decided e r d = go (stockOf spec cs) (sym (ap appliedPaper d) ∙ e)
     where
-      at : (n : ℕ) → refuses (numberOf r) ≡ generationOf (commitIn (cleanSpec spec) n cs 0 l) → moveIn spec n cs xs count g l removed ≡ demand fit 4 (demand (ringsGood removed) 10 (refuses (numberOf r)))
+      at : (n : ℕ) → refuses (reasonOf r) ≡ generationOf (commitIn (cleanSpec spec) n cs 0 l) → moveIn spec n cs xs count g l removed ≡ demand fit 4 (demand (ringsGood removed) 10 (refuses (reasonOf r)))
       at n q =
-          let p = stops (record { cells = putAll cs l; generation = 0 + 1 }) (passAll (cleanSpec spec) n cs l) (numberOf r) q in
+          let p = stops (record { cells = putAll cs l; generation = 0 + 1 }) (passAll (cleanSpec spec) n cs l) (reasonOf r) q in
           in-is n l ∙ ap (λ (x : Paper (Unit {0})). R x (putAll cs l)) p
 
-      go : (p : Paper ℕ) → refuses (numberOf r) ≡ generationOf (onward p (λ n. commitIn (cleanSpec spec) n cs 0 l)) → onward p (λ n. moveIn spec n cs xs count g l removed) ≡ onward p (λ _. demand fit 4 (demand (ringsGood removed) 10 (refuses (numberOf r))))
+      go : (p : Paper ℕ) → refuses (reasonOf r) ≡ generationOf (onward p (λ n. commitIn (cleanSpec spec) n cs 0 l)) → onward p (λ n. moveIn spec n cs xs count g l removed) ≡ onward p (λ _. demand fit 4 (demand (ringsGood removed) 10 (refuses (reasonOf r))))
       go (answers n) q = at n q
       go (refuses j) q = refl
 
-  pub move-left : (decided : Applied) → appliedPaper decided ≡ generationOf (commitOf spec cs 0 l) → (r q : Refusal) → decided ≡ applied.Refused r → refuses (numberOf q) ≡ refusedOf spec cs xs count removed (numberOf r) → Storing (moveListOf spec cs xs count g l removed) (moved.Refused q) cs cs xs xs
+  pub move-left : (decided : Applied) → appliedPaper decided ≡ generationOf (commitOf spec cs 0 l) → (r q : Refusal) → decided ≡ applied.Refused r → refuses (reasonOf q) ≡ refusedOf spec cs xs count removed (reasonOf r) → Storing (moveListOf spec cs xs count g l removed) (moved.Refused q) cs cs xs xs
   move-left decided e r q d f =
       let p = move-refused decided e r d ∙ sym f in
       record { answer = sym (ap countsOf p); cells = refl; rings = sym (ap (λ (x : Paper Left). ringsAfter x xs) p) }
@@ -174,8 +174,8 @@ module _ (spec : TurnStockSpec) (cs xs : List Float) (count g : ℕ) (l : List T
   move-kept (moved.Stored n h) cs' xs' w t = absurd (false≢true (sym t))
   move-kept (moved.Refused c) cs' xs' w t = record { answer = w .answer; cells = w .cells ∙ kept (moveListOf spec cs xs count g l removed) (w .answer); rings = w .rings }
     where
-      kept : (p : Paper Left) → refuses (numberOf c) ≡ countsOf p → cs ≡ cellsAfter p cs
-      kept (answers a) e = absurd (no-answer (numberOf c) _ e)
+      kept : (p : Paper Left) → refuses (reasonOf c) ≡ countsOf p → cs ≡ cellsAfter p cs
+      kept (answers a) e = absurd (no-answer (reasonOf c) _ e)
       kept (refuses j) e = refl
 
   pub move-done : (r : Moved) (cs' cs'' xs' : List Float) → Storing (moveListOf spec cs xs count g l removed) r cs cs' xs xs' → isStored r ≡ true → cs'' ≡ putAll cs' l → Moves (moveListOf spec cs xs count g l removed) r cs cs'' xs xs'

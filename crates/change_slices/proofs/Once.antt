@@ -4,10 +4,10 @@ use mathlib.Core.List.{List}
 use Prim.Native.Nat.{ℕ}
 use native.Mathlib.Omega.{arith}
 use lib.Ieee.{Float}
-use Rattle.refusals.specs.Number.{numberOf}
+use Rattle.refusals.specs.Number.{reasonOf}
 use Rattle.refusals.specs.Paper.{Paper}
 use Rattle.refusals.specs.Lent.{over}
-use Rattle.refusals.proofs.OneToOne.{one-to-one}
+use Rattle.refusals.proofs.OneToOne.{one-reason}
 use Rattle.stock.specs.declared.TurnChange.{TurnChange}
 use Rattle.stock.proofs.Count.{same-answer}
 use Rattle.changes.specs.declared.Previewed.{Previewed}
@@ -24,7 +24,7 @@ same-applied : (r r' : Applied) → appliedPaper r ≡ appliedPaper r' → r ≡
 same-applied (applied.Generation g) (applied.Generation g') h = let e : g ≡ g' = same-answer h in ap (λ x. applied.Generation x) e
 same-applied (applied.Generation g) (applied.Refused c) h = let z : _≡_ {A = ℕ} 0 1 = cc in absurd (omega arith)
 same-applied (applied.Refused c) (applied.Generation g) h = let z : _≡_ {A = ℕ} 0 1 = cc in absurd (omega arith)
-same-applied (applied.Refused c) (applied.Refused c') h = let e : numberOf c ≡ numberOf c' = cc in ap (λ x. applied.Refused x) (one-to-one c c' e)
+same-applied (applied.Refused c) (applied.Refused c') h = let e : reasonOf c ≡ reasonOf c' = cc in ap (λ x. applied.Refused x) (one-reason c c' e)
 
 -- the answer and the cells
 pub applied-once : (p : Paper Committed) (r r' : Applied) (cs cs₁ cs₂ : List Float) → Applies p r cs cs₁ → Applies p r' cs cs₂ → (r ≡ r') × (cs₁ ≡ cs₂)

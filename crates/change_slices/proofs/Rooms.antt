@@ -10,8 +10,8 @@ use lib.ListN.{length, length-append, length-map}
 use borrow.Author.Tests.{le-leb, lt-leb, ltb-true, ltb-false}
 use lib.Ieee.{Float}
 use Rattle.refusals.specs.declared.Refusal.the-variants.{ChangesOverRoom}
-use Rattle.refusals.specs.Number.{numberOf}
-use Rattle.refusals.specs.Paper.{Paper, answers, refuses, demand, onward, demand-true, demand-false, onward-answers}
+use Rattle.refusals.specs.Number.{reasonOf}
+use Rattle.refusals.specs.Paper.{Paper, Reason, answers, refuses, only, demand, onward, demand-true, demand-false, onward-answers}
 use Rattle.refusals.specs.Limits.{cellLimit}
 use Rattle.refusals.specs.Lent.{over}
 use Rattle.floats.specs.Pick.{pick, pick-true, pick-false}
@@ -112,7 +112,7 @@ module _ (room : ℕ) (is is' : List ℕ) (xs xs' : List Float) where
       }
 
   -- it refuses
-  none : (r : ℕ) (c : Previewed) → previewedPaper c ≡ refuses r → countIn c ≡ 0 → Lists room (refuses r) c is' xs'
+  none : (r : Reason) (c : Previewed) → previewedPaper c ≡ refuses r → countIn c ≡ 0 → Lists room (refuses r) c is' xs'
   unfolding changesFrom
   none r c e z = record { answer = e; changes = ap (changesFrom is' xs') z; held = omega arith; few = omega arith }
 
@@ -125,13 +125,13 @@ module _ (room : ℕ) (is is' : List ℕ) (xs xs' : List Float) where
       go : (t : Bool) → ltb room k ≡ t → k ≡ length l → Lists room (settled room l) (pick t (Refused ChangesOverRoom) (Changes k)) is' xs'
       go true e ek =
           let h = ltb-true room k e in
-          let f : settled room l ≡ refuses 6 = demand-false (leb (length l) room) 6 (answers l) (lt-leb (length l) room (omega arith)) in
-          rw (f, pick-true true (Refused ChangesOverRoom) (Changes k) refl) (none 6 (Refused ChangesOverRoom) refl refl)
+          let f : settled room l ≡ refuses (only 6) = demand-false (leb (length l) room) 6 (answers l) (lt-leb (length l) room (omega arith)) in
+          rw (f, pick-true true (Refused ChangesOverRoom) (Changes k) refl) (none (only 6) (Refused ChangesOverRoom) refl refl)
       go false e ek =
           let h = ltb-false room k e in
           let f : settled room l ≡ answers l = demand-true (leb (length l) room) 6 (answers l) (le-leb (length l) room (omega arith)) in
           rw (f, pick-false false (Refused ChangesOverRoom) (Changes k) refl) (lists-enough l k ek (q .indices) (q .numbers) (omega arith))
-  narrow-lists (answers l) (Refused c) q = absurd (no-answer (numberOf c) (length l) (q .answer))
+  narrow-lists (answers l) (Refused c) q = absurd (no-answer (reasonOf c) (length l) (q .answer))
   narrow-lists (refuses r) (Changes k) q = absurd (no-answer r k (sym (q .answer)))
   narrow-lists (refuses r) (Refused c) q = none r (Refused c) (q .answer) refl
 

@@ -4,7 +4,7 @@ use mathlib.Core.Bool.{Bool, true, false}
 use mathlib.Core.List.{List}
 use Prim.Native.Nat.{ℕ}
 use lib.Ieee.{Float}
-use Rattle.refusals.specs.Paper.{Paper, refuses, demand, onward}
+use Rattle.refusals.specs.Paper.{Paper, Reason, refuses, demand, onward}
 use Rattle.stock.specs.declared.TurnStockSpec.{TurnStockSpec}
 use Rattle.stock.specs.declared.TurnChange.{TurnChange}
 use Rattle.stock.specs.Spec.{cleanSpec}
@@ -21,7 +21,7 @@ unfoldable pub moveListOf : TurnStockSpec → List Float → List Float → ℕ 
 moveListOf spec cs xs count g l removed = onward (stockOf spec cs) (λ n. moveIn spec n cs xs count g l removed)
 
 -- one whose changes are refused with k: 1, 2, 3, 4 and 10 come first
-unfoldable pub refusedOf : TurnStockSpec → List Float → List Float → ℕ → List Float → ℕ → Paper Left
+unfoldable pub refusedOf : TurnStockSpec → List Float → List Float → ℕ → List Float → Reason → Paper Left
 refusedOf spec cs xs count removed k =
     onward (stockOf spec cs) (λ _.
     demand (countFits (extentOf (cleanSpec spec)) xs count) 4

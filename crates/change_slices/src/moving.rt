@@ -1,6 +1,6 @@
 // The rings of a move whose changes are decided.
 ghost use mathlib.Core.Path.{_≡_};
-ghost use Rattle.refusals.specs.Number.{numberOf};
+ghost use Rattle.refusals.specs.Number.{reasonOf};
 ghost use Rattle.refusals.specs.Paper.{refuses};
 ghost use Rattle.change_slices.specs.Move.{refusedOf, StoresMove, isStored};
 use changes::Applied;
@@ -18,7 +18,7 @@ fn first_of(
     removed: &[f64],
     r: Refusal,
 ) -> Refusal
-    ensures { λ q. ⌜ refuses (numberOf q) ≡ refusedOf spec (now (cells .entry)) (now (rings .entry)) count (now (removed .entry)) (numberOf r) ⌝ }
+    ensures { λ q. ⌜ refuses (reasonOf q) ≡ refusedOf spec (now (cells .entry)) (now (rings .entry)) count (now (removed .entry)) (reasonOf r) ⌝ }
 {
     let counted = stock::cells_fit(spec, cells);
     if let Counted::Refused(q) = counted {

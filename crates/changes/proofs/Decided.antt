@@ -8,7 +8,7 @@ use borrow.Author.Tests.{lt-ltb, le-ltb}
 use lib.Dec.{ltb}
 use lib.ListN.{length}
 use lib.Ieee.{Float}
-use Rattle.refusals.specs.Paper.{Paper, answers, refuses, demand, onward, onward-refuses, papers}
+use Rattle.refusals.specs.Paper.{Paper, Reason, answers, refuses, demand, onward, onward-refuses, only, papers}
 use Rattle.refusals.specs.Limits.{lastGeneration}
 use Rattle.floats.specs.Pick.{pick-true}
 use Rattle.stock.specs.declared.TurnStockSpec.{TurnStockSpec}
@@ -110,7 +110,7 @@ module _ (cs : List Float) where
         ∙ sym (ap (stepsOf cs d) (from-next is xs i) ∙ foldl-append (stepOf cs) d (changesFrom is xs i) (changeFrom is xs i ∷ []))
 
     -- one that does not pass is the first of any longer list
-    pub steps-stops : (j k r : ℕ) → j ≤ k → stepsOf cs d (changesFrom is xs j) .found ≡ refuses r → stepsOf cs d (changesFrom is xs k) .found ≡ refuses r
+    pub steps-stops : (j k : ℕ) (r : Reason) → j ≤ k → stepsOf cs d (changesFrom is xs j) .found ≡ refuses r → stepsOf cs d (changesFrom is xs k) .found ≡ refuses r
     steps-stops j k r h e =
         let o = further is xs j k h in
         let w = stepsOf cs d (changesFrom is xs j) in
@@ -121,11 +121,11 @@ module _ (cs : List Float) where
         ∙ onward-refuses r (λ (_ : Unit {0}). eachPasses (w .spec) (w .n) cs (o .rest))
 
 -- ---- the generation after changes that pass
-pub raised-stops : (r gen : ℕ) → raisedOf (refuses r) gen ≡ refuses r
+pub raised-stops : (r : Reason) (gen : ℕ) → raisedOf (refuses r) gen ≡ refuses r
 unfolding raisedOf
 raised-stops r gen = onward-refuses r (λ (_ : Unit {0}). demand (ltb gen lastGeneration) 12 (answers (gen + 1)))
 
-pub raised-spent : (gen : ℕ) → gen ≡ lastGeneration → raisedOf (answers tt) gen ≡ refuses 12
+pub raised-spent : (gen : ℕ) → gen ≡ lastGeneration → raisedOf (answers tt) gen ≡ refuses (only 12)
 unfolding raisedOf
 raised-spent gen h = simp (papers, le-ltb gen lastGeneration (omega arith))
 

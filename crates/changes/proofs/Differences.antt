@@ -4,7 +4,7 @@ use mathlib.Core.Bool.{Bool, true, false}
 use mathlib.Core.List.{List}
 use Prim.Native.Nat.{ℕ}
 use lib.Ieee.{Float}
-use Rattle.refusals.specs.Paper.{Paper, answers, refuses, demand, papers}
+use Rattle.refusals.specs.Paper.{Paper, Reason, answers, refuses, only, demand, papers}
 use Rattle.stock.specs.declared.TurnStockSpec.{TurnStockSpec}
 use Rattle.stock.specs.declared.TurnChange.{TurnChange}
 use Rattle.stock.specs.Spec.{cleanSpec}
@@ -13,11 +13,11 @@ use Rattle.stock.proofs.Count.{stock-is, stocked, demanded, no-answer}
 use Rattle.changes.specs.Change.{changesTo, settled}
 use Rattle.changes.specs.Difference.{otherCell, differenceOf}
 
-three : {r : ℕ} → _≡_ {A = Paper ℕ} (refuses 3) (refuses r) → 3 ≡ r
+three : {r : Reason} → _≡_ {A = Paper ℕ} (refuses (only 3)) (refuses r) → only 3 ≡ r
 three q = cc
 
 module _ (spec : TurnStockSpec) (cs ds : List Float) (room : ℕ) where
-  pub differ-refused : (r : ℕ) → stockOf spec cs ≡ refuses r → differenceOf spec cs ds room ≡ refuses r
+  pub differ-refused : (r : Reason) → stockOf spec cs ≡ refuses r → differenceOf spec cs ds room ≡ refuses r
   unfolding differenceOf
   differ-refused r e = simp (papers, e)
 
@@ -25,13 +25,13 @@ module _ (spec : TurnStockSpec) (cs ds : List Float) (room : ℕ) where
   other-is : (n : ℕ) → stockOf spec cs ≡ answers n → stockOf spec ds ≡ demand (cellsFit (cleanSpec spec) ds n) 3 (answers n)
   other-is n e = stock-is spec ds n (stocked spec cs n e .count)
 
-  pub differ-other : (n r : ℕ) → stockOf spec cs ≡ answers n → stockOf spec ds ≡ refuses r → differenceOf spec cs ds room ≡ refuses r
+  pub differ-other : (n : ℕ) (r : Reason) → stockOf spec cs ≡ answers n → stockOf spec ds ≡ refuses r → differenceOf spec cs ds room ≡ refuses r
   unfolding differenceOf demand
   differ-other n r e h = simp (papers, e) (go (cellsFit (cleanSpec spec) ds n) (sym (other-is n e) ∙ h))
     where
       go : (t : Bool) → demand t 3 (answers n) ≡ refuses r → demand t 3 (settled room (changesTo (otherCell ds) cs n)) ≡ refuses r
       go true k = absurd (no-answer r n (sym k))
-      go false k = let z : 3 ≡ r = three k in ap refuses z
+      go false k = let z : only 3 ≡ r = three k in ap refuses z
 
   pub differ-is : (n m : ℕ) → stockOf spec cs ≡ answers n → stockOf spec ds ≡ answers m → differenceOf spec cs ds room ≡ settled room (changesTo (otherCell ds) cs n)
   unfolding differenceOf

@@ -8,7 +8,7 @@ use borrow.Author.Tests.{leb-true, le-leb}
 use lib.Dec.{leb}
 use lib.ListN.{length, length-map}
 use lib.Ieee.{Float}
-use Rattle.refusals.specs.Paper.{Paper, answers, refuses, demand, onward, demand-true, onward-answers, onward-refuses}
+use Rattle.refusals.specs.Paper.{Paper, answers, refuses, only, demand, onward, demand-true, onward-answers, onward-refuses}
 use Rattle.refusals.specs.Limits.{lastGeneration}
 use Rattle.refusals.specs.Lent.{over}
 use Rattle.refusals.proofs.Written.{length-over}
@@ -45,7 +45,7 @@ wrote l k is is' xs xs' p = go (leb (length l) (roomOf (length is) (length xs)))
   where
     go : (t : Bool) → leb (length l) (roomOf (length is) (length xs)) ≡ t → Proposed (demand t 6 (answers l)) (Changes k) is is' xs xs' → Wrote l k is is' xs xs'
     go true e q = record { count = same-answer (q .answer); room = leb-true (length l) (roomOf (length is) (length xs)) e; indices = q .indices; numbers = q .numbers }
-    go false e q = absurd (no-answer 6 k (sym (q .answer)))
+    go false e q = absurd (no-answer (only 6) k (sym (q .answer)))
 
 -- the lists keep their lengths, and so their room
 pub room-kept : (l : List TurnChange) (is : List ℕ) (xs : List Float) → length l ≤ roomOf (length is) (length xs) → length l ≤ roomOf (length (over (indicesOf l) is)) (length (over (numbersOf l) xs))

@@ -8,10 +8,10 @@ use borrow.Author.Tests.{le-leb, lt-leb}
 use lib.Ieee.{Float}
 use Rattle.refusals.specs.declared.Refusal.{Refusal}
 use Rattle.refusals.specs.declared.Refusal.the-variants.{ChangesOverRoom}
-use Rattle.refusals.specs.Number.{numberOf}
+use Rattle.refusals.specs.Number.{reasonOf}
 use Rattle.refusals.specs.Paper.{Paper, answers, refuses, demand-true, demand-false}
 use Rattle.refusals.specs.Lent.{over}
-use Rattle.refusals.proofs.OneToOne.{one-to-one}
+use Rattle.refusals.proofs.OneToOne.{one-reason}
 use Rattle.stock.specs.declared.TurnCell.{TurnCell}
 use Rattle.stock.specs.declared.TurnChange.{TurnChange}
 use Rattle.changes.specs.declared.Previewed.{Previewed}
@@ -19,7 +19,7 @@ use Rattle.changes.specs.declared.Previewed.the-variants.{Changes, Refus
 use Rattle.changes.specs.Change.{changesTo, indicesOf, numbersOf, Listing, previewedPaper, settled, Proposed}
 
 -- refused: both lists stay
-pub left : (p : Paper (List TurnChange)) (r : Refusal) (is : List ℕ) (xs : List Float) → p ≡ refuses (numberOf r) → Proposed p (Refused r) is is xs xs
+pub left : (p : Paper (List TurnChange)) (r : Refusal) (is : List ℕ) (xs : List Float) → p ≡ refuses (reasonOf r) → Proposed p (Refused r) is is xs xs
 unfolding over numbersOf
 left p r is xs e = rw e (record { answer = refl; indices = refl; numbers = refl })
 
@@ -44,7 +44,7 @@ pub same-previewed : (r r' : Previewed) → previewedPaper r ≡ previewedPaper 
 same-previewed (Changes k) (Changes k') h = let e : k ≡ k' = cc in ap Changes e
 same-previewed (Changes k) (Refused c) h = let z : _≡_ {A = ℕ} 0 1 = cc in absurd (omega arith)
 same-previewed (Refused c) (Changes k) h = let z : _≡_ {A = ℕ} 0 1 = cc in absurd (omega arith)
-same-previewed (Refused c) (Refused c') h = let e : numberOf c ≡ numberOf c' = cc in ap Refused (one-to-one c c' e)
+same-previewed (Refused c) (Refused c') h = let e : reasonOf c ≡ reasonOf c' = cc in ap Refused (one-reason c c' e)
 
 pub once : (p : Paper (List TurnChange)) (r r' : Previewed) (is is₁ is₂ : List ℕ) (xs xs₁ xs₂ : List Float) → Proposed p r is is₁ xs xs₁ → Proposed p r' is is₂ xs xs₂ → (r ≡ r') × (is₁ ≡ is₂) × (xs₁ ≡ xs₂)
 once p r r' is is₁ is₂ xs xs₁ xs₂ a b = (same-previewed r r' (a .answer ∙ sym (b .answer)), a .indices ∙ sym (b .indices), a .numbers ∙ sym (b .numbers))

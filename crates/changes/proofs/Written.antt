@@ -7,8 +7,8 @@ use borrow.Author.Tests.{le-leb, lt-leb}
 use lib.ListN.{length}
 use lib.Ieee.{Float}
 use Rattle.refusals.specs.declared.Refusal.{Refusal}
-use Rattle.refusals.specs.Number.{numberOf}
-use Rattle.refusals.specs.Paper.{Paper, answers, refuses, papers}
+use Rattle.refusals.specs.Number.{reasonOf}
+use Rattle.refusals.specs.Paper.{Paper, Reason, answers, refuses, only, papers}
 use Rattle.stock.specs.declared.TurnStockSpec.{TurnStockSpec}
 use Rattle.stock.specs.declared.TurnChange.{TurnChange}
 use Rattle.stock.specs.Spec.{cleanSpec}
@@ -34,11 +34,11 @@ module _ (is : List ℕ) (xs : List Float) (k : ℕ) (h : k ≤ roomOf (length i
 
 -- ---- the rule of a commit of the lent lists
 module _ (spec : TurnStockSpec) (cs : List Float) (gen : ℕ) (is : List ℕ) (xs : List Float) (k : ℕ) where
-  pub apply-refused : (r : ℕ) → stockOf spec cs ≡ refuses r → applyOf spec cs gen is xs k ≡ refuses r
+  pub apply-refused : (r : Reason) → stockOf spec cs ≡ refuses r → applyOf spec cs gen is xs k ≡ refuses r
   unfolding applyOf
   apply-refused r e = simp (papers, e)
 
-  pub apply-short : (n : ℕ) → stockOf spec cs ≡ answers n → roomOf (length is) (length xs) < k → applyOf spec cs gen is xs k ≡ refuses 6
+  pub apply-short : (n : ℕ) → stockOf spec cs ≡ answers n → roomOf (length is) (length xs) < k → applyOf spec cs gen is xs k ≡ refuses (only 6)
   unfolding applyOf
   apply-short n e h = simp (papers, e, lt-leb k (roomOf (length is) (length xs)) h)
 
@@ -49,7 +49,7 @@ module _ (spec : TurnStockSpec) (cs : List Float) (gen : ℕ) (is : List ℕ) (x
 -- ---- what is answered and left
 
 -- refused: the cells stay
-pub left : (p : Paper Committed) (r : Refusal) (cs : List Float) → p ≡ refuses (numberOf r) → Applies p (applied.Refused r) cs cs
+pub left : (p : Paper Committed) (r : Refusal) (cs : List Float) → p ≡ refuses (reasonOf r) → Applies p (applied.Refused r) cs cs
 left p r cs e = rw e (record { answer = refl; cells = refl })
 
 -- a rule that comes to another has its outcome

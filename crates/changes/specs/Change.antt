@@ -8,7 +8,7 @@ use lib.ListN.{length, getD, set}
 use lib.Seq.{sets}
 use lib.Ieee.{Float}
 use denote.Ref.{now}
-use Rattle.refusals.specs.Number.{numberOf}
+use Rattle.refusals.specs.Number.{reasonOf}
 use Rattle.refusals.specs.Paper.{Paper, answers, refuses, demand}
 use Rattle.refusals.specs.Lent.{Lent, over}
 use Rattle.floats.specs.Pick.{pick}
@@ -88,7 +88,7 @@ pub record Listing (f : ℕ → TurnCell → TurnCell) (cs : List Float) (i k : 
 -- what it says, case by case
 abbrev pub previewedPaper : Previewed → Paper ℕ
 previewedPaper (Changes k) = answers k
-previewedPaper (Refused c) = refuses (numberOf c)
+previewedPaper (Refused c) = refuses (reasonOf c)
 
 -- 6 unless there is room for the changes
 abbrev pub settled : ℕ → List TurnChange → Paper (List TurnChange)

@@ -7,7 +7,7 @@ use lib.Dec.{leb, ltb}
 use lib.ListN.{length}
 use lib.Ieee.{Float, le}
 use denote.Ref.{now}
-use Rattle.refusals.specs.Number.{numberOf}
+use Rattle.refusals.specs.Number.{reasonOf}
 use Rattle.refusals.specs.Paper.{Paper, answers, refuses, demand, onward}
 use Rattle.refusals.specs.Limits.{lastGeneration}
 use Rattle.refusals.specs.Lent.{Lent}
@@ -63,7 +63,7 @@ firstRefusal s n cs is xs k = passAll s n cs (changesFrom is xs (min k (roomOf (
 -- what an answer of changes that pass says, case by case
 unfoldable pub passingPaper : Passing → Paper (Unit {0})
 passingPaper passing.Pass = answers tt
-passingPaper (passing.Refused c) = refuses (numberOf c)
+passingPaper (passing.Refused c) = refuses (reasonOf c)
 
 -- ---- what a commit leaves
 
@@ -104,7 +104,7 @@ applyOf spec cs gen is xs k =
 -- what the answer of a commit says, case by case
 abbrev pub appliedPaper : Applied → Paper ℕ
 appliedPaper (applied.Generation g) = answers g
-appliedPaper (applied.Refused c) = refuses (numberOf c)
+appliedPaper (applied.Refused c) = refuses (reasonOf c)
 
 abbrev pub generationOf : Paper Committed → Paper ℕ
 generationOf (answers k) = answers (k .generation)

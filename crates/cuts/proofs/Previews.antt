@@ -4,7 +4,7 @@ use mathlib.Core.Bool.{Bool, true, false, not, false≢true}
 use mathlib.Core.List.{List}
 use Prim.Native.Nat.{ℕ, _<_}
 use lib.Ieee.{Float}
-use Rattle.refusals.specs.Paper.{answers, refuses, demand, papers}
+use Rattle.refusals.specs.Paper.{Reason, answers, refuses, only, demand, papers}
 use Rattle.floats.specs.Numbers.{leastOf, greatestOf}
 use Rattle.stock.specs.declared.TurnStockSpec.{TurnStockSpec}
 use Rattle.stock.specs.declared.TurnSide.{TurnSide}
@@ -64,7 +64,7 @@ module _ (s : TurnStockSpec) (cs : List Float) (room n : ℕ) where
     unfolding demand cutReach
     drill-proposed e = rw e refl
 
-    pub arc-proposed : cut ≡ Arc → demand (not (isArc cut)) 13 (proposed (cutAct s cut) cs room n) ≡ refuses 13
+    pub arc-proposed : cut ≡ Arc → demand (not (isArc cut)) 13 (proposed (cutAct s cut) cs room n) ≡ refuses (only 13)
     unfolding demand
     arc-proposed e = rw e refl
 
@@ -77,12 +77,12 @@ ready spec s cs n held es e = (
 
 -- ---- a cut that is in its domain or not
 module _ (spec : TurnStockSpec) (cs : List Float) (good : Bool) (a : Act) (room : ℕ) where
-  pub of-refused : (r : ℕ) → stockOf spec cs ≡ refuses r → previewOf spec cs good a room ≡ refuses r
+  pub of-refused : (r : Reason) → stockOf spec cs ≡ refuses r → previewOf spec cs good a room ≡ refuses r
   unfolding previewOf
   of-refused r e = simp (papers, e)
 
   module _ (n : ℕ) (e : stockOf spec cs ≡ answers n) where
-    pub of-outside : good ≡ false → previewOf spec cs good a room ≡ refuses 5
+    pub of-outside : good ≡ false → previewOf spec cs good a room ≡ refuses (only 5)
     unfolding previewOf
     of-outside g = simp (papers, e, g)
 
@@ -105,12 +105,12 @@ no-arc (Drill tip r cone) g = refl
 no-arc Arc g = absurd (false≢true (sym g))
 
 module _ (spec : TurnStockSpec) (cs : List Float) (cut : Cut) (room : ℕ) where
-  pub cut-refused : (r : ℕ) → stockOf spec cs ≡ refuses r → previewCut spec cs cut room ≡ refuses r
+  pub cut-refused : (r : Reason) → stockOf spec cs ≡ refuses r → previewCut spec cs cut room ≡ refuses r
   unfolding previewCut
   cut-refused r e = simp (papers, e)
 
   module _ (u : Cut) (eu : u ≡ cleanCut cut) (n : ℕ) (e : stockOf spec cs ≡ answers n) where
-    pub cut-outside : cutGood u ≡ false → previewCut spec cs cut room ≡ refuses 5
+    pub cut-outside : cutGood u ≡ false → previewCut spec cs cut room ≡ refuses (only 5)
     unfolding previewCut
     cut-outside g = simp (papers, e, ← eu, no-arc u g, g)
 

@@ -4,7 +4,7 @@ use mathlib.Core.Bool.{Bool, true, false}
 use mathlib.Core.List.{List}
 use Prim.Native.Nat.{ℕ}
 use lib.Ieee.{Float}
-use Rattle.refusals.specs.Paper.{answers, refuses}
+use Rattle.refusals.specs.Paper.{Reason, answers, refuses, only}
 use Rattle.stock.specs.declared.TurnStockSpec.{TurnStockSpec}
 use Rattle.stock.specs.declared.TurnSide.{TurnSide}
 use Rattle.stock.specs.Spec.{cleanSpec}
@@ -26,13 +26,13 @@ use Rattle.cuts.specs.Tool.{toolInside, previewTool, cutIn, toolIn, swee
 use Rattle.cuts.proofs.Previews.{of-refused, of-outside, act-is, cut-refused, cut-outside, cut-is, rows-propose}
 
 -- ---- the preview
-pub tool-refused : (spec : TurnStockSpec) (cs : List Float) (t : Tool) (ys : List Float) (room r : ℕ) → stockOf spec cs ≡ refuses r → previewTool spec cs t ys room ≡ refuses r
+pub tool-refused : (spec : TurnStockSpec) (cs : List Float) (t : Tool) (ys : List Float) (room : ℕ) (r : Reason) → stockOf spec cs ≡ refuses r → previewTool spec cs t ys room ≡ refuses r
 unfolding previewTool
 tool-refused spec cs (tool.Single cut) ys room r e = cut-refused spec cs cut room r e
 tool-refused spec cs (tool.Nose side rn) ys room r e = of-refused spec cs (segmentsGood rn ys) (noseAct (cleanSpec spec) side rn ys) room r e
 tool-refused spec cs (tool.Polygon side excess) ys room r e = of-refused spec cs (polygonGood ys excess) (polygonAct (cleanSpec spec) side excess ys) room r e
 
-pub tool-outside : (spec : TurnStockSpec) (cs : List Float) (t : Tool) (ys : List Float) (room n : ℕ) → stockOf spec cs ≡ answers n → toolInside t ys ≡ false → previewTool spec cs t ys room ≡ refuses 5
+pub tool-outside : (spec : TurnStockSpec) (cs : List Float) (t : Tool) (ys : List Float) (room n : ℕ) → stockOf spec cs ≡ answers n → toolInside t ys ≡ false → previewTool spec cs t ys room ≡ refuses (only 5)
 unfolding previewTool toolInside
 tool-outside spec cs (tool.Single cut) ys room n e g = cut-outside spec cs cut room (cleanCut cut) refl n e g
 tool-outside spec cs (tool.Nose side rn) ys room n e g = of-outside spec cs (segmentsGood rn ys) (noseAct (cleanSpec spec) side rn ys) room n e g

@@ -3,65 +3,78 @@ use mathlib.Core.Path.{_≡_, refl, sym, ap, _∙_, subst}
 use mathlib.Core.Bool.{Bool, true, false}
 use mathlib.Core.List.{List, [], _∷_, _++_}
 use Prim.Native.Nat.{ℕ}
-use Rattle.refusals.specs.Paper.{Paper, answers, refuses, demand, onward, demand-true, demand-false}
+use Rattle.refusals.specs.Paper.{Paper, Reason, answers, refuses, only, demand, onward}
 use Rattle.stock.proofs.Count.{no-answer}
 use Rattle.demands.specs.Refused.{Asked, ask, AllHold, Stops, Exactly, ofAnswer}
 
-same-refusal : {A : Type 0} {m n : ℕ} → _≡_ {A = Paper A} (refuses m) (refuses n) → m ≡ n
+same-refusal : {A : Type 0} {m n : Reason} → _≡_ {A = Paper A} (refuses m) (refuses n) → m ≡ n
 same-refusal h = cc
 
--- two refusals with one number, of whatever would be answered
-pub same-number : {A B : Type 0} {m n : ℕ} → _≡_ {A = Paper A} (refuses m) (refuses n) → _≡_ {A = Paper B} (refuses n) (refuses m)
+-- two refusals for one reason, of whatever would be answered
+pub same-number : {A B : Type 0} {m n : Reason} → _≡_ {A = Paper A} (refuses m) (refuses n) → _≡_ {A = Paper B} (refuses n) (refuses m)
 same-number h = ap refuses (sym (same-refusal h))
 
 -- ---- a list of tests, asked one after the other
 
--- the number of the first that does not hold
+-- a test with the reason for which it refuses
+abbrev asking : Bool → Reason → Asked
+asking t n = record { holds = t; why = n }
+
+-- refused for the reason n unless the test holds; then p
+unfoldable pub unless : {A : Type 0} → Bool → Reason → Paper A → Paper A
+unless true n p = p
+unless false n p = refuses n
+
+unless-true : {A : Type 0} (t : Bool) (n : Reason) (p : Paper A) → t ≡ true → unless t n p ≡ p
+unfolding unless
+unless-true t n p e = simp e
+
+-- the reason of the first that does not hold
 unfoldable pub firstFailing : List Asked → Paper (Unit {0})
 firstFailing [] = answers tt
-firstFailing (q ∷ l) = demand (q .holds) (q .number) (firstFailing l)
+firstFailing (q ∷ l) = unless (q .holds) (q .why) (firstFailing l)
 
-first-stops : (l : List Asked) (k : ℕ) → firstFailing l ≡ refuses k → Stops k l
-unfolding firstFailing demand
+first-stops : (l : List Asked) (k : Reason) → firstFailing l ≡ refuses k → Stops k l
+unfolding firstFailing unless
 first-stops [] k h = absurd (no-answer k tt (sym h))
-first-stops (q ∷ l) k h = go (q .holds) (q .number) h (first-stops l k)
+first-stops (q ∷ l) k h = go (q .holds) (q .why) h (first-stops l k)
   where
-    go : (t : Bool) (n : ℕ) → demand t n (firstFailing l) ≡ refuses k → (firstFailing l ≡ refuses k → Stops k l) → Stops k (ask t n ∷ l)
-    go true n e f = let s = f e in record { before = ask true n ∷ s .before; after = s .after; order = ap (λ (x : List Asked). ask true n ∷ x) (s .order); hold = (refl, s .hold) }
-    go false n e f = record { before = []; after = l; order = ap (λ (x : ℕ). ask false x ∷ l) (same-refusal e); hold = tt }
+    go : (t : Bool) (n : Reason) → unless t n (firstFailing l) ≡ refuses k → (firstFailing l ≡ refuses k → Stops k l) → Stops k (asking t n ∷ l)
+    go true n e f = let s = f e in record { before = asking true n ∷ s .before; after = s .after; order = ap (λ (x : List Asked). asking true n ∷ x) (s .order); hold = (refl, s .hold) }
+    go false n e f = record { before = []; after = l; order = ap (λ (x : Reason). asking false x ∷ l) (same-refusal e); hold = tt }
 
-stops-first : (k : ℕ) (b a : List Asked) → AllHold b → firstFailing (b ++ (ask false k ∷ a)) ≡ refuses k
-unfolding firstFailing
-stops-first k [] a h = demand-false false k (firstFailing a) refl
-stops-first k (q ∷ b) a h = demand-true (q .holds) (q .number) _ (h .0) ∙ stops-first k b a (h .1)
+stops-first : (k : Reason) (b a : List Asked) → AllHold b → firstFailing (b ++ (asking false k ∷ a)) ≡ refuses k
+unfolding firstFailing unless
+stops-first k [] a h = refl
+stops-first k (q ∷ b) a h = unless-true (q .holds) (q .why) _ (h .0) ∙ stops-first k b a (h .1)
 
 first-holds : (l : List Asked) → firstFailing l ≡ answers tt → AllHold l
-unfolding firstFailing demand
+unfolding firstFailing unless
 first-holds [] h = tt
-first-holds (q ∷ l) h = go (q .holds) (q .number) h (first-holds l)
+first-holds (q ∷ l) h = go (q .holds) (q .why) h (first-holds l)
   where
-    go : (t : Bool) (n : ℕ) → demand t n (firstFailing l) ≡ answers tt → (firstFailing l ≡ answers tt → AllHold l) → AllHold (ask t n ∷ l)
+    go : (t : Bool) (n : Reason) → unless t n (firstFailing l) ≡ answers tt → (firstFailing l ≡ answers tt → AllHold l) → AllHold (asking t n ∷ l)
     go true n e f = (refl, f e)
     go false n e f = absurd (no-answer n tt e)
 
 holds-first : (l : List Asked) → AllHold l → firstFailing l ≡ answers tt
 unfolding firstFailing
 holds-first [] h = refl
-holds-first (q ∷ l) h = demand-true (q .holds) (q .number) _ (h .0) ∙ holds-first l (h .1)
+holds-first (q ∷ l) h = unless-true (q .holds) (q .why) _ (h .0) ∙ holds-first l (h .1)
 
 -- tests behind others
 first-append : (l m : List Asked) → firstFailing (l ++ m) ≡ onward (firstFailing l) (λ _. firstFailing m)
-unfolding firstFailing demand onward
+unfolding firstFailing unless onward
 first-append [] m = refl
-first-append (q ∷ l) m = go (q .holds) (q .number) (first-append l m)
+first-append (q ∷ l) m = go (q .holds) (q .why) (first-append l m)
   where
-    go : (t : Bool) (n : ℕ) → firstFailing (l ++ m) ≡ onward (firstFailing l) (λ _. firstFailing m) → demand t n (firstFailing (l ++ m)) ≡ onward (demand t n (firstFailing l)) (λ _. firstFailing m)
+    go : (t : Bool) (n : Reason) → firstFailing (l ++ m) ≡ onward (firstFailing l) (λ _. firstFailing m) → unless t n (firstFailing (l ++ m)) ≡ onward (unless t n (firstFailing l)) (λ _. firstFailing m)
     go true n e = e
     go false n e = refl
 
 -- ---- a rule and its tests
 
--- the number with which a rule refuses; what it answers is left out
+-- the reason for which a rule refuses; what it answers is left out
 unfoldable pub refusalOf : {A : Type 0} → Paper A → Paper (Unit {0})
 refusalOf (answers a) = answers tt
 refusalOf (refuses n) = refuses n
@@ -70,7 +83,7 @@ refusalOf (refuses n) = refuses n
 pub record Asks {A : Type 0} (p : Paper A) (l : List Asked) : Type 0 where
   pub same : refusalOf p ≡ firstFailing l
 
-is-refused : {A : Type 0} (p : Paper A) (k : ℕ) → refusalOf p ≡ refuses k → p ≡ refuses k
+is-refused : {A : Type 0} (p : Paper A) (k : Reason) → refusalOf p ≡ refuses k → p ≡ refuses k
 unfolding refusalOf
 is-refused (answers a) k h = absurd (no-answer k tt (sym h))
 is-refused (refuses n) k h = ap refuses (same-refusal h)
@@ -80,7 +93,7 @@ unfolding refusalOf
 is-answered (answers a) h = (a, refl)
 is-answered (refuses n) h = absurd (no-answer n tt h)
 
--- THE LAW: it refuses with k exactly when the first test that does not hold has the number k, and answers exactly when all hold
+-- THE LAW: it refuses for the reason k exactly when the first test that does not hold has it, and answers exactly when all hold
 pub exactly : {A : Type 0} {p : Paper A} {l : List Asked} → Asks p l → Exactly p l
 unfolding refusalOf
 exactly {A} {p} {l} h = record {
@@ -109,7 +122,7 @@ asks-none a = record { same = refl }
 
 -- one more test before the others, which are asked where it holds
 pub asks-more : {A : Type 0} {p : Paper A} {l : List Asked} (t : Bool) (n : ℕ) → (t ≡ true → Asks p l) → Asks (demand t n p) (ask t n ∷ l)
-unfolding refusalOf firstFailing demand
+unfolding refusalOf firstFailing unless demand
 asks-more true n h = record { same = h refl .same }
 asks-more false n h = record { same = refl }
 
@@ -142,9 +155,9 @@ onward-demand false n a f = refl
 
 -- an answer where a test holds, a refusal where it does not
 pub asks-holds : {A : Type 0} {t : Bool} (n : ℕ) (a : A) → t ≡ true → Asks (answers a) (ask t n ∷ [])
-unfolding refusalOf firstFailing demand
-asks-holds n a e = record { same = sym (demand-true _ n _ e) }
+unfolding refusalOf firstFailing unless
+asks-holds n a e = record { same = simp e }
 
-pub asks-fails : {A : Type 0} {t : Bool} (n : ℕ) → t ≡ false → Asks {A = A} (refuses n) (ask t n ∷ [])
-unfolding refusalOf firstFailing
-asks-fails n e = record { same = sym (demand-false _ n _ e) }
+pub asks-fails : {A : Type 0} {t : Bool} (n : ℕ) → t ≡ false → Asks {A = A} (refuses (only n)) (ask t n ∷ [])
+unfolding refusalOf firstFailing unless
+asks-fails n e = record { same = simp e }

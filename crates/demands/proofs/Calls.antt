@@ -7,7 +7,7 @@ use native.Mathlib.Nat.{add-zero}
 use lib.Dec.{ltb}
 use lib.ListN.{length}
 use lib.Ieee.{Float, binary64}
-use Rattle.refusals.specs.Paper.{Paper, answers, refuses, demand}
+use Rattle.refusals.specs.Paper.{Paper, answers, refuses, only, demand}
 use Rattle.refusals.specs.Limits.{lastGeneration}
 use Rattle.floats.specs.Each.{Each}
 use Rattle.floats.specs.Kinds.{Plain}
@@ -58,7 +58,7 @@ record Kept (k : Committed) (g : ℕ) (cs' : List Float) : Type 0 where
 kept : (t : Bool) (k : Committed) (g : ℕ) (cs cs' : List Float) → Applies (demand t 12 (answers k)) (Generation g) cs cs' → Kept k g cs'
 unfolding demand
 kept true k g cs cs' a = record { cells = a .cells; generation = same-answer (a .answer) }
-kept false k g cs cs' a = absurd (no-answer 12 g (sym (a .answer)))
+kept false k g cs cs' a = absurd (no-answer (only 12) g (sym (a .answer)))
 
 -- the cut is in its domain, the cells afterwards fit, each is what the cut makes of it, and the generation is one more
 pub record Called (spec : TurnStockSpec) (n : ℕ) (t : Cutter) (cs cs' : List Float) (gen g : ℕ) : Type 0 where

@@ -4,7 +4,7 @@ use mathlib.Core.List.{List, [], _∷_, _++_}
 use Prim.Native.Nat.{ℕ}
 use lib.Ieee
 use lib.Ieee.{Float, binary64, ofBits}
-use Rattle.refusals.specs.Paper.{demand, onward}
+use Rattle.refusals.specs.Paper.{only, demand, onward}
 use Rattle.refusals.specs.Lent.{over}
 use Rattle.floats.specs.Pick.{pick}
 use Rattle.floats.specs.Numbers.{zero64, leastOf, greatestOf, sizeOf, cleanOf, minusZero}
@@ -71,7 +71,7 @@ parts-rebuilt = record { answer = refl; store = refl }
 -- ---- a job: the empty one offends at line 1, with 15
 pub empty-offends : (cs rs : List Float) → Offends (state freshRun cs rs) (piecesOf []) 1 15
 unfolding partedAt linesOn wrongWith demand
-empty-offends cs rs = record { before = []; line = []; after = []; order = refl; reached = state freshRun cs rs; carried = refl; number = refl; wrong = refl }
+empty-offends cs rs = record { before = []; line = []; after = []; order = refl; reached = state freshRun cs rs; carried = refl; number = refl; why = only 15; wrong = refl; refusal = refl }
 
 -- and the first line of 01's example, `bar`, with its newline, is carried out: one cell, of radius 20, with no bore
 abbrev barLine : List ℕ

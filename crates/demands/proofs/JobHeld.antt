@@ -12,7 +12,7 @@ use lib.ListN.{length, take, getD, List·getD-eq-default}
 use lib.Seq.{length-take-le}
 use lib.Ieee.{Float, binary64, ofBits, nan, fits}
 use lib.Ieee.Fits.{nan-fits}
-use Rattle.refusals.specs.Paper.{Paper, answers, refuses, demand, onward}
+use Rattle.refusals.specs.Paper.{Paper, answers, refuses, only, demand, onward}
 use Rattle.refusals.specs.Lent.{over}
 use Rattle.floats.specs.Each.{Each}
 use Rattle.floats.specs.Pick.{pick, pick-true, pick-false}
@@ -122,10 +122,10 @@ first-held st (Bar spec) s h e =
     let long : length fresh ≡ length (take (4 * n) (st .cells)) = length-like (freshCell (cleanSpec spec)) n ∙ sym (length-take-le (4 * n) (st .cells) (leb-true (4 * n) (length (st .cells)) (d .0))) in
     subst (λ (x : Stand). HeldRun (run.answered st (answers x))) (same-answer (d .1))
     (record { spec = h; cells = subst HeldList (sym (front-is (4 * n) fresh (st .cells) long)) (good-held (fresh-good h (a .first))) })
-first-held st (Cutting u) s h e = absurd (no-answer 15 s e)
-first-held st (Removing q) s h e = absurd (no-answer 15 s e)
-first-held st Arc s h e = absurd (no-answer 15 s e)
-first-held st Bad s h e = absurd (no-answer 15 s e)
+first-held st (Cutting u) s h e = absurd (no-answer (only 15) s e)
+first-held st (Removing q) s h e = absurd (no-answer (only 15) s e)
+first-held st Arc s h e = absurd (no-answer (only 15) s e)
+first-held st Bad s h e = absurd (no-answer (only 15) s e)
 
 cut-held : (st : State) (l : List ℕ) (s : Stand) → HeldRun st → (c : CutMade st l s) → HeldRun (run.answered st (answers s))
 unfolding run.answered
@@ -157,11 +157,11 @@ line-kept st l s h e = by (eqb (st .run .job .cells) 0) refl
     rule = demanded _ _ _ _ e .1
 
     later : (x : Line) → lineOf l ≡ x → eqb (j .cells) 0 ≡ false → laterLine j x fullRoom (st .cells) (st .rings) ≡ answers s → HeldRun (run.answered st (answers s))
-    later (Bar spec) c b f = absurd (no-answer 15 s f)
+    later (Bar spec) c b f = absurd (no-answer (only 15) s f)
     later (Cutting u) c b f = cut-held st l s h (cut-made st l s (c ∙ ap (λ (x : Line). Cutting (cutIn x)) (sym c)) b e)
     later (Removing q) c b f = ring-held st q s h f
-    later Arc c b f = absurd (no-answer 13 s f)
-    later Bad c b f = absurd (no-answer 15 s f)
+    later Arc c b f = absurd (no-answer (only 13) s f)
+    later Bad c b f = absurd (no-answer (only 15) s f)
 
     by : (t : Bool) → eqb (j .cells) 0 ≡ t → HeldRun (run.answered st (answers s))
     by true b = first-held st (lineOf l) s (bar-held l) (sym (pick-true _ _ _ b) ∙ rule)

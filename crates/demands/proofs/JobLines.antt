@@ -11,9 +11,9 @@ use lib.Dec.{eqb, ltb}
 use lib.ListN.{length}
 use lib.Ieee.{Float}
 use Rattle.refusals.specs.declared.Refusal.the-variants.{LineMalformed}
-use Rattle.refusals.specs.Number.{numberOf}
+use Rattle.refusals.specs.Number.{reasonOf}
 use Rattle.refusals.specs.Limits.{lastGeneration}
-use Rattle.refusals.specs.Paper.{Paper, answers, refuses, demand, onward, onward-answers, onward-refuses, demand-true, demand-false}
+use Rattle.refusals.specs.Paper.{Paper, Reason, answers, refuses, demand, onward, onward-answers, onward-refuses, demand-true, demand-false, only}
 use Rattle.floats.specs.Each.{Each}
 use Rattle.floats.specs.Pick.{pick, pick-true, pick-false}
 use Rattle.stock.specs.declared.TurnStockSpec.{TurnStockSpec}
@@ -50,13 +50,13 @@ use Rattle.demands.proofs.Second.{preview-is}
 
 -- each test has a number above 0
 abbrev Numbered : List Asked → Type 0
-Numbered l = Each (λ (q : Asked). 0 < q .number) l
+Numbered l = Each (λ (q : Asked). 0 < q .why .number) l
 
 numbered-append : (l m : List Asked) → Numbered l → Numbered m → Numbered (l ++ m)
 numbered-append [] m a b = b
 numbered-append (q ∷ l) m a b = (a .0, numbered-append l m (a .1) b)
 
-numbered-stop : (k : ℕ) (b a : List Asked) → Numbered (b ++ (ask false k ∷ a)) → 0 < k
+numbered-stop : (k : Reason) (b a : List Asked) → Numbered (b ++ (record { holds = false; why = k } ∷ a)) → 0 < k .number
 numbered-stop k [] a h = h .0
 numbered-stop k (q ∷ b) a h = numbered-stop k b a (h .1)
 
@@ -108,7 +108,7 @@ line-numbered j s room cs rs = (zero-lt-suc 14, go (eqb (j .cells) 0))
     go false = later-numbered j (lineOf s) room cs rs
 
 -- a line is refused with a number above 0
-pub line-number : (j : Job) (s : List ℕ) (room : ℕ) (cs rs : List Float) (k : ℕ) → jobLine j s room cs rs ≡ refuses k → 0 < k
+pub line-number : (j : Job) (s : List ℕ) (room : ℕ) (cs rs : List Float) (k : Reason) → jobLine j s room cs rs ≡ refuses k → 0 < k .number
 line-number j s room cs rs k e =
     let t = line-exactly j s room cs rs .stops k e in
     numbered-stop k (t .before) (t .after) (subst Numbered (t .order) (line-numbered j s room cs rs))
@@ -157,9 +157,9 @@ stays [] st e = refl
 stays (l ∷ []) st e = pick-true _ _ _ e
 stays (l ∷ m ∷ ls) st e = ap (λ (x : State). over x (m ∷ ls)) (pick-true _ _ _ e) ∙ stays (m ∷ ls) st e
 
-refused-stays : (ps : List (List ℕ)) (st : State) (k : ℕ) → 0 < k → over (answered st (refuses k)) ps ≡ answered st (refuses k)
+refused-stays : (ps : List (List ℕ)) (st : State) (k : Reason) → 0 < k .number → over (answered st (refuses k)) ps ≡ answered st (refuses k)
 unfolding answered refusedWith
-refused-stays ps st k h = stays ps (answered st (refuses k)) (rw (ne-eqb k 0 (λ e. omega arith)))
+refused-stays ps st k h = stays ps (answered st (refuses k)) (rw (ne-eqb (k .number) 0 (λ e. omega arith)))
 
 -- a piece with another behind it is a line
 next-piece : (st : State) (l m : List ℕ) (ls : List (List ℕ)) → Going st → over st (l ∷ m ∷ ls) ≡ over (answered st (lineIn st l)) (m ∷ ls)
@@ -203,17 +203,17 @@ lines-reach (b ∷ bs) line after st reached g e = go (lineIn st b) refl (λ s f
     go (answers s) h k f = let r = k s f in record { rest = one bs ∙ ap (λ (p : Paper Stand). over (answered st p) (bs ++ (line ∷ after))) h ∙ r .rest; going = r .going }
 
 -- what a piece that is refused leaves: the run stops at the next line, and its cells and rings are as that line found them
-wrong-stops : (line : List ℕ) (after : List (List ℕ)) (st : State) (k : ℕ) → Going st → wrongWith st line after ≡ refuses k → (0 < k) × (over st (line ∷ after) ≡ answered st (refuses k))
+wrong-stops : (line : List ℕ) (after : List (List ℕ)) (st : State) (k : Reason) → Going st → wrongWith st line after ≡ refuses k → (0 < k .number) × (over st (line ∷ after) ≡ answered st (refuses k))
 unfolding wrongWith lastOf demand onward
 wrong-stops line [] st k g e = (go (eqb (length line) 0) (eqb (st .run .lines) 0) e, last-piece st line g ∙ ap (lastOf st) e)
   where
-    go : (a b : Bool) → _≡_ {A = Paper (Unit {0})} (demand a 15 (demand (not b) 15 (answers tt))) (refuses k) → 0 < k
+    go : (a b : Bool) → _≡_ {A = Paper (Unit {0})} (demand a 15 (demand (not b) 15 (answers tt))) (refuses k) → 0 < k .number
     go true false f = absurd (no-answer k tt (sym f))
-    go true true f = subst (λ (n : ℕ). 0 < n) (same-number f) (zero-lt-suc 14)
-    go false b f = subst (λ (n : ℕ). 0 < n) (same-number f) (zero-lt-suc 14)
+    go true true f = subst (λ (n : Reason). 0 < n .number) (same-number f) (zero-lt-suc 14)
+    go false b f = subst (λ (n : Reason). 0 < n .number) (same-number f) (zero-lt-suc 14)
 wrong-stops line (m ∷ ls) st k g e = go (lineIn st line) refl e
   where
-    go : (p : Paper Stand) → lineIn st line ≡ p → _≡_ {A = Paper (Unit {0})} (onward p (λ _. answers tt)) (refuses k) → (0 < k) × (over st (line ∷ m ∷ ls) ≡ answered st (refuses k))
+    go : (p : Paper Stand) → lineIn st line ≡ p → _≡_ {A = Paper (Unit {0})} (onward p (λ _. answers tt)) (refuses k) → (0 < k .number) × (over st (line ∷ m ∷ ls) ≡ answered st (refuses k))
     go (answers s) h f = absurd (no-answer k tt (sym f))
     go (refuses n) h f =
         let w : lineIn st line ≡ refuses k = h ∙ ap refuses (same-number f) in
@@ -221,11 +221,11 @@ wrong-stops line (m ∷ ls) st k g e = go (lineIn st line) refl e
         (z, next-piece st line m ls g ∙ ap (λ (p : Paper Stand). over (answered st p) (m ∷ ls)) w ∙ refused-stays (m ∷ ls) st k z)
 
 -- where a line offends, the run ends there
-pub offends-ends : {st : State} {ps : List (List ℕ)} {m k : ℕ} → st .run .refused ≡ 0 → (o : Offends st ps m k) → (0 < k) × (over st ps ≡ answered (o .reached) (refuses k))
+pub offends-ends : {st : State} {ps : List (List ℕ)} {m k : ℕ} → st .run .refused ≡ 0 → (o : Offends st ps m k) → (0 < k) × (over st ps ≡ answered (o .reached) (refuses (o .why)))
 offends-ends {st} {ps} {m} {k} g o =
     let r = lines-reach (o .before) (o .line) (o .after) st (o .reached) g (o .carried) in
-    let w = wrong-stops (o .line) (o .after) (o .reached) k (r .going) (o .wrong) in
-    (w .0, ap (over st) (o .order) ∙ r .rest ∙ w .1)
+    let w = wrong-stops (o .line) (o .after) (o .reached) (o .why) (r .going) (o .wrong) in
+    (rw (o .refusal) (w .0), ap (over st) (o .order) ∙ r .rest ∙ w .1)
 
 -- where none does, all are carried out
 pub none-ends : {st end : State} {ps : List (List ℕ)} → st .run .refused ≡ 0 → NoneOffends st ps end → (over st ps ≡ end) × (end .run .refused ≡ 0)
@@ -248,12 +248,12 @@ found-last : (st : State) (l : List ℕ) → Found st (l ∷ [])
 unfolding wrongWith linesOn demand
 found-last st l = go (eqb (length l) 0) refl (eqb (st .run .lines) 0) refl
   where
-    here : (k : ℕ) → wrongWith st l [] ≡ refuses k → Found st (l ∷ [])
-    here k e = offending {m = next (st .run)} {k = k} (record { before = []; line = l; after = []; order = refl; reached = st; carried = refl; number = refl; wrong = e })
+    here : (k : Reason) → wrongWith st l [] ≡ refuses k → Found st (l ∷ [])
+    here k e = offending {m = next (st .run)} {k = k .number} (record { before = []; line = l; after = []; order = refl; reached = st; carried = refl; number = refl; why = k; wrong = e; refusal = refl })
 
     go : (a : Bool) → eqb (length l) 0 ≡ a → (b : Bool) → eqb (st .run .lines) 0 ≡ b → Found st (l ∷ [])
-    go false e b f = here 15 (demand-false _ _ _ e)
-    go true e true f = here 15 (demand-true _ _ _ e ∙ demand-false _ _ _ (ap not f))
+    go false e b f = here (only 15) (demand-false _ _ _ e)
+    go true e true f = here (only 15) (demand-true _ _ _ e ∙ demand-false _ _ _ (ap not f))
     go true e false f = none {end = st} (record { lines = []; order = ap (λ (x : List ℕ). x ∷ []) (no-bytes l e); carried = refl; some = f })
 
 -- one line more before
@@ -267,7 +267,9 @@ found-next st l ps s e (offending o) = offending (record {
   reached = o .reached;
   carried = ap (λ (p : Paper Stand). onward p (λ s. linesOn (answered st (answers s)) (o .before))) e ∙ onward-answers _ _ ∙ o .carried;
   number = o .number;
+  why = o .why;
   wrong = o .wrong;
+  refusal = o .refusal;
 })
 found-next st l ps s e (none o) = none (record {
   lines = l ∷ o .lines;
@@ -283,7 +285,7 @@ found l (m ∷ ls) st = go (lineIn st l) refl (λ s. found m ls (answered st (an
   where
     go : (p : Paper Stand) → lineIn st l ≡ p → ((s : Stand) → Found (answered st (answers s)) (m ∷ ls)) → Found st (l ∷ m ∷ ls)
     go (answers s) e f = found-next st l (m ∷ ls) s e (f s)
-    go (refuses k) e f = offending {m = next (st .run)} {k = k} (record {
+    go (refuses k) e f = offending {m = next (st .run)} {k = k .number} (record {
       before = [];
       line = l;
       after = m ∷ ls;
@@ -291,7 +293,9 @@ found l (m ∷ ls) st = go (lineIn st l) refl (λ s. found m ls (answered st (an
       reached = st;
       carried = refl;
       number = refl;
+      why = k;
       wrong = ap (λ (p : Paper Stand). onward p (λ _. answers tt)) e ∙ onward-refuses _ _;
+      refusal = refl;
     })
 
 found-in : (ps : List (List ℕ)) (st : State) → 0 < length ps → Found st ps
@@ -305,7 +309,7 @@ module _ (st : State) (s : List ℕ) (g : st .run .refused ≡ 0) where
   unfolding answered refusedWith
   job-refused m k o =
       let e = offends-ends g o .1 in
-      (ap (λ (x : State). x .run .refused) e, ap (λ (x : State). x .run .lines) e ∙ sym (o .number), ap (λ (x : State). x .cells) e, ap (λ (x : State). x .rings) e)
+      (ap (λ (x : State). x .run .refused) e ∙ sym (o .refusal), ap (λ (x : State). x .run .lines) e ∙ sym (o .number), ap (λ (x : State). x .cells) e, ap (λ (x : State). x .rings) e)
 
   -- answered, where none offends: the run is then what the lines in turn leave
   pub job-answered : (end : State) → NoneOffends st (piecesOf s) end → (jobOf st s ≡ end) × (jobOf st s .run .refused ≡ 0)

@@ -14,7 +14,7 @@ use lib.Ieee.Bits.{ofBits-fits, is-true}
 use lib.Ieee.Fits.{div-fits}
 use lib.Ieee.Scale.{finite}
 use borrow.Author.Tests.{eqb-false, le-leb, ltb-true, ltb-false}
-use Rattle.refusals.specs.Paper.{Paper, answers, refuses, demand, onward, demand-true, demand-false, onward-answers, onward-refuses, papers}
+use Rattle.refusals.specs.Paper.{Paper, Reason, answers, refuses, demand, onward, demand-true, demand-false, onward-answers, onward-refuses, only, papers}
 use Rattle.refusals.specs.Limits.{cellLimit, lastGeneration}
 use Rattle.refusals.specs.Lent.{over}
 use Rattle.floats.specs.Pick.{pick}
@@ -177,19 +177,27 @@ pub data JobNumber (g : ℕ) : ℕ → Type 0 where
   an-arc : JobNumber g 13
   malformed : JobNumber g 15
 
+-- and a job's refusal has no place
+record JobReason (g : ℕ) (k : Reason) : Type 0 where
+  number : JobNumber g (k .number)
+  placeless : k .place ≡ none
+
+numbered : {g n : ℕ} → JobNumber g n → JobReason g (only n)
+numbered k = record { number = k; placeless = refl }
+
 -- a rule that refuses with no other
 data Only (g : ℕ) {A : Type 0} : Paper A → Type 0 where
   accepted : {a : A} → Only g (answers a)
-  refused : {n : ℕ} → JobNumber g n → Only g (refuses n)
+  refused : {n : Reason} → JobReason g n → Only g (refuses n)
 
 only-demand : {A : Type 0} (g : ℕ) (t : Bool) (n : ℕ) (p : Paper A) → (t ≡ false → JobNumber g n) → Only g p → Only g (demand t n p)
 unfolding demand
 only-demand g true n p h o = o
-only-demand g false n p h o = refused (h refl)
+only-demand g false n p h o = refused (numbered (h refl))
 
-only-number : {A : Type 0} {g n : ℕ} {p : Paper A} → Only g p → p ≡ refuses n → JobNumber g n
+only-number : {A : Type 0} {g : ℕ} {n : Reason} {p : Paper A} → Only g p → p ≡ refuses n → JobReason g n
 only-number {A} {g} {n} accepted e = absurd (no-answer n _ (sym e))
-only-number {A} {g} {n} (refused {n = m} k) e = subst (JobNumber g) (same e) k
+only-number {A} {g} {n} (refused {n = m} k) e = subst (JobReason g) (same e) k
   where
     same : _≡_ {A = Paper A} (refuses m) (refuses n) → m ≡ n
     same h = cc
@@ -199,7 +207,7 @@ unfolding cellsOf
 count-only g spec = only-demand g _ 1 _ (λ _. bar-outside) (go (wholeUp (quotient (cleanSpec spec)) cellLimit))
   where
     go : (o : Option ℕ) → Only g (counted (cleanSpec spec .«max_cells») o)
-    go none = refused cells-over
+    go none = refused (numbered cells-over)
     go (some n) = only-demand g _ 2 _ (λ _. cells-over) accepted
 
 -- ---- a job whose cells and rings fit
@@ -218,7 +226,7 @@ pub data Fitting (j : Job) (cs rs : List Float) : Type 0 where
 -- a line goes on with a job that fits, or is refused with one of the numbers
 data Goes (g : ℕ) : Paper Stand → Type 0 where
   on : {s : Stand} → Fitting (s .job) (s .cells) (s .rings) → length (s .cells) ≡ 4 * maxCells → Goes g (answers s)
-  off : {n : ℕ} → JobNumber g n → Goes g (refuses n)
+  off : {n : Reason} → JobReason g n → Goes g (refuses n)
 
 over-front : (n : ℕ) (ks xs : List Float) → length ks ≡ n → take n (over ks xs) ≡ ks
 unfolding over
@@ -268,7 +276,7 @@ module _ (j : Job) (cs rs : List Float) (r : Running j cs rs) (long : length cs 
       ∙ onward-answers _ _
       ∙ commit-is (r .good) (actCell (cutterAct (j .spec) (single u))) (act-cuts (r .good) (cutterAct (j .spec) (single u)) (s .plain)) (j .generation)
 
-  made-bad : (u : Cut) → isArc (cleanCut u) ≡ false → cutGood (cleanCut u) ≡ false → madeCut (j .spec) own (j .generation) u fullRoom ≡ refuses 5
+  made-bad : (u : Cut) → isArc (cleanCut u) ≡ false → cutGood (cleanCut u) ≡ false → madeCut (j .spec) own (j .generation) u fullRoom ≡ refuses (only 5)
   unfolding madeCut previewCut
   made-bad u ha hg = simp (papers, good-stock (r .good), ha, hg)
 
@@ -280,10 +288,10 @@ module _ (j : Job) (cs rs : List Float) (r : Running j cs rs) (long : length cs 
       after k = answers (stand (record { spec = j .spec; cells = j .cells; rings = j .rings; generation = k .generation }) (over (k .cells) cs) rs)
 
       by : (t : Bool) → cutGood (cleanCut u) ≡ t → (v : Bool) → ltb (j .generation) lastGeneration ≡ v → Goes (j .generation) (onward (madeCut (j .spec) own (j .generation) u fullRoom) after)
-      by false e v f = subst (λ (p : Paper Committed). Goes (j .generation) (onward p after)) (sym (made-bad u ha e)) (subst (Goes (j .generation)) (sym (onward-refuses 5 after)) (off cut-outside))
+      by false e v f = subst (λ (p : Paper Committed). Goes (j .generation) (onward p after)) (sym (made-bad u ha e)) (subst (Goes (j .generation)) (sym (onward-refuses (only 5) after)) (off (numbered cut-outside)))
       by true e false f =
           subst (λ (p : Paper Committed). Goes (j .generation) (onward p after)) (sym (made-good u hu ha e ∙ demand-false _ _ _ f))
-          (subst (Goes (j .generation)) (sym (onward-refuses 12 after)) (off (spent (ltb-false _ _ f))))
+          (subst (Goes (j .generation)) (sym (onward-refuses (only 12) after)) (off (numbered (spent (ltb-false _ _ f)))))
       by true e true f =
           let s = tool-sound (j .spec) (j .cells) (r .held) (r .good .count) (single u) hu (rw (ha, e) refl) in
           let act = cutterAct (j .spec) (single u) in
@@ -310,7 +318,7 @@ module _ (j : Job) (cs rs : List Float) (r : Running j cs rs) (long : length cs 
 
       go : (t : Bool) (l : List Ring) → Only (j .generation) (onward (demand t 11 (answers l)) (λ k. answers (store k)))
       go true l = simp papers accepted
-      go false l = simp papers (refused rings-over)
+      go false l = simp papers (refused (numbered rings-over))
 
   goes-ring : (q : Ring) → finiteRing q ≡ true → Goes (j .generation) (removingLine j q cs rs)
   unfolding removingLine
@@ -330,23 +338,23 @@ module _ (j : Job) (cs rs : List Float) (r : Running j cs rs) (long : length cs 
 goes-demand : (g : ℕ) (t : Bool) (n : ℕ) (p : Paper Stand) → JobNumber g n → Goes g p → Goes g (demand t n p)
 unfolding demand
 goes-demand g true n p k h = h
-goes-demand g false n p k h = off k
+goes-demand g false n p k h = off (numbered k)
 
 goes-first : (g : ℕ) (l : Line) (cs rs : List Float) → Says l → length cs ≡ 4 * maxCells → Goes g (firstLine l cs rs)
 unfolding firstLine
 goes-first g (line.Bar spec) cs rs s long = goes-bar g spec cs rs (s .0) (s .1) long
-goes-first g (line.Cutting u) cs rs s long = off malformed
-goes-first g (line.Removing q) cs rs s long = off malformed
-goes-first g line.Arc cs rs s long = off malformed
-goes-first g line.Bad cs rs s long = off malformed
+goes-first g (line.Cutting u) cs rs s long = off (numbered malformed)
+goes-first g (line.Removing q) cs rs s long = off (numbered malformed)
+goes-first g line.Arc cs rs s long = off (numbered malformed)
+goes-first g line.Bad cs rs s long = off (numbered malformed)
 
 goes-later : (j : Job) (l : Line) (cs rs : List Float) → Says l → Running j cs rs → length cs ≡ 4 * maxCells → Goes (j .generation) (laterLine j l fullRoom cs rs)
 unfolding laterLine
-goes-later j (line.Bar spec) cs rs s r long = off malformed
+goes-later j (line.Bar spec) cs rs s r long = off (numbered malformed)
 goes-later j (line.Cutting u) cs rs s r long = goes-cut j cs rs r long u (s .0) (s .1)
 goes-later j (line.Removing q) cs rs s r long = goes-ring j cs rs r long q s
-goes-later j line.Arc cs rs s r long = off an-arc
-goes-later j line.Bad cs rs s r long = off malformed
+goes-later j line.Arc cs rs s r long = off (numbered an-arc)
+goes-later j line.Bad cs rs s r long = off (numbered malformed)
 
 goes-line : (j : Job) (s : List ℕ) (cs rs : List Float) → Fitting j cs rs → length cs ≡ 4 * maxCells → Goes (j .generation) (jobLine j s fullRoom cs rs)
 unfolding jobLine
@@ -368,7 +376,7 @@ pub record Numbered (st : State) : Type 0 where
 numbered-answered : (st : State) (p : Paper Stand) → Numbered st → Goes (st .run .job .generation) p → Numbered (answered st p)
 unfolding answered refusedWith
 numbered-answered st p h (on f l) = record { long = l; fitting = f; number = inl refl }
-numbered-answered st p h (off k) = record { long = h .long; fitting = h .fitting; number = inr k }
+numbered-answered st p h (off k) = record { long = h .long; fitting = h .fitting; number = inr (k .number) }
 
 numbered-line : (st : State) (l : List ℕ) → Numbered st → Numbered (onLine st l)
 unfolding onLine

@@ -11,7 +11,7 @@ use lib.ListN.{length, take, drop, getD, length-take, take-append-drop, drop-of-
 use lib.Seq.{length-take-le, take-all, take-at, drop-at}
 use lib.Ieee.{Float, binary64, ofBits, fits}
 use lib.Ieee.Fits.{div-fits}
-use Rattle.refusals.specs.Paper.{Paper, answers, refuses, demand, onward, onward-answers}
+use Rattle.refusals.specs.Paper.{Paper, answers, refuses, only, demand, onward, onward-answers}
 use Rattle.refusals.specs.Limits.{lastGeneration}
 use Rattle.refusals.specs.Lent.{over}
 use Rattle.refusals.proofs.Written.{over-all}
@@ -168,7 +168,7 @@ cut-later st l s c e = by (eqb (st .run .job .cells) 0) refl
   where
     by : (t : Bool) → eqb (st .run .job .cells) 0 ≡ t → t ≡ false
     by false b = refl
-    by true b = absurd (no-answer 15 s (ap (λ (x : Line). firstLine x (st .cells) (st .rings)) (sym c) ∙ sym (pick-true _ _ _ b) ∙ demanded _ _ _ _ e .1))
+    by true b = absurd (no-answer (only 15) s (ap (λ (x : Line). firstLine x (st .cells) (st .rings)) (sym c) ∙ sym (pick-true _ _ _ b) ∙ demanded _ _ _ _ e .1))
 
 -- ---- lines that are cuts
 

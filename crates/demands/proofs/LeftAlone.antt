@@ -7,7 +7,7 @@ use lib.IntN.{ℤ}
 use lib.ListN.{length}
 use lib.Ieee.{Float}
 use Rattle.refusals.specs.declared.Refusal.{Refusal}
-use Rattle.refusals.specs.Number.{numberOf}
+use Rattle.refusals.specs.Number.{reasonOf}
 use Rattle.refusals.specs.Lent.{over}
 use Rattle.refusals.specs.Paper.{Paper, answers, refuses, onward}
 use Rattle.stock.specs.declared.TurnStockSpec.{TurnStockSpec}
@@ -56,9 +56,9 @@ preview-call {p} {r} h x = exactly-as (previewedPaper r) (ap refusalOf (h .answe
     same (refuses n) = refl
 
 -- and then both lists are as they were
-pub preview-left : (p : Paper (List TurnChange)) (c : Refusal) (is is' : List ℕ) (xs xs' : List Float) → Proposed p (previewed.Refused c) is is' xs xs' → (p ≡ refuses (numberOf c)) × (is' ≡ is) × (xs' ≡ xs)
+pub preview-left : (p : Paper (List TurnChange)) (c : Refusal) (is is' : List ℕ) (xs xs' : List Float) → Proposed p (previewed.Refused c) is is' xs xs' → (p ≡ refuses (reasonOf c)) × (is' ≡ is) × (xs' ≡ xs)
 unfolding over numbersOf
-preview-left (answers l) c is is' xs xs' h = absurd (no-answer (numberOf c) (length l) (h .answer))
+preview-left (answers l) c is is' xs xs' h = absurd (no-answer (reasonOf c) (length l) (h .answer))
 preview-left (refuses n) c is is' xs xs' h = (same-number (h .answer), h .indices, h .numbers)
 
 -- ---- a tool's changes into records: the records
@@ -71,9 +71,9 @@ records-call {p} {r} h x = exactly-as (previewedPaper r) (ap refusalOf (h .answe
     same (answers l) = refl
     same (refuses n) = refl
 
-pub records-left : (p : Paper (List TurnChange)) (c : Refusal) (rs rs' : List TurnChange) → Written p (previewed.Refused c) rs rs' → (p ≡ refuses (numberOf c)) × (rs' ≡ rs)
+pub records-left : (p : Paper (List TurnChange)) (c : Refusal) (rs rs' : List TurnChange) → Written p (previewed.Refused c) rs rs' → (p ≡ refuses (reasonOf c)) × (rs' ≡ rs)
 unfolding over
-records-left (answers l) c rs rs' h = absurd (no-answer (numberOf c) (length l) (h .answer))
+records-left (answers l) c rs rs' h = absurd (no-answer (reasonOf c) (length l) (h .answer))
 records-left (refuses n) c rs rs' h = (same-number (h .answer), h .records)
 
 -- ---- a commit, over flat lists or over records, and `commit_unasked`: the cells
@@ -86,8 +86,8 @@ commit-call {p} {r} h x = exactly-as (appliedPaper r) (ap refusalOf (h .answer) 
     same (answers k) = refl
     same (refuses n) = refl
 
-pub commit-left : (p : Paper Committed) (c : Refusal) (cs cs' : List Float) → Applies p (applied.Refused c) cs cs' → (p ≡ refuses (numberOf c)) × (cs' ≡ cs)
-commit-left (answers k) c cs cs' h = absurd (no-answer (numberOf c) (k .generation) (h .answer))
+pub commit-left : (p : Paper Committed) (c : Refusal) (cs cs' : List Float) → Applies p (applied.Refused c) cs cs' → (p ≡ refuses (reasonOf c)) × (cs' ≡ cs)
+commit-left (answers k) c cs cs' h = absurd (no-answer (reasonOf c) (k .generation) (h .answer))
 commit-left (refuses n) c cs cs' h = (same-number (h .answer), h .cells)
 
 -- ---- one ring: the rings
@@ -100,9 +100,9 @@ ring-call {p} {r} h x = exactly-as (removedPaper r) (ap refusalOf (h .answer) �
     same (answers k) = refl
     same (refuses n) = refl
 
-pub ring-left : (p : Paper RingStore) (c : Refusal) (xs ys : List Float) → Removes xs p (removed.Refused c) ys → (p ≡ refuses (numberOf c)) × (ys ≡ xs)
+pub ring-left : (p : Paper RingStore) (c : Refusal) (xs ys : List Float) → Removes xs p (removed.Refused c) ys → (p ≡ refuses (reasonOf c)) × (ys ≡ xs)
 unfolding countsOf ringsAfter onward
-ring-left (answers k) c xs ys h = absurd (no-answer (numberOf c) _ (h .answer))
+ring-left (answers k) c xs ys h = absurd (no-answer (reasonOf c) _ (h .answer))
 ring-left (refuses n) c xs ys h = (same-number (h .answer), h .store)
 
 -- ---- a list of rings, and parts: the rings
@@ -115,9 +115,9 @@ rings-call {p} {r} h x = exactly-as (storedPaper r) (ap refusalOf (h .answer) �
     same (answers k) = refl
     same (refuses n) = refl
 
-pub rings-left : (p : Paper (List Ring)) (c : Refusal) (xs ys : List Float) → StoresAs xs p (stored.Refused c) ys → (p ≡ refuses (numberOf c)) × (ys ≡ xs)
+pub rings-left : (p : Paper (List Ring)) (c : Refusal) (xs ys : List Float) → StoresAs xs p (stored.Refused c) ys → (p ≡ refuses (reasonOf c)) × (ys ≡ xs)
 unfolding rings.countOf onward
-rings-left (answers k) c xs ys h = absurd (no-answer (numberOf c) (length k) (h .answer))
+rings-left (answers k) c xs ys h = absurd (no-answer (reasonOf c) (length k) (h .answer))
 rings-left (refuses n) c xs ys h = (same-number (h .answer), h .store)
 
 -- ---- a move: the cells and the rings, nothing of either written before all is decided
@@ -130,8 +130,8 @@ move-call {p} {r} h x = exactly-as (movedPaper r) (ap refusalOf (h .answer) ∙ 
     same (answers k) = refl
     same (refuses n) = refl
 
-pub move-left : (p : Paper Left) (c : Refusal) (cs cs' xs xs' : List Float) → Moves p (moved.Refused c) cs cs' xs xs' → (p ≡ refuses (numberOf c)) × (cs' ≡ cs) × (xs' ≡ xs)
-move-left (answers k) c cs cs' xs xs' h = absurd (no-answer (numberOf c) _ (h .answer))
+pub move-left : (p : Paper Left) (c : Refusal) (cs cs' xs xs' : List Float) → Moves p (moved.Refused c) cs cs' xs xs' → (p ≡ refuses (reasonOf c)) × (cs' ≡ cs) × (xs' ≡ xs)
+move-left (answers k) c cs cs' xs xs' h = absurd (no-answer (reasonOf c) _ (h .answer))
 move-left (refuses n) c cs cs' xs xs' h = (same-number (h .answer), h .cells, h .rings)
 
 -- ---- a line of a job: the cells and the rings. The two lists are scratch of the call: at the last generation a cut has written its changes there when its commit answers 12
@@ -144,13 +144,13 @@ line-call {p} {r} h x = exactly-as (carriedPaper r) (ap refusalOf (h .answer) �
     same (answers s) = refl
     same (refuses n) = refl
 
-pub line-left : (p : Paper Stand) (c : Refusal) (cs cs' xs xs' : List Float) → Carries p (carried.Refused c) cs cs' xs xs' → (p ≡ refuses (numberOf c)) × (cs' ≡ cs) × (xs' ≡ xs)
-line-left (answers s) c cs cs' xs xs' h = absurd (no-answer (numberOf c) (s .job) (h .answer))
+pub line-left : (p : Paper Stand) (c : Refusal) (cs cs' xs xs' : List Float) → Carries p (carried.Refused c) cs cs' xs xs' → (p ≡ refuses (reasonOf c)) × (cs' ≡ cs) × (xs' ≡ xs)
+line-left (answers s) c cs cs' xs xs' h = absurd (no-answer (reasonOf c) (s .job) (h .answer))
 line-left (refuses n) c cs cs' xs xs' h = (same-number (h .answer), h .cells, h .rings)
 
 -- ---- a new stock: the numbers that it is to fill
 
-pub fill-left : (spec : TurnStockSpec) (c : Refusal) (cs cs' : List Float) → Filled spec (counted.Refused c) cs cs' → (newOf spec (length cs) ≡ refuses (numberOf c)) × (cs' ≡ cs)
+pub fill-left : (spec : TurnStockSpec) (c : Refusal) (cs cs' : List Float) → Filled spec (counted.Refused c) cs cs' → (newOf spec (length cs) ≡ refuses (reasonOf c)) × (cs' ≡ cs)
 fill-left spec c cs cs' h = (sym (h .answer), h .cells ∙ ap (λ (p : Paper ℕ). newCells spec p cs) (sym (h .answer)))
 
 -- ---- calls that are lent nothing to write
@@ -173,10 +173,10 @@ segments-call {xs} {tol} {r} {out} h x = exactly-as (choppedPaper r) (ap refusal
     same (answers l) = refl
     same (refuses n) = refl
 
-pub segments-left : (xs : List Float) (tol : Float) (c : Refusal) (out out' : List Float) → Segmented xs tol (chopped.Refused c) out out' → (segmentsOf xs tol (length out / 5) ≡ refuses (numberOf c)) × (out' ≡ out)
+pub segments-left : (xs : List Float) (tol : Float) (c : Refusal) (out out' : List Float) → Segmented xs tol (chopped.Refused c) out out' → (segmentsOf xs tol (length out / 5) ≡ refuses (reasonOf c)) × (out' ≡ out)
 unfolding over flatOf writtenOf chords.countOf
 segments-left xs tol c out out' h = go (segmentsOf xs tol (length out / 5)) (h .answer) (h .out)
   where
-    go : (p : Paper (List Chord)) → refuses (numberOf c) ≡ chords.countOf p → out' ≡ over (flatOf (writtenOf p)) out → (p ≡ refuses (numberOf c)) × (out' ≡ out)
-    go (answers l) e o = absurd (no-answer (numberOf c) (length l) e)
+    go : (p : Paper (List Chord)) → refuses (reasonOf c) ≡ chords.countOf p → out' ≡ over (flatOf (writtenOf p)) out → (p ≡ refuses (reasonOf c)) × (out' ≡ out)
+    go (answers l) e o = absurd (no-answer (reasonOf c) (length l) e)
     go (refuses n) e o = (same-number e, o)

@@ -54,10 +54,10 @@ use lib.IntN.{ℤ}
 use lib.Ieee.{Float}
 use denote.Ref.{RefT, now}
 use Rattle.refusals.specs.declared.Refusal.{Refusal}
-use Rattle.refusals.specs.Number.{numberOf}
-use Rattle.refusals.specs.Paper.{Paper, answers, refuses}
+use Rattle.refusals.specs.Number.{reasonOf}
+use Rattle.refusals.specs.Paper.{Paper, Reason, answers, refuses}
 use Rattle.refusals.specs.Lent.{Lent}
-use Rattle.refusals.proofs.OneToOne.{one-to-one}
+use Rattle.refusals.proofs.OneToOne.{one-reason}
 use Rattle.numbers.specs.declared.Rooted.{Rooted}
 use Rattle.numbers.specs.declared.Rooted.the-variants as rooted
 use Rattle.numbers.specs.declared.Whole.{Whole}
@@ -136,12 +136,12 @@ alike paper one a r r' e e' = one r r' (e ∙ sym e')
 
 -- ---- what two papers that are the same say
 
-same-number : {A : Type 0} {m n : ℕ} → _≡_ {A = Paper A} (refuses m) (refuses n) → m ≡ n
+same-number : {A : Type 0} {m n : Reason} → _≡_ {A = Paper A} (refuses m) (refuses n) → m ≡ n
 same-number h = cc
 
 -- two refusals that say the same
-same-refusal : {A : Type 0} (c d : Refusal) → _≡_ {A = Paper A} (refuses (numberOf c)) (refuses (numberOf d)) → c ≡ d
-same-refusal c d h = one-to-one c d (same-number h)
+same-refusal : {A : Type 0} (c d : Refusal) → _≡_ {A = Paper A} (refuses (reasonOf c)) (refuses (reasonOf d)) → c ≡ d
+same-refusal c d h = one-reason c d (same-number h)
 
 same-some : {A : Type 0} {a b : A} → some a ≡ some b → a ≡ b
 same-some h = cc

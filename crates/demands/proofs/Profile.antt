@@ -9,7 +9,7 @@ use lib.Ieee
 use lib.IntN.{pos}
 use lib.Ieee.{Float, nan, inf, binary64, ofBits, fits, neg, le}
 use denote.Ref.{RefT, now}
-use Rattle.refusals.specs.Paper.{Paper, answers, refuses, demand, demand-true}
+use Rattle.refusals.specs.Paper.{Paper, answers, refuses, only, demand, demand-true}
 use Rattle.floats.specs.Pick.{pick, pick-true, pick-false}
 use Rattle.floats.specs.Numbers.{zero64, million, leastOf, greatestOf, minusZero, cleanOf, usable}
 use Rattle.stock.proofs.Bins.{HeldList}
@@ -163,7 +163,7 @@ Repeated = (orderOf upright ≡ pos 1) × At stepped two (some five) × Over ste
 
 -- NaN and infinity, as a query and as a point, and a number left over: 14
 abbrev Outside : Type 0
-Outside = (radiusAtOf peak nan ≡ refuses 14) × (radiusRangeOf peak zero64 (inf false) ≡ refuses 14) × (radiusAtOf (inf true ∷ one ∷ []) one ≡ refuses 14) × (radiusRangeOf (one ∷ []) one one ≡ refuses 14)
+Outside = (radiusAtOf peak nan ≡ refuses (only 14)) × (radiusRangeOf peak zero64 (inf false) ≡ refuses (only 14)) × (radiusAtOf (inf true ∷ one ∷ []) one ≡ refuses (only 14)) × (radiusRangeOf (one ∷ []) one one ≡ refuses (only 14))
 
 -- in no order every segment counts, one that runs back too
 abbrev InNoOrder : Type 0

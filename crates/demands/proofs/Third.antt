@@ -3,11 +3,12 @@
 use mathlib.Core.Path.{_≡_, refl, sym, ap, _∙_, subst}
 use mathlib.Core.Logic.{inl, ∥∥₁-elim}
 use mathlib.Core.List.{List, [], _∷_, List·Memᴰ, List·Permᴰ, List·Permᴰ·nil, List·Permᴰ·cons, List·Permᴰ·swap, List·Permᴰ·trans, Permᴰ·map, Perm, List·isSet}
+use mathlib.Core.Option.{Option·isSet}
 use Prim.Native.Nat.{ℕ, suc, _+_, _≤_, _<_}
 use native.Mathlib.Nat.{ℕ-set}
 use lib.ListN.{length}
 use lib.Ieee.{Float}
-use Rattle.refusals.specs.Paper.{Paper, Paper-set, answers}
+use Rattle.refusals.specs.Paper.{Paper, Reason, Paper-set, answers}
 use Rattle.refusals.specs.Limits.{lastGeneration}
 use Rattle.floats.specs.Each.{Each}
 use Rattle.floats.proofs.Folds.{each-perm, Float-set}
@@ -93,6 +94,12 @@ committed-set k k' p q = λ i j. record {
   generation = ℕ-set (k .generation) (k' .generation) (ap (λ (m : Committed). m .generation) p) (ap (λ (m : Committed). m .generation) q) i j;
 }
 
+reason-set : IsSet Reason
+reason-set k k' p q = λ i j. record {
+  number = ℕ-set (k .number) (k' .number) (ap (λ (m : Reason). m .number) p) (ap (λ (m : Reason). m .number) q) i j;
+  place = Option·isSet ℕ-set (k .place) (k' .place) (ap (λ (m : Reason). m .place) p) (ap (λ (m : Reason). m .place) q) i j;
+}
+
 -- EVERY ORDER, of cuts of one side, where the second list is known to be some order of the first
 pub every-order : {spec : TurnStockSpec} {room n : ℕ} {k : Committed} (l l' : List Step) → Perm l l' → Job spec room n k l → (σ : TurnSide) → Each (OnSide σ) (actsOf l) → turnedAll spec room k l ≡ turnedAll spec room k l'
-every-order {spec} {room} {n} {k} l l' d j σ os = ∥∥₁-elim d (Paper-set committed-set ℕ-set (turnedAll spec room k l) (turnedAll spec room k l')) (λ e. any-order e j σ os)
+every-order {spec} {room} {n} {k} l l' d j σ os = ∥∥₁-elim d (Paper-set committed-set reason-set (turnedAll spec room k l) (turnedAll spec room k l')) (λ e. any-order e j σ os)

@@ -5,7 +5,7 @@ use mathlib.Core.List.{List, [], _∷_, _++_}
 use Prim.Native.Nat.{ℕ}
 use lib.Dec.{eqb}
 use lib.ListN.{length}
-use Rattle.refusals.specs.Paper.{Paper, answers, refuses, demand, onward}
+use Rattle.refusals.specs.Paper.{Paper, Reason, answers, refuses, demand, onward}
 use Rattle.changes.specs.Commit.{Committed}
 use Rattle.cuts.specs.declared.Cut.{Cut}
 use Rattle.cuts.specs.declared.Cut.the-variants as cut
@@ -41,7 +41,9 @@ pub record Offends (st : State) (ps : List (List ℕ)) (m k : ℕ) : Type 0 wher
   pub reached : State
   pub carried : linesOn st before ≡ answers reached
   pub number : m ≡ next (reached .run)
-  pub wrong : wrongWith reached line after ≡ refuses k
+  pub why : Reason
+  pub wrong : wrongWith reached line after ≡ refuses why
+  pub refusal : k ≡ why .number
 
 -- No line offends: all are carried out, there is one, and nothing stands behind the last newline.
 pub record NoneOffends (st : State) (ps : List (List ℕ)) (end : State) : Type 0 where

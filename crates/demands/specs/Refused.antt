@@ -1,4 +1,4 @@
--- What each call's refusals turn on: the tests that its rule asks, in 01's order, each with the number that it refuses with. Assumes nothing.
+-- What each call's refusals turn on: the tests that its rule asks, in 01's order, each with the reason that it refuses with. Assumes nothing.
 use mathlib.Core.Path.{_≡_}
 use mathlib.Core.Bool.{Bool, true, false, not, _&&_, _||_}
 use mathlib.Core.List.{List, [], _∷_, _++_}
@@ -8,7 +8,7 @@ use lib.Dec.{eqb, leb, ltb}
 use lib.ListN.{length}
 use lib.Ieee.{Float, le}
 use lib.Ieee.Scale.{finite}
-use Rattle.refusals.specs.Paper.{Paper, answers, refuses}
+use Rattle.refusals.specs.Paper.{Paper, Reason, answers, refuses, only}
 use Rattle.refusals.specs.Limits.{cellLimit, lastGeneration}
 use Rattle.floats.specs.Each.{Each}
 use Rattle.floats.specs.Pick.{pick}
@@ -49,29 +49,30 @@ use Rattle.profile.specs.Chords.{Chord, profileChords}
 
 -- ---- what "exactly when, in this order" means
 
--- a test, and the number of the refusal where it does not hold
+-- a test, and the reason of the refusal where it does not hold
 pub record Asked : Type 0 where
   pub holds : Bool
-  pub number : ℕ
+  pub why : Reason
 
+-- a test whose refusal has the number n, and no place
 abbrev pub ask : Bool → ℕ → Asked
-ask t n = record { holds = t; number = n }
+ask t n = record { holds = t; why = only n }
 
 -- all of them hold
 abbrev pub AllHold : List Asked → Type 0
 AllHold l = Each (λ (q : Asked). q .holds ≡ true) l
 
--- the first of the tests that does not hold has the number k: all that stand before it hold
-pub record Stops (k : ℕ) (l : List Asked) : Type 0 where
+-- the first of the tests that does not hold has the reason k: all that stand before it hold
+pub record Stops (k : Reason) (l : List Asked) : Type 0 where
   pub before : List Asked
   pub after : List Asked
-  pub order : l ≡ before ++ (ask false k ∷ after)
+  pub order : l ≡ before ++ (record { holds = false; why = k } ∷ after)
   pub hold : AllHold before
 
--- A rule refuses with k exactly when the first of the tests that does not hold has the number k; and it answers exactly when all of them hold.
+-- A rule refuses with k exactly when the first of the tests that does not hold has the reason k; and it answers exactly when all of them hold.
 pub record Exactly {A : Type 0} (p : Paper A) (l : List Asked) : Type 0 where
-  pub stops : (k : ℕ) → p ≡ refuses k → Stops k l
-  pub refused : (k : ℕ) → Stops k l → p ≡ refuses k
+  pub stops : (k : Reason) → p ≡ refuses k → Stops k l
+  pub refused : (k : Reason) → Stops k l → p ≡ refuses k
   pub hold : (a : A) → p ≡ answers a → AllHold l
   pub answered : AllHold l → (a : A) × (p ≡ answers a)
 

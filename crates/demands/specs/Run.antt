@@ -4,7 +4,7 @@ use Prim.Native.Nat.{ℕ, _/_, _≤_}
 use lib.ListN.{length, take}
 use lib.Ieee.{Float}
 use Rattle.refusals.specs.declared.Refusal.{Refusal}
-use Rattle.refusals.specs.Number.{numberOf}
+use Rattle.refusals.specs.Number.{reasonOf}
 use Rattle.refusals.specs.Paper.{Paper, answers, refuses}
 use Rattle.stock.specs.declared.TurnStockSpec.{TurnStockSpec}
 use Rattle.stock.specs.declared.TurnChange.{TurnChange}
@@ -49,10 +49,10 @@ pub data RanUnasked (spec : TurnStockSpec) (n : ℕ) : Committed → List Cutter
 pub data Tried (spec : TurnStockSpec) (n : ℕ) : Committed → List Cutter → Paper Committed → Type 0 where
   all-made : {k : Committed} → Tried spec n k [] (answers k)
   not-previewed : {t : Cutter} {l : List Cutter} {cs : List Float} {gen : ℕ} {r : Refusal} {is is' : List ℕ} {xs xs' : List Float} → n ≤ roomOf (length is) (length xs)
-      → Proposed (cutterPreview spec t cs (roomOf (length is) (length xs))) (preview.Refused r) is is' xs xs' → Tried spec n (record { cells = cs; generation = gen }) (t ∷ l) (refuses (numberOf r))
+      → Proposed (cutterPreview spec t cs (roomOf (length is) (length xs))) (preview.Refused r) is is' xs xs' → Tried spec n (record { cells = cs; generation = gen }) (t ∷ l) (refuses (reasonOf r))
   not-committed : {t : Cutter} {l : List Cutter} {cs cs' : List Float} {gen c : ℕ} {r : Refusal} {is is' : List ℕ} {xs xs' : List Float} → n ≤ roomOf (length is) (length xs)
       → Proposed (cutterPreview spec t cs (roomOf (length is) (length xs))) (Changes c) is is' xs xs' → Applies (applyOf spec cs gen is' xs' c) (applied.Refused r) cs cs'
-      → Tried spec n (record { cells = cs; generation = gen }) (t ∷ l) (refuses (numberOf r))
+      → Tried spec n (record { cells = cs; generation = gen }) (t ∷ l) (refuses (reasonOf r))
   made : {t : Cutter} {l : List Cutter} {cs cs' : List Float} {gen g c : ℕ} {is is' : List ℕ} {xs xs' : List Float} {p : Paper Committed} → n ≤ roomOf (length is) (length xs)
       → Proposed (cutterPreview spec t cs (roomOf (length is) (length xs))) (Changes c) is is' xs xs' → Applies (applyOf spec cs gen is' xs' c) (Generation g) cs cs'
       → Tried spec n (record { cells = cs'; generation = g }) l p → Tried spec n (record { cells = cs; generation = gen }) (t ∷ l) p

@@ -17,7 +17,7 @@ use Rattle.floats.proofs.Cleared.{clean-keeps}
 use Rattle.floats.proofs.Within.{finite-within, within-weaken, within-zero, within-both, within-test, within-mul, sub-within}
 use Rattle.floats.proofs.Ratio.{ratio-of, within-ratio, part-within}
 use Rattle.floats.proofs.Zeros.{add-plain}
-use Rattle.refusals.specs.Paper.{answers, demand}
+use Rattle.refusals.specs.Paper.{answers, demand, only}
 use Rattle.envelope.specs.declared.segments.Point.{Point}
 use Rattle.envelope.specs.declared.Span.{Span}
 use Rattle.envelope.specs.Envelope.{uAt, vAt, count, pointsGood, spanOf, wider, across, segmentAt, higher, highestTo, highestIn, radiusAtOf, Radii, taken, segmentOver, segmentIn, radiiTo, radiiIn, radiiOf, radiusRangeOf}
@@ -157,7 +157,7 @@ module _ (ps : List Float) (held : (i : ℕ) → T (fits binary64 (getD ps i nan
           let s = spanOf ps (cleanOf u) (cleanOf u) in
           let r : highestIn ps (wider s (count ps)) (cleanOf u) ≡ some x = cc in
           rw r at (highest-sized ps held (g .0) (usable-sized u fu (g .1)) _ _ (inner s (count ps)))
-      go false d e = absurd (refused-not 14 _ e)
+      go false d e = absurd (refused-not (only 14) _ e)
 
   over-sized : pointsGood ps ≡ true → {lo hi : Float} → Sized 20 lo → Sized 20 hi → Holds (radiiOf ps lo hi)
   unfolding radiiOf pick
@@ -180,4 +180,4 @@ module _ (ps : List Float) (held : (i : ℕ) → T (fits binary64 (getD ps i nan
           let h = both (usable lo) (usable hi) (g .1) in
           let r : radiiOf ps (cleanOf lo) (cleanOf hi) ≡ some x = cc in
           rw r at (over-sized (g .0) (usable-sized lo flo (h .0)) (usable-sized hi fhi (h .1)))
-      go false d e = absurd (refused-not 14 _ e)
+      go false d e = absurd (refused-not (only 14) _ e)

@@ -11,7 +11,7 @@ use lib.Ieee.{Float, le}
 use borrow.Author.Tests.{eq-eqb, ne-eqb, le-leb, lt-leb, leb-true}
 use Rattle.floats.specs.Pick.{pick}
 use Rattle.floats.specs.Numbers.{cleanOf, usable}
-use Rattle.refusals.specs.Paper.{answers, refuses, demand}
+use Rattle.refusals.specs.Paper.{Reason, answers, refuses, only, demand}
 use Rattle.envelope.specs.declared.Span.{Span}
 use Rattle.envelope.specs.declared.Test.the-variants.{Below, AtMost, Above, AtLeast}
 use Rattle.envelope.specs.Envelope.{count, allTo, usableTo, pointsGood, risesTo, fallsTo, rises, falls, orderOf, span, allPoints, wider, numbersOf}
@@ -72,15 +72,15 @@ inside z h = rw (is-not z (pos 2) h)
 
 -- a rule of what is kept: refused where the points were, refused where the query is, else answered
 module _ {A : Type 0} (z : ℤ) (b : Bool) (x : A) where
-  pub rule-outside : z ≡ pos 2 → refuses 14 ≡ demand (accepted z && b) 14 (answers x)
+  pub rule-outside : z ≡ pos 2 → refuses (only 14) ≡ demand (accepted z && b) 14 (answers x)
   unfolding demand
   rule-outside e = rw (outside z e)
 
-  pub rule-refused : b ≡ false → refuses 14 ≡ demand (accepted z && b) 14 (answers x)
+  pub rule-refused : b ≡ false → refuses (only 14) ≡ demand (accepted z && b) 14 (answers x)
   unfolding demand
   rule-refused e = rw e (go (accepted z))
     where
-      go : (a : Bool) → refuses 14 ≡ demand (a && false) 14 (answers x)
+      go : (a : Bool) → refuses (only 14) ≡ demand (a && false) 14 (answers x)
       go true = refl
       go false = refl
 
@@ -167,6 +167,6 @@ module _ (ps : List Float) (z : ℤ) (lo hi : Float) where
       let g : 2 * a + 2 * n - 2 * a ≡ 2 * (a + n - a) = omega arith in
       rw (← e, g)
 
-  pub within-none : (n : ℕ) → refuses n ≡ keptWithin ps z lo hi → [] ≡ numbersOf ps (keptWithin ps z lo hi)
+  pub within-none : (n : Reason) → refuses n ≡ keptWithin ps z lo hi → [] ≡ numbersOf ps (keptWithin ps z lo hi)
   unfolding numbersOf
   within-none n e = rw (← e)

@@ -17,7 +17,7 @@ use Rattle.floats.specs.Kinds.{Number, Plain}
 use Rattle.floats.proofs.Order.{number-of, le-trans}
 use Rattle.floats.proofs.Cleared.{clean-plain}
 use Rattle.floats.proofs.Within.{number-l}
-use Rattle.refusals.specs.Paper.{Paper, answers, refuses, demand}
+use Rattle.refusals.specs.Paper.{Paper, Reason, answers, refuses, only, demand}
 use Rattle.envelope.specs.declared.Span.{Span}
 use Rattle.refusals.specs.Limits.{envelopeLimit}
 use Rattle.envelope.specs.Envelope.{uAt, vAt, count, usableTo, pointsGood, rises, falls, orderOf, orderedOf, span, spanOf, partOf, withinOf, numbersOf, wider, highestIn, highestAt, radiusAtOf, Radii, radiiIn, radiiOf, radiusRangeOf}
@@ -82,7 +82,7 @@ order-rule ps = go (pointsGood ps)
     go false = refl
 
 -- a refusal is no answer
-pub refused-not : {A : Type 0} (n : ℕ) (x : A) → refuses n ≡ answers x → ⊥
+pub refused-not : {A : Type 0} (n : Reason) (x : A) → refuses n ≡ answers x → ⊥
 refused-not n x e = let z : _≡_ {A = ℕ} 0 1 = cc in omega arith
 
 straight-same : (s : Span) (n : ℕ) → Lies s n → straight s ≡ s
@@ -177,7 +177,7 @@ module _ (ps : List Float) (held : (i : ℕ) → T (fits binary64 (getD ps i nan
           let g = both (pointsGood ps) (usable lo && usable hi) d in
           let r : partOf ps (cleanOf lo) (cleanOf hi) ≡ s = cc in
           rw r at (part-exactly (g .0) h (cleanOf lo) (cleanOf hi) (number-lo ps held lo hi flo fhi (g .1)) (number-hi ps held lo hi flo fhi (g .1)) i m)
-      go false d e = absurd (refused-not 14 s e)
+      go false d e = absurd (refused-not (only 14) s e)
 
 -- ---- narrow look, full look
 same-answer : {A : Type 0} (b : Bool) (x y : A) → (b ≡ true → x ≡ y) → demand b 14 (answers x) ≡ demand b 14 (answers y)

@@ -9,7 +9,7 @@ use lib.IntN.{ℤ, pos, negsuc}
 use lib.Ieee.{Float, nan, le, lt, eq}
 use Rattle.floats.specs.Pick.{pick}
 use Rattle.floats.specs.Numbers.{_+₆₄_, _-₆₄_, _*₆₄_, _/₆₄_, leastOf, greatestOf, cleanOf, usable}
-use Rattle.refusals.specs.Number.{numberOf}
+use Rattle.refusals.specs.Number.{reasonOf}
 use Rattle.refusals.specs.Limits.{envelopeLimit}
 use Rattle.refusals.specs.Paper.{Paper, answers, refuses, demand, onward}
 use Rattle.envelope.specs.declared.segments.Point.{Point}
@@ -86,7 +86,7 @@ orderedOf ps = demand (pointsGood ps) 14 (answers (orderOf ps))
 -- what the answer of `order_of` says, case by case
 abbrev pub orderedPaper : Ordered → Paper ℤ
 orderedPaper (ordered.Order o) = answers o
-orderedPaper (ordered.Refused c) = refuses (numberOf c)
+orderedPaper (ordered.Refused c) = refuses (reasonOf c)
 
 -- ---- the part between two bounds
 -- what a u is tested for against a bound
@@ -136,7 +136,7 @@ numbersOf ps (refuses n) = []
 -- what the answer of `within_span` says, case by case: the first point, and how many
 abbrev pub spannedPaper : Spanned → Paper Span
 spannedPaper (spanned.Part a n) = answers (span a (a + n))
-spannedPaper (spanned.Refused c) = refuses (numberOf c)
+spannedPaper (spanned.Refused c) = refuses (reasonOf c)
 
 -- whether the part is refused
 unfoldable pub withinRefusalOf : List Float → Float → Float → Paper (Unit {0})
@@ -145,7 +145,7 @@ withinRefusalOf ps lo hi = onward (withinOf ps lo hi) (λ s. answers tt)
 -- what the answer of `within_refusal` says, case by case
 abbrev pub lookedPaper : Looked → Paper (Unit {0})
 lookedPaper looked.Fine = answers tt
-lookedPaper (looked.Refused c) = refuses (numberOf c)
+lookedPaper (looked.Refused c) = refuses (reasonOf c)
 
 -- ---- the radius
 -- the v at u on the line from p to q
@@ -190,7 +190,7 @@ radiusAtOf ps u = demand (pointsGood ps && usable u) 14 (answers (highestAt ps (
 abbrev pub radiusAtPaper : RadiusAt → Paper (Option Float)
 radiusAtPaper (radius-at.At x) = answers (some x)
 radiusAtPaper radius-at.Nowhere = answers none
-radiusAtPaper (radius-at.Refused c) = refuses (numberOf c)
+radiusAtPaper (radius-at.Refused c) = refuses (reasonOf c)
 
 -- ---- the lowest and the highest radius over lo..hi
 pub record Radii : Type 0 where
@@ -233,4 +233,4 @@ radiusRangeOf ps lo hi = demand (pointsGood ps && (usable lo && usable hi)) 14 (
 abbrev pub radiusRangePaper : RadiusRange → Paper (Option Radii)
 radiusRangePaper (radius-range.From a b) = answers (some (record { lowest = a; highest = b }))
 radiusRangePaper radius-range.Nowhere = answers none
-radiusRangePaper (radius-range.Refused c) = refuses (numberOf c)
+radiusRangePaper (radius-range.Refused c) = refuses (reasonOf c)

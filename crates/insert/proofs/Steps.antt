@@ -13,7 +13,7 @@ use lib.ListN.{length}
 use lib.IntN.{ℤ, pos, negsuc}
 use Rattle.floats.specs.Pick.{pick, pick-true, pick-false}
 use Rattle.floats.specs.Numbers.{_+₆₄_, _-₆₄_, _*₆₄_, _/₆₄_, zero64, leastOf, greatestOf}
-use Rattle.refusals.specs.Paper.{answers, refuses, demand}
+use Rattle.refusals.specs.Paper.{answers, refuses, only, demand}
 use Rattle.envelope.specs.declared.Span.{Span}
 use Rattle.envelope.specs.Envelope.{count, uAt, vAt, pointsGood, rises, falls, orderOf, across, highestAt}
 use Rattle.envelope.specs.Halving.{keptOf, halvedSpan}
@@ -138,15 +138,15 @@ module _ (ps : List Float) (u : Float) {front deepest : Float} (ef : front ≡ m
 
 -- ---- what is refused with 14, and what is answered
 module _ {A : Type 0} (g b : Bool) (x : A) where
-  pub asks-outside : g ≡ false → refuses 14 ≡ demand (g && b) 14 (answers x)
+  pub asks-outside : g ≡ false → refuses (only 14) ≡ demand (g && b) 14 (answers x)
   unfolding demand
   asks-outside e = rw e
 
-  pub asks-refused : b ≡ false → refuses 14 ≡ demand (g && b) 14 (answers x)
+  pub asks-refused : b ≡ false → refuses (only 14) ≡ demand (g && b) 14 (answers x)
   unfolding demand
   asks-refused e = rw e (go g)
     where
-      go : (a : Bool) → refuses 14 ≡ demand (a && false) 14 (answers x)
+      go : (a : Bool) → refuses (only 14) ≡ demand (a && false) 14 (answers x)
       go true = refl
       go false = refl
 

@@ -6,7 +6,7 @@ use mathlib.Core.Option.{Option, none, some}
 use Prim.Native.Nat.{ℕ, zero, suc, _+_, _-_, _%_}
 use lib.Dec.{leb, eqb}
 use lib.Ieee.{Float, le, lt, eq}
-use Rattle.refusals.specs.Number.{numberOf}
+use Rattle.refusals.specs.Number.{reasonOf}
 use Rattle.refusals.specs.Limits.{pointLimit}
 use Rattle.refusals.specs.Paper.{Paper, answers, refuses, demand}
 use Rattle.floats.specs.Pick.{pick}
@@ -189,7 +189,7 @@ erodedOf ps u t = demand (erodedAsks ps u t) 14 (answers (offsetOf Least ps (cle
 abbrev pub touchPaper : Touch → Paper (Option Float)
 touchPaper (touch.By x) = answers (some x)
 touchPaper touch.Nothing = answers none
-touchPaper (touch.Refused c) = refuses (numberOf c)
+touchPaper (touch.Refused c) = refuses (reasonOf c)
 
 -- ---- what the code carries beside accepted points: their order, and the ends of the bore
 pub record Looks (ps : List Float) (l : Look) : Type 0 where

@@ -11,10 +11,10 @@ use lib.Seq.{length-take-le, take-all}
 use lib.Ieee.{Float}
 use Rattle.refusals.specs.declared.Refusal.{Refusal}
 use Rattle.refusals.specs.declared.Refusal.the-variants.{CellsDoNotFit}
-use Rattle.refusals.specs.Number.{numberOf}
-use Rattle.refusals.specs.Paper.{Paper, answers, refuses, onward, papers, onward-answers}
+use Rattle.refusals.specs.Number.{reasonOf}
+use Rattle.refusals.specs.Paper.{Paper, Reason, answers, refuses, only, onward, papers, onward-answers}
 use Rattle.refusals.specs.Lent.{over}
-use Rattle.refusals.proofs.OneToOne.{one-to-one}
+use Rattle.refusals.proofs.OneToOne.{one-reason}
 use Rattle.stock.specs.declared.TurnStockSpec.{TurnStockSpec}
 use Rattle.stock.specs.declared.TurnChange.{TurnChange}
 use Rattle.stock.specs.declared.Counted.{Counted}
@@ -45,7 +45,7 @@ use Rattle.job_run.specs.declared.line.Carried.the-variants as carried
 use Rattle.job_run.specs.Job.{Stand, stand, lineLimit, madeCut, barLine, cutLine, removingLine, firstLine, laterLine, jobLine, lineChanges, jobChanges, carriedPaper, Carries, CarriesCells, CarriesRings, ChangesOver}
 
 -- refused: all stays
-pub refused : (p : Paper Stand) (r : Refusal) (cs rs : List Float) → p ≡ refuses (numberOf r) → Carries p (carried.Refused r) cs cs rs rs
+pub refused : (p : Paper Stand) (r : Refusal) (cs rs : List Float) → p ≡ refuses (reasonOf r) → Carries p (carried.Refused r) cs cs rs rs
 refused p r cs rs e = rw e (record { answer = refl; cells = refl; rings = refl })
 
 -- accepted
@@ -57,7 +57,7 @@ module _ (spec : TurnStockSpec) (cs : List Float) where
   pub bar-refused : (c : Counted) (r : Refusal) → countedPaper c ≡ cellsOf spec → c ≡ counted.Refused r → CarriesCells (barLine spec cs) (carried.Refused r) cs cs
   unfolding barLine
   bar-refused c r e q rs =
-      let k : cellsOf spec ≡ refuses (numberOf r) = sym e ∙ ap countedPaper q in
+      let k : cellsOf spec ≡ refuses (reasonOf r) = sym e ∙ ap countedPaper q in
       refused _ r cs rs (simp (papers, k))
 
   pub bar-short : (c : Counted) (n : ℕ) → countedPaper c ≡ cellsOf spec → c ≡ counted.Cells n → length cs / 4 < n → CarriesCells (barLine spec cs) (carried.Refused CellsDoNotFit) cs cs
@@ -93,12 +93,12 @@ front n cs = by (leb (4 * n) (length cs)) refl
         take-all (min (4 * n) (length cs)) cs (omega arith) ∙ sym (take-all (4 * n) cs (omega arith))
 
 -- two refusals that are the same
-pub same-number : {A : Type 0} {m n : ℕ} → _≡_ {A = Paper A} (refuses m) (refuses n) → m ≡ n
+pub same-number : {A : Type 0} {m n : Reason} → _≡_ {A = Paper A} (refuses m) (refuses n) → m ≡ n
 same-number h = cc
 
 -- what an answer of a commit says of its rule
-commit-refused : (p : Paper Committed) (r : Refusal) (cs cs' : List Float) → Applies p (applied.Refused r) cs cs' → (p ≡ refuses (numberOf r)) × (cs' ≡ cs)
-commit-refused (answers k) r cs cs' w = absurd (no-answer (numberOf r) (k .generation) (w .answer))
+commit-refused : (p : Paper Committed) (r : Refusal) (cs cs' : List Float) → Applies p (applied.Refused r) cs cs' → (p ≡ refuses (reasonOf r)) × (cs' ≡ cs)
+commit-refused (answers k) r cs cs' w = absurd (no-answer (reasonOf r) (k .generation) (w .answer))
 commit-refused (refuses n) r cs cs' w = (ap refuses (sym (same-number {A = ℕ} (w .answer))), w .cells)
 
 commit-went : (p : Paper Committed) (g : ℕ) (cs cs' : List Float) → Applies p (applied.Generation g) cs cs' → p ≡ answers (record { cells = cs'; generation = g })
@@ -139,9 +139,9 @@ unlisted l is xs e = rw e (record { indices = refl; numbers = refl })
 -- ---- a ring
 
 -- what an answer says of the rule
-ring-none : (p : Paper RingStore) (r : Refusal) (rs rs' : List Float) → Removes rs p (removed.Refused r) rs' → (p ≡ refuses (numberOf r)) × (rs' ≡ rs)
+ring-none : (p : Paper RingStore) (r : Refusal) (rs rs' : List Float) → Removes rs p (removed.Refused r) rs' → (p ≡ refuses (reasonOf r)) × (rs' ≡ rs)
 unfolding countsOf ringsAfter onward
-ring-none (answers s) r rs rs' w = absurd (no-answer (numberOf r) _ (w .answer))
+ring-none (answers s) r rs rs' w = absurd (no-answer (reasonOf r) _ (w .answer))
 ring-none (refuses n) r rs rs' w = (ap refuses (sym (same-number {A = RingCount} (w .answer))), w .store)
 
 -- where an answer goes on
@@ -200,7 +200,7 @@ same-outcome p q r cs cs' rs rs' e w = rw e w
 
 -- ---- the bytes of a line
 module _ (j : Job) (s : List ℕ) (room : ℕ) (cs rs : List Float) where
-  pub line-long : lineLimit ≤ length s → jobLine j s room cs rs ≡ refuses 15
+  pub line-long : lineLimit ≤ length s → jobLine j s room cs rs ≡ refuses (only 15)
   unfolding jobLine
   line-long h = simp (papers, le-ltb (length s) lineLimit h)
 
@@ -230,9 +230,9 @@ module _ (j : Job) (s : List ℕ) (room : ℕ) (cs : List Float) where
 -- ---- two outcomes that meet the promise are the same
 same-carried : (r r' : Carried) → carriedPaper r ≡ carriedPaper r' → r ≡ r'
 same-carried (carried.Onward j) (carried.Onward k) e = ap carried.Onward (same-answer e)
-same-carried (carried.Onward j) (carried.Refused c) e = absurd (no-answer (numberOf c) j (sym e))
-same-carried (carried.Refused c) (carried.Onward j) e = absurd (no-answer (numberOf c) j e)
-same-carried (carried.Refused c) (carried.Refused d) e = ap carried.Refused (one-to-one c d (same-number {A = Job} e))
+same-carried (carried.Onward j) (carried.Refused c) e = absurd (no-answer (reasonOf c) j (sym e))
+same-carried (carried.Refused c) (carried.Onward j) e = absurd (no-answer (reasonOf c) j e)
+same-carried (carried.Refused c) (carried.Refused d) e = ap carried.Refused (one-reason c d (same-number {A = Job} e))
 
 pub once : (p : Paper Stand) (r r' : Carried) (cs cs₁ cs₂ rs rs₁ rs₂ : List Float) → Carries p r cs cs₁ rs rs₁ → Carries p r' cs cs₂ rs rs₂ → (r ≡ r') × (cs₁ ≡ cs₂) × (rs₁ ≡ rs₂)
 once p r r' cs cs₁ cs₂ rs rs₁ rs₂ a b = (same-carried r r' (a .answer ∙ sym (b .answer)), a .cells ∙ sym (b .cells), a .rings ∙ sym (b .rings))

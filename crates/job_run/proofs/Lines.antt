@@ -10,8 +10,8 @@ use lib.Ieee.{Float}
 use borrow.Author.Tests.{eq-eqb, ne-eqb, lt-ltb, le-ltb}
 use Rattle.refusals.specs.declared.Refusal.{Refusal}
 use Rattle.refusals.specs.declared.Refusal.the-variants.{LineMalformed}
-use Rattle.refusals.specs.Number.{numberOf}
-use Rattle.refusals.specs.Paper.{Paper, answers, refuses}
+use Rattle.refusals.specs.Number.{numberOf, reasonOf}
+use Rattle.refusals.specs.Paper.{Paper, Reason, answers, refuses}
 use Rattle.text.proofs.Chosen.{yes, no}
 use Rattle.stock.proofs.Count.{no-answer, same-answer}
 use Rattle.job_run.specs.declared.line.Job.{Job}
@@ -30,11 +30,11 @@ use Rattle.job_run.specs.Run.{State, state, next, refusedWith, refusing,
 
 carried-refused : (p : Paper Stand) (r : Run) (c : Refusal) (cs cs' rs rs' : List Float) → Carries p (carried.Refused c) cs cs' rs rs' → state (refusing r c) cs' rs' ≡ answered (state r cs rs) p
 unfolding answered
-carried-refused (answers s) r c cs cs' rs rs' w = absurd (no-answer (numberOf c) (s .job) (w .answer))
+carried-refused (answers s) r c cs cs' rs rs' w = absurd (no-answer (reasonOf c) (s .job) (w .answer))
 carried-refused (refuses n) r c cs cs' rs rs' w =
-    ap (λ (k : ℕ). state (refusedWith r k) cs' rs') (same-number {A = Job} (w .answer))
-    ∙ ap (λ (x : List Float). state (refusedWith r n) x rs') (w .cells)
-    ∙ ap (λ (x : List Float). state (refusedWith r n) cs x) (w .rings)
+    ap (λ (k : Reason). state (refusedWith r (k .number)) cs' rs') (same-number {A = Job} (w .answer))
+    ∙ ap (λ (x : List Float). state (refusedWith r (n .number)) x rs') (w .cells)
+    ∙ ap (λ (x : List Float). state (refusedWith r (n .number)) cs x) (w .rings)
 
 carried-went : (p : Paper Stand) (r : Run) (j : Job) (cs cs' rs rs' : List Float) → Carries p (carried.Onward j) cs cs' rs rs' → state (record { job = j; lines = next r; refused = 0 }) cs' rs' ≡ answered (state r cs rs) p
 unfolding answered

@@ -8,8 +8,8 @@ use borrow.Author.Tests.{le-leb}
 use lib.ListN.{length}
 use lib.Ieee.{Float}
 use Rattle.refusals.specs.declared.Refusal.{Refusal}
-use Rattle.refusals.specs.Number.{numberOf}
-use Rattle.refusals.specs.Paper.{Paper, answers, refuses, demand, onward, papers, onward-refuses}
+use Rattle.refusals.specs.Number.{reasonOf}
+use Rattle.refusals.specs.Paper.{Paper, Reason, answers, refuses, only, demand, onward, papers, onward-refuses}
 use Rattle.stock.specs.declared.TurnStockSpec.{TurnStockSpec}
 use Rattle.stock.specs.declared.TurnChange.{TurnChange}
 use Rattle.stock.specs.Spec.{cleanSpec}
@@ -30,7 +30,7 @@ use Rattle.changes.proofs.Written.{apply-is, left, same-outcome, same-spec}
 use Rattle.job_run.specs.Job.{madeCut, ChangesOver}
 
 -- a proposal that is refused
-counted-none : (p : Paper (List TurnChange)) (n : ℕ) → refuses n ≡ countOf p → p ≡ refuses n
+counted-none : (p : Paper (List TurnChange)) (n : Reason) → refuses n ≡ countOf p → p ≡ refuses n
 counted-none (answers l) n e = absurd (no-answer n (length l) e)
 counted-none (refuses m) n e = cc
 
@@ -44,17 +44,17 @@ counted : (q : Paper ℕ) (t u : Bool) (f : ℕ → List TurnChange) (k : ℕ) (
     → Proposed (onward q (λ n. demand t 13 (demand u 5 (settled (roomOf (length is) (length xs)) (f n))))) (Changes k) is is' xs xs' → Counted q k is' xs'
 unfolding demand onward
 counted (refuses n) t u f k is is' xs xs' w = absurd (no-answer n k (sym (w .answer)))
-counted (answers n) false u f k is is' xs xs' w = absurd (no-answer 13 k (sym (w .answer)))
-counted (answers n) true false f k is is' xs xs' w = absurd (no-answer 5 k (sym (w .answer)))
+counted (answers n) false u f k is is' xs xs' w = absurd (no-answer (only 13) k (sym (w .answer)))
+counted (answers n) true false f k is is' xs xs' w = absurd (no-answer (only 5) k (sym (w .answer)))
 counted (answers n) true true f k is is' xs xs' w =
     let v = wrote (f n) k is is' xs xs' w in
     record { cells = n; stock = refl; room = rw (v .count, v .indices, v .numbers) (room-kept (f n) is xs (v .room)) }
 
 module _ (spec : TurnStockSpec) (cs : List Float) (gen : ℕ) (cut : Cut) where
-  none-made : (room : ℕ) (r : Refusal) (is is' : List ℕ) (xs xs' : List Float) → Proposed (previewCut spec cs cut room) (Refused r) is is' xs xs' → onward (previewCut spec cs cut room) (λ l. commitOf spec cs gen l) ≡ refuses (numberOf r)
+  none-made : (room : ℕ) (r : Refusal) (is is' : List ℕ) (xs xs' : List Float) → Proposed (previewCut spec cs cut room) (Refused r) is is' xs xs' → onward (previewCut spec cs cut room) (λ l. commitOf spec cs gen l) ≡ refuses (reasonOf r)
   none-made room r is is' xs xs' p =
       ap (λ (q : Paper (List TurnChange)). onward q (λ l. commitOf spec cs gen l)) (counted-none _ _ (p .answer))
-      ∙ onward-refuses (numberOf r) (λ l. commitOf spec cs gen l)
+      ∙ onward-refuses (reasonOf r) (λ l. commitOf spec cs gen l)
 
   -- changes that were proposed are settled, and committed as such
   settles : (k : ℕ) (l : List TurnChange) (is is' : List ℕ) (xs xs' : List Float) → Proposed (settled (roomOf (length is) (length xs)) l) (Changes k) is is' xs xs' → onward (settled (roomOf (length is) (length xs)) l) (λ m. commitOf spec cs gen m) ≡ commitOf spec cs gen l
@@ -66,8 +66,8 @@ module _ (spec : TurnStockSpec) (cs : List Float) (gen : ℕ) (cut : Cut) where
       → applyOf spec cs gen is' xs' k ≡ onward (onward q (λ n. demand t 13 (demand u 5 (settled (roomOf (length is) (length xs)) (f n))))) (λ l. commitOf spec cs gen l)
   unfolding demand onward
   asked (refuses n) t u f k is is' xs xs' w = absurd (no-answer n k (sym (w .answer)))
-  asked (answers n) false u f k is is' xs xs' w = absurd (no-answer 13 k (sym (w .answer)))
-  asked (answers n) true false f k is is' xs xs' w = absurd (no-answer 5 k (sym (w .answer)))
+  asked (answers n) false u f k is is' xs xs' w = absurd (no-answer (only 13) k (sym (w .answer)))
+  asked (answers n) true false f k is is' xs xs' w = absurd (no-answer (only 5) k (sym (w .answer)))
   asked (answers n) true true f k is is' xs xs' w = lent-is spec cs gen k (f n) is is' xs xs' w ∙ sym (settles k (f n) is is' xs xs' w)
 
   all-made : (k : ℕ) (is is' : List ℕ) (xs xs' : List Float) → Proposed (previewCut spec cs cut (roomOf (length is) (length xs))) (Changes k) is is' xs xs'

@@ -9,7 +9,7 @@ use lib.ListN.{length, take, drop, getD, length-append, length-drop}
 use lib.Seq.{take-append-seam, getD-take}
 use lib.Ieee.{Float, nan}
 use borrow.Author.Tests.{eqb-false}
-use Rattle.refusals.specs.Paper.{Paper, answers, refuses, demand, onward}
+use Rattle.refusals.specs.Paper.{Paper, Reason, answers, refuses, demand, onward}
 use Rattle.refusals.specs.Lent.{over}
 use Rattle.floats.specs.Pick.{pick}
 use Rattle.text.proofs.Chosen.{yes, no}
@@ -102,7 +102,7 @@ pub record Alike (a b : State) : Type 0 where
 -- a line's answers
 data AlikePapers : Paper Stand → Paper Stand → Type 0 where
   both : {s t : Stand} → AlikeJobs (s .job) (t .job) (s .cells) (t .cells) (s .rings) (t .rings) → AlikePapers (answers s) (answers t)
-  neither : {n : ℕ} → AlikePapers (refuses n) (refuses n)
+  neither : {n : Reason} → AlikePapers (refuses n) (refuses n)
 
 alike-demand : (t u : Bool) (n : ℕ) (p q : Paper Stand) → t ≡ u → AlikePapers p q → AlikePapers (demand t n p) (demand u n q)
 unfolding demand

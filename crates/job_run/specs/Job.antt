@@ -5,8 +5,8 @@ use mathlib.Core.List.{List, []}
 use lib.Dec.{eqb, leb, ltb}
 use lib.ListN.{length, take}
 use lib.Ieee.{Float}
-use Rattle.refusals.specs.Number.{numberOf}
-use Rattle.refusals.specs.Paper.{Paper, answers, refuses, demand, onward}
+use Rattle.refusals.specs.Number.{reasonOf}
+use Rattle.refusals.specs.Paper.{Paper, answers, refuses, only, demand, onward}
 use denote.Ref.{now}
 use Rattle.refusals.specs.Lent.{Lent, over}
 use Rattle.floats.specs.Pick.{pick}
@@ -82,18 +82,18 @@ removingLine j q cs rs =
 -- anything but a bar before it is 15, an arc too
 unfoldable pub firstLine : Line → List Float → List Float → Paper Stand
 firstLine (Bar spec) cs rs = barLine spec cs rs
-firstLine (Cutting cut) cs rs = refuses 15
-firstLine (Removing q) cs rs = refuses 15
-firstLine Arc cs rs = refuses 15
-firstLine Bad cs rs = refuses 15
+firstLine (Cutting cut) cs rs = refuses (only 15)
+firstLine (Removing q) cs rs = refuses (only 15)
+firstLine Arc cs rs = refuses (only 15)
+firstLine Bad cs rs = refuses (only 15)
 
 -- an arc is 13, a second bar 15
 unfoldable pub laterLine : Job → Line → ℕ → List Float → List Float → Paper Stand
-laterLine j (Bar spec) room cs rs = refuses 15
+laterLine j (Bar spec) room cs rs = refuses (only 15)
 laterLine j (Cutting cut) room cs rs = cutLine j cut room cs rs
 laterLine j (Removing q) room cs rs = removingLine j q cs rs
-laterLine j Arc room cs rs = refuses 13
-laterLine j Bad room cs rs = refuses 15
+laterLine j Arc room cs rs = refuses (only 13)
+laterLine j Bad room cs rs = refuses (only 15)
 
 -- the bytes of a line without its newline: 15 where it is too long, then by its place
 unfoldable pub jobLine : Job → List ℕ → ℕ → List Float → List Float → Paper Stand
@@ -116,7 +116,7 @@ jobChanges j s room cs = pick (ltb (length s) lineLimit) (pick (eqb (j .cells) 0
 
 abbrev pub carriedPaper : Carried → Paper Job
 carriedPaper (carried.Onward j) = answers j
-carriedPaper (carried.Refused c) = refuses (numberOf c)
+carriedPaper (carried.Refused c) = refuses (reasonOf c)
 
 abbrev pub jobAfter : Paper Stand → Paper Job
 jobAfter (answers s) = answers (s .job)

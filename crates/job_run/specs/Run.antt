@@ -55,7 +55,7 @@ refusing r c = refusedWith r (numberOf c)
 -- the next line answered
 unfoldable pub answered : State → Paper Stand → State
 answered st (answers s) = state (record { job = s .job; lines = next (st .run); refused = 0 }) (s .cells) (s .rings)
-answered st (refuses n) = state (refusedWith (st .run) n) (st .cells) (st .rings)
+answered st (refuses n) = state (refusedWith (st .run) (n .number)) (st .cells) (st .rings)
 
 -- the next line carried out, with room for a change of every cell
 unfoldable pub onLine : State → List ℕ → State

@@ -8,8 +8,8 @@ use borrow.Author.Tests.{le-leb, lt-leb}
 use lib.ListN.{length}
 use lib.Ieee.{Float}
 use Rattle.refusals.specs.declared.Refusal.{Refusal}
-use Rattle.refusals.specs.Number.{numberOf}
-use Rattle.refusals.specs.Paper.{Paper, answers, refuses, onward, papers}
+use Rattle.refusals.specs.Number.{reasonOf}
+use Rattle.refusals.specs.Paper.{Paper, Reason, answers, refuses, only, onward, papers}
 use Rattle.refusals.specs.Limits.{lastGeneration}
 use Rattle.stock.specs.declared.TurnStockSpec.{TurnStockSpec}
 use Rattle.stock.specs.declared.TurnChange.{TurnChange}
@@ -33,7 +33,7 @@ use Rattle.moves.specs.Move.{Left, generationAfter, moveIn, moveOf, coun
 -- ---- what is answered and left
 
 -- refused: cells and rings stay
-pub left : (p : Paper Left) (x : Refusal) (cs xs xs' : List Float) → p ≡ refuses (numberOf x) → xs' ≡ xs → Moves p (moved.Refused x) cs cs xs xs'
+pub left : (p : Paper Left) (x : Refusal) (cs xs xs' : List Float) → p ≡ refuses (reasonOf x) → xs' ≡ xs → Moves p (moved.Refused x) cs cs xs xs'
 left p x cs xs xs' e f = record { answer = sym (ap countsOf e); cells = sym (ap (λ (q : Paper Left). cellsAfter q cs) e); rings = f ∙ sym (ap (λ (q : Paper Left). ringsAfter q xs) e) }
 
 -- accepted
@@ -55,7 +55,7 @@ module _ (spec s : TurnStockSpec) (n : ℕ) (cs : List Float) (is : List ℕ) (y
   told = ap (λ (x : TurnStockSpec). passAll x n cs (changesFrom is ys k)) (sym clean) ∙ refusal-held is ys k h s n cs ∙ sym e
 
   -- they are refused
-  pub stopped : (x : Refusal) → found ≡ passing.Refused x → passAll (cleanSpec spec) n cs (changesFrom is ys k) ≡ refuses (numberOf x)
+  pub stopped : (x : Refusal) → found ≡ passing.Refused x → passAll (cleanSpec spec) n cs (changesFrom is ys k) ≡ refuses (reasonOf x)
   unfolding passingPaper
   stopped x f = told ∙ ap passingPaper f
 
@@ -70,17 +70,17 @@ put-is is ys k cs cs' h e = e ∙ put-held is ys k h cs
 
 -- ---- the rule of a move on checked cells, refusal by refusal
 module _ (spec : TurnStockSpec) (n : ℕ) (cs xs : List Float) (count g : ℕ) (l : List TurnChange) (removed : List Float) where
-  pub refuses-4 : countFits (extentOf (cleanSpec spec)) xs count ≡ false → moveIn spec n cs xs count g l removed ≡ refuses 4
+  pub refuses-4 : countFits (extentOf (cleanSpec spec)) xs count ≡ false → moveIn spec n cs xs count g l removed ≡ refuses (only 4)
   unfolding moveIn
   refuses-4 e = simp (papers, e)
 
   module _ (fit : countFits (extentOf (cleanSpec spec)) xs count ≡ true) where
-    pub refuses-10 : ringsGood removed ≡ false → moveIn spec n cs xs count g l removed ≡ refuses 10
+    pub refuses-10 : ringsGood removed ≡ false → moveIn spec n cs xs count g l removed ≡ refuses (only 10)
     unfolding moveIn
     refuses-10 e = simp (papers, fit, e)
 
     module _ (good : ringsGood removed ≡ true) where
-      pub refuses-change : (r : ℕ) → passAll (cleanSpec spec) n cs l ≡ refuses r → moveIn spec n cs xs count g l removed ≡ refuses r
+      pub refuses-change : (r : Reason) → passAll (cleanSpec spec) n cs l ≡ refuses r → moveIn spec n cs xs count g l removed ≡ refuses r
       unfolding moveIn
       refuses-change r e = simp (papers, fit, good, e)
 
@@ -89,7 +89,7 @@ module _ (spec : TurnStockSpec) (n : ℕ) (cs xs : List Float) (count g : ℕ) (
         unfolding generationAfter
         after = ap (λ (k : ℕ). g + 1 + k) (sym rise)
 
-        pub refuses-12 : g ≤ lastGeneration → lastGeneration - g ≤ raised → moveIn spec n cs xs count g l removed ≡ refuses 12
+        pub refuses-12 : g ≤ lastGeneration → lastGeneration - g ≤ raised → moveIn spec n cs xs count g l removed ≡ refuses (only 12)
         unfolding moveIn
         refuses-12 b h = simp (papers, fit, good, pass, lt-leb (generationAfter spec g removed) lastGeneration (over after))
           where
@@ -112,7 +112,7 @@ module _ (spec : TurnStockSpec) (n : ℕ) (cs xs : List Float) (count g : ℕ) (
           unfolding onward
           refuses-11 x e =
               let y = refused xs (removeRings spec xs count removed) st xs' x s e in
-              left (moveIn spec n cs xs count g l removed) x cs xs xs' (rings-say (refuses (numberOf x)) (y .0)) (y .1)
+              left (moveIn spec n cs xs count g l removed) x cs xs xs' (rings-say (refuses (reasonOf x)) (y .0)) (y .1)
 
           pub moves : (m : ℕ) (cs' : List Float) → st ≡ stored.Rings m → cs' ≡ putAll cs l → Moves (moveIn spec n cs xs count g l removed) (moved.Stored m (g + 1 + raised)) cs cs' xs xs'
           unfolding onward
@@ -123,11 +123,11 @@ module _ (spec : TurnStockSpec) (n : ℕ) (cs xs : List Float) (count g : ℕ) (
 
 -- ---- the rule of a move of the lent lists
 module _ (spec : TurnStockSpec) (cs xs : List Float) (count g : ℕ) (is : List ℕ) (ys : List Float) (k : ℕ) (removed : List Float) where
-  pub move-refused : (r : ℕ) → stockOf spec cs ≡ refuses r → moveOf spec cs xs count g is ys k removed ≡ refuses r
+  pub move-refused : (r : Reason) → stockOf spec cs ≡ refuses r → moveOf spec cs xs count g is ys k removed ≡ refuses r
   unfolding moveOf
   move-refused r e = simp (papers, e)
 
-  pub move-short : (n : ℕ) → stockOf spec cs ≡ answers n → roomOf (length is) (length ys) < k → moveOf spec cs xs count g is ys k removed ≡ refuses 6
+  pub move-short : (n : ℕ) → stockOf spec cs ≡ answers n → roomOf (length is) (length ys) < k → moveOf spec cs xs count g is ys k removed ≡ refuses (only 6)
   unfolding moveOf
   move-short n e h = simp (papers, e, lt-leb k (roomOf (length is) (length ys)) h)
 

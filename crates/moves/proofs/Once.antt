@@ -4,9 +4,9 @@ use mathlib.Core.List.{List}
 use Prim.Native.Nat.{ℕ}
 use native.Mathlib.Omega.{arith}
 use lib.Ieee.{Float}
-use Rattle.refusals.specs.Number.{numberOf}
+use Rattle.refusals.specs.Number.{reasonOf}
 use Rattle.refusals.specs.Paper.{Paper}
-use Rattle.refusals.proofs.OneToOne.{one-to-one}
+use Rattle.refusals.proofs.OneToOne.{one-reason}
 use Rattle.stock.proofs.Count.{same-answer}
 use Rattle.rings.specs.declared.Ring.{Ring}
 use Rattle.rings.specs.declared.StoredAs.{StoredAs}
@@ -23,7 +23,7 @@ same-moved (moved.Stored n g) (moved.Stored n' g') h =
     ap₂ (λ (i j : ℕ). moved.Stored i j) (ap (λ (c : RingCount). c .rings) e) (ap (λ (c : RingCount). c .generation) e)
 same-moved (moved.Stored n g) (moved.Refused c) h = let z : _≡_ {A = ℕ} 0 1 = cc in absurd (omega arith)
 same-moved (moved.Refused c) (moved.Stored n g) h = let z : _≡_ {A = ℕ} 0 1 = cc in absurd (omega arith)
-same-moved (moved.Refused c) (moved.Refused c') h = let e : numberOf c ≡ numberOf c' = cc in ap (λ x. moved.Refused x) (one-to-one c c' e)
+same-moved (moved.Refused c) (moved.Refused c') h = let e : reasonOf c ≡ reasonOf c' = cc in ap (λ x. moved.Refused x) (one-reason c c' e)
 
 -- the answer, the cells and the rings
 pub moved-once : (p : Paper Left) (r r' : Moved) (cs cs₁ cs₂ xs xs₁ xs₂ : List Float) → Moves p r cs cs₁ xs xs₁ → Moves p r' cs cs₂ xs xs₂ → (r ≡ r') × (cs₁ ≡ cs₂) × (xs₁ ≡ xs₂)
@@ -34,7 +34,7 @@ same-stored : (r r' : StoredAs) → storedPaper r ≡ storedPaper r' → r ≡ r
 same-stored (stored.Rings n) (stored.Rings n') h = let e : n ≡ n' = same-answer h in ap (λ x. stored.Rings x) e
 same-stored (stored.Rings n) (stored.Refused c) h = let z : _≡_ {A = ℕ} 0 1 = cc in absurd (omega arith)
 same-stored (stored.Refused c) (stored.Rings n) h = let z : _≡_ {A = ℕ} 0 1 = cc in absurd (omega arith)
-same-stored (stored.Refused c) (stored.Refused c') h = let e : numberOf c ≡ numberOf c' = cc in ap (λ x. stored.Refused x) (one-to-one c c' e)
+same-stored (stored.Refused c) (stored.Refused c') h = let e : reasonOf c ≡ reasonOf c' = cc in ap (λ x. stored.Refused x) (one-reason c c' e)
 
 -- the answer and the rings
 pub stored-once : (p : Paper (List Ring)) (r r' : StoredAs) (xs xs₁ xs₂ : List Float) → StoresAs xs p r xs₁ → StoresAs xs p r' xs₂ → (r ≡ r') × (xs₁ ≡ xs₂)

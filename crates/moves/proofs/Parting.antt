@@ -6,7 +6,7 @@ use Prim.Native.Nat.{ℕ}
 use lib.Ieee.{Float}
 use Rattle.refusals.specs.declared.Refusal.{Refusal}
 use Rattle.refusals.specs.declared.Refusal.the-variants.{RingOutside}
-use Rattle.refusals.specs.Number.{numberOf}
+use Rattle.refusals.specs.Number.{reasonOf}
 use Rattle.refusals.specs.Paper.{Paper, answers, refuses, papers}
 use Rattle.stock.specs.declared.TurnStockSpec.{TurnStockSpec}
 use Rattle.stock.specs.Cell.{stockOf}
@@ -20,7 +20,7 @@ use Rattle.moves.specs.Move.{partsOf}
 
 module _ (spec : TurnStockSpec) (cs given xs : List Float) where
   -- 1, 2, 3
-  pub parts-refused : (x : Refusal) → stockOf spec cs ≡ refuses (numberOf x) → StoresAs xs (partsOf spec cs given xs) (stored.Refused x) xs
+  pub parts-refused : (x : Refusal) → stockOf spec cs ≡ refuses (reasonOf x) → StoresAs xs (partsOf spec cs given xs) (stored.Refused x) xs
   unfolding partsOf
   parts-refused x e = stores-refused xs (partsOf spec cs given xs) x (simp (papers, e))
 

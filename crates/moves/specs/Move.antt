@@ -6,7 +6,7 @@ use lib.Dec.{leb}
 use lib.ListN.{length}
 use lib.Ieee.{Float}
 use denote.Ref.{now}
-use Rattle.refusals.specs.Number.{numberOf}
+use Rattle.refusals.specs.Number.{reasonOf}
 use Rattle.refusals.specs.Paper.{Paper, answers, refuses, demand, onward}
 use Rattle.refusals.specs.Limits.{lastGeneration}
 use Rattle.refusals.specs.Lent.{Lent}
@@ -55,7 +55,7 @@ moveOf spec cs xs count g is ys k removed =
 
 abbrev pub movedPaper : Moved → Paper RingCount
 movedPaper (moved.Stored n g) = answers (record { rings = n; generation = g })
-movedPaper (moved.Refused c) = refuses (numberOf c)
+movedPaper (moved.Refused c) = refuses (reasonOf c)
 
 -- the count of rings and the generation
 abbrev pub countsOf : Paper Left → Paper RingCount

@@ -11,7 +11,7 @@ use lib.Ieee.{Float, nan, inf, fin, binary64, up, down, odd, level, lt, eq, fits
 use lib.Ieee.Digits.{Equals, odd-val}
 use lib.Ieee.Bits.{ofBits-toBits, is-true, nanBits-is, nanBits-above}
 use lib.Ieee.Fits.{down-pos, up-pos}
-use Rattle.refusals.specs.Paper.{Paper, answers, refuses}
+use Rattle.refusals.specs.Paper.{Paper, answers, refuses, only}
 use Rattle.numbers.specs.Root.{rootIn, rootOf}
 use Rattle.numbers.specs.RootBits.{sigOf, expOf}
 use Rattle.numbers.proofs.Pack.{read, ofBits-is}
@@ -87,11 +87,11 @@ fields-minus (suc x) t = cond-minus (eqb (suc x) 2047) (eqb t 0) (odd 53 true (2
 bits-minus : (b : ℕ) → 2 ^ 63 ≤ b → lt (ofBits binary64 0) (ofBits binary64 b) ≡ false
 bits-minus b h = ap (lt (ofBits binary64 0)) (ofBits-is b ∙ ap (λ (s : Bool). ofFields binary64 s (b % 2 ^ 63 / 2 ^ 52) (b % 2 ^ 52)) (is-true (leb (2 ^ 63) b) (le→leb (2 ^ 63) b h))) ∙ fields-minus (b % 2 ^ 63 / 2 ^ 52) (b % 2 ^ 52)
 
-at-infinity : rootOf (ofBits binary64 (2047 * 2 ^ 52)) ≡ refuses 5
+at-infinity : rootOf (ofBits binary64 (2047 * 2 ^ 52)) ≡ refuses (only 5)
 unfolding rootOf ofBits
 at-infinity = refl
 
-pub above-refused : (x : Float) → T (fits binary64 x) → lt (ofBits binary64 0) x ≡ true → 2047 * 2 ^ 52 ≤ toBits binary64 x → rootOf x ≡ refuses 5
+pub above-refused : (x : Float) → T (fits binary64 x) → lt (ofBits binary64 0) x ≡ true → 2047 * 2 ^ 52 ≤ toBits binary64 x → rootOf x ≡ refuses (only 5)
 above-refused x f h l =
     let b = toBits binary64 x in
     let back : ofBits binary64 b ≡ x = ofBits-toBits binary64 x f in
@@ -134,7 +134,7 @@ zeros s d u = ap₂ (λ (a b : ℕ). level s a false b) none none′ ∙ at-zero
     at-zero true = refl
     at-zero false = refl
 
-pub below-refused : (x : Float) → lt (ofBits binary64 0) x ≡ false → eq x (ofBits binary64 0) ≡ false → refuses 5 ≡ rootOf x
+pub below-refused : (x : Float) → lt (ofBits binary64 0) x ≡ false → eq x (ofBits binary64 0) ≡ false → refuses (only 5) ≡ rootOf x
 unfolding lt eq ofBits rootOf
 below-refused nan h g = refl
 below-refused (inf s) h g = refl

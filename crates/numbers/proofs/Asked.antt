@@ -10,7 +10,7 @@ use lib.Dec.{T, ltb, ltb→lt, nltb→le, lit≤, lit<}
 use lib.Pow.{pow-add, pow-pos}
 use lib.Ieee.{Float, nan, inf, fin, binary64, up, down, neg, lt, le, round, mul, unlike, ofBits, ofFields, odd}
 use lib.Ieee.Fits.{and-l, and-r, down-pos}
-use Rattle.refusals.specs.Paper.{Paper, answers, refuses, onward-answers}
+use Rattle.refusals.specs.Paper.{Paper, Reason, answers, refuses, onward-answers}
 use Rattle.floats.specs.Pick.{pick, pick-true, pick-false}
 use Rattle.floats.specs.Numbers.{_+₆₄_, _*₆₄_, sizeOf}
 use Rattle.floats.specs.Kinds.{Within}
@@ -145,7 +145,7 @@ module _ (x y : Float) where
       go false t = inl (pick-false (tinyParts x y) (scaledBack (plainLength (x *₆₄ scaleUp) (y *₆₄ scaleUp))) (plainLength x y) t)
 
   -- a length is refused exactly where 01's rule refuses it, with the same number
-  pub length-refuses-as-before : (n : ℕ) → (lengthOf x y ≡ refuses n) ↔ (plainLength x y ≡ refuses n)
+  pub length-refuses-as-before : (n : Reason) → (lengthOf x y ≡ refuses n) ↔ (plainLength x y ≡ refuses n)
   length-refuses-as-before n = go length-as-before
     where
       go : AsBefore x y → (lengthOf x y ≡ refuses n) ↔ (plainLength x y ≡ refuses n)

@@ -14,7 +14,7 @@ use lib.Ieee.{Float, nan, inf, fin, binary64, up, down, odd, lt, fits, ofBits, t
 use lib.Ieee.Digits.{Equals, odd-val}
 use lib.Ieee.Fits.{and-l, and-r, down-pos, up-pos}
 use lib.Ieee.Bits.{is-true, ofBits-fits}
-use Rattle.refusals.specs.Paper.{Paper, answers, refuses}
+use Rattle.refusals.specs.Paper.{Paper, answers, refuses, only}
 use Rattle.numbers.specs.Root.{wholeRoot, rootIn, rootOf, unitsOf, Nearer}
 use Rattle.numbers.specs.RootBits.{nearestRoot, sigOf, expOf, Pattern}
 use Rattle.numbers.proofs.Roots.{whole-root, sq-le}
@@ -215,7 +215,7 @@ module _ (b : ℕ) (p : 0 < b) (l : b < 2047 * 2 ^ 52) where
 
 -- ---- the laws, for x = (m + 1) * 2 ^ e, any finite value of binary64 above 0
 
-no-refusal : (v : Float) → answers v ≡ refuses 5 → ⊥
+no-refusal : (v : Float) → answers v ≡ refuses (only 5) → ⊥
 no-refusal v h = let z : _≡_ {A = ℕ} 0 1 = cc in omega arith
 
 module _ (m : ℕ) (e : ℤ) (f : T (fits binary64 (fin false (suc m) e))) where

@@ -8,11 +8,11 @@ use lib.Dec.{T, leb, ltb, leb→le, nleb→lt, lit≤, lt→ltb, ltb→lt, not-T
 use lib.IntN.{pos, negsuc}
 use lib.Ieee.{Float, nan, inf, fin, odd, isNan, ofBits, binary64, size}
 use lib.Ieee.Digits.{size-lt}
-use Rattle.refusals.specs.Paper.{Paper, answers, refuses}
+use Rattle.refusals.specs.Paper.{Paper, answers, refuses, only}
 use Rattle.numbers.specs.Root.{raised, rootBelow, wholeRoot, rootIn, rootOf, unitsOf}
 use Rattle.numbers.specs.RootBits.{nearestRoot}
 
-refused : (r : Float) → answers r ≡ refuses 5 → ⊥
+refused : (r : Float) → answers r ≡ refuses (only 5) → ⊥
 refused r h = let z : _≡_ {A = ℕ} 0 1 = cc in omega arith
 
 answer : (r v : Float) → answers r ≡ answers v → r ≡ v

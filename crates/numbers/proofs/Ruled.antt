@@ -9,7 +9,7 @@ use lib.Pow.{pow-add, pow-pos}
 use lib.Ieee.{Float, nan, inf, fin, binary64, low, fits, le, add, mul}
 use lib.Ieee.Fits.{mul-fits, add-fits}
 use lib.Ieee.Scale.{finite}
-use Rattle.refusals.specs.Paper.{answers, refuses}
+use Rattle.refusals.specs.Paper.{Reason, answers, refuses, only}
 use Rattle.floats.specs.Numbers.{_+₆₄_, _*₆₄_}
 use Rattle.floats.specs.Kinds.{Finite, Within}
 use Rattle.floats.proofs.Keys.{mag}
@@ -32,17 +32,17 @@ pub record Squared (x y : Float) : Type 0 where
   pub second-square : Finite binary64 (y *₆₄ y)
   pub both : Finite binary64 (x *₆₄ x +₆₄ y *₆₄ y)
 
-no-answer : {A : Type 0} (n : ℕ) (v : A) → refuses n ≡ answers v → ⊥
+no-answer : {A : Type 0} (n : Reason) (v : A) → refuses n ≡ answers v → ⊥
 no-answer n v h = let z : _≡_ {A = ℕ} 0 1 = cc in omega arith
 
 -- an answer is no refusal
-pub no-refusal : {A : Type 0} (n : ℕ) (v : A) → answers v ≡ refuses n → ⊥
+pub no-refusal : {A : Type 0} (n : Reason) (v : A) → answers v ≡ refuses n → ⊥
 no-refusal n v h = no-answer n v (sym h)
 
 rooted-finite : (s l : Float) → rootOf s ≡ answers l → T (finite s)
 unfolding rootOf
-rooted-finite nan l h = absurd (no-answer 5 l h)
-rooted-finite (inf t) l h = absurd (no-answer 5 l h)
+rooted-finite nan l h = absurd (no-answer (only 5) l h)
+rooted-finite (inf t) l h = absurd (no-answer (only 5) l h)
 rooted-finite (fin t m e) l h = tt
 
 add-finite : (x y : Float) → T (finite (x +₆₄ y)) → T (finite x) × T (finite y)

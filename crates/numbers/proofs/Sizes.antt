@@ -12,7 +12,7 @@ use lib.Ieee.{Float, nan, inf, fin, Format, binary64, low, up, down, odd, neg, l
 use lib.Ieee.Scale.{finite}
 use lib.Ieee.Fits.{up-pos, down-pos, neg-fits}
 use lib.Ieee.Positive.{first-pos}
-use Rattle.refusals.specs.Paper.{answers, refuses}
+use Rattle.refusals.specs.Paper.{answers, refuses, only}
 use Rattle.floats.specs.Numbers.{minusZero}
 use Rattle.floats.specs.Kinds.{Plain, Finite, Within}
 use Rattle.floats.proofs.Keys.{top, top-pos, mag, key, minus?, offset, mag-exact}
@@ -61,7 +61,7 @@ inside : (a b : Float) → answers a ≡ answers b → a ≡ b
 inside a b h = cc
 
 -- a refusal is no answer
-refused : (v : Float) → refuses 5 ≡ answers v → ⊥
+refused : (v : Float) → refuses (only 5) ≡ answers v → ⊥
 refused v h = let z : _≡_ {A = ℕ} 0 1 = cc in omega arith
 
 -- a value of binary64 that is finite and has no minus sign

@@ -5,8 +5,8 @@ use mathlib.Core.Bool.{true, false, cond}
 use lib.IntN.{pos}
 use lib.Dec.{leb, ltb}
 use lib.Ieee.{Float, nan, inf, fin, up, down, size, odd}
-use Rattle.refusals.specs.Number.{numberOf}
-use Rattle.refusals.specs.Paper.{Paper, answers, refuses}
+use Rattle.refusals.specs.Number.{reasonOf}
+use Rattle.refusals.specs.Paper.{Paper, answers, refuses, only}
 use Rattle.numbers.specs.declared.Rooted.{Rooted}
 use Rattle.numbers.specs.declared.Rooted.the-variants.{Root, Refused}
 
@@ -43,10 +43,10 @@ unitsOf (fin s m e) = m * up e * 2 ^ 1074 / down e
 
 -- The root of x, where x is finite and not negative; that of either zero is +0.0. A finite x is m * 2 ^ e.
 unfoldable pub rootOf : Float → Paper Float
-rootOf nan = refuses 5
-rootOf (inf s) = refuses 5
+rootOf nan = refuses (only 5)
+rootOf (inf s) = refuses (only 5)
 rootOf (fin s zero e) = answers (fin false 0 (pos 0))
-rootOf (fin true (suc m) e) = refuses 5
+rootOf (fin true (suc m) e) = refuses (only 5)
 rootOf (fin false (suc m) e) = answers (rootIn (unitsOf (fin false (suc m) e)))
 
 -- √N is nearer to R than to any other Y: what lies half way between R and Y, (R + Y) / 2, is on the side of Y. Both are doubled, and squared.
@@ -57,4 +57,4 @@ pub record Nearer (N R Y : ℕ) : Type 0 where
 -- what the answer of `root` and of `length` says, case by case
 abbrev pub rootedPaper : Rooted → Paper Float
 rootedPaper (Root r) = answers r
-rootedPaper (Refused c) = refuses (numberOf c)
+rootedPaper (Refused c) = refuses (reasonOf c)

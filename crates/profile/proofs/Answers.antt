@@ -21,7 +21,7 @@ use Rattle.profile.specs.declared.Placed.{Placed}
 use Rattle.profile.specs.declared.Placed.the-variants.{To, Over}
 use Rattle.profile.specs.declared.Chopped.the-variants.{Chords, Refused}
 use Rattle.refusals.specs.declared.Refusal.the-variants.{ProfileOutside, ChordsOutgrow}
-use Rattle.refusals.specs.Paper.{Paper, answers, refuses, demand, demand-true, demand-false}
+use Rattle.refusals.specs.Paper.{Paper, answers, refuses, only, demand, demand-true, demand-false}
 use Rattle.profile.specs.Profile.{pointCount, goodTo, apartTo, profileGood}
 use Rattle.profile.specs.Chords.{Chord, chordsTo, profileChords, flatOf, roomFor, segmentsOf, writtenOf, countOf, choppedPaper, Segmented, putChord, putAll, placedPaper, placed, Chops}
 use Rattle.profile.proofs.Halves.{placed-says, no-test, none-some}
@@ -101,7 +101,7 @@ module _ (xs : List Float) (tol : Float) (bs : List Float) where
   pub says-profile : (t : Bool) → t ≡ profileGood xs tol → t ≡ false → Segmented xs tol (Refused ProfileOutside) bs bs
   unfolding countOf writtenOf flatOf over
   says-profile t e f =
-      let s : segmentsOf xs tol room ≡ refuses 17 = unfold segmentsOf in demand-false _ _ _ (sym e ∙ f) in
+      let s : segmentsOf xs tol room ≡ refuses (only 17) = unfold segmentsOf in demand-false _ _ _ (sym e ∙ f) in
       record { answer = ap countOf (sym s); out = ap (λ (a : Paper (List Chord)). over (flatOf (writtenOf a)) bs) (sym s) }
 
   module _ (fine : Float) (t : Bool) (m : ℕ) (e : t ≡ profileGood xs tol) (f : t ≡ true) (g : fine ≡ cleanOf tol) (w : m ≡ length xs / 3 - 1) where
@@ -113,7 +113,7 @@ module _ (xs : List Float) (tol : Float) (bs : List Float) where
         ∙ ap (λ (k : ℕ). roomFor room (chordsTo xs fine k)) (sym w)
         ∙ ap (roomFor room) (sym h)
 
-    no-room : (p : Option (List Chord)) → placed room 0 p ≡ none → roomFor room p ≡ refuses 18
+    no-room : (p : Option (List Chord)) → placed room 0 p ≡ none → roomFor room p ≡ refuses (only 18)
     unfolding placed roomFor
     no-room none h = refl
     no-room (some l) h =
@@ -124,7 +124,7 @@ module _ (xs : List Float) (tol : Float) (bs : List Float) where
     pub says-outgrow : {us vs : List Float} {r : Placed} → r ≡ Over → Chops (chordsTo xs fine m) room 0 r us vs → Segmented xs tol (Refused ChordsOutgrow) bs bs
     unfolding countOf writtenOf flatOf over placedPaper
     says-outgrow {r = r} o c =
-        let s : segmentsOf xs tol room ≡ refuses 18 = is (chordsTo xs fine m) refl ∙ no-room (chordsTo xs fine m) (sym (c .answer) ∙ ap placedPaper o) in
+        let s : segmentsOf xs tol room ≡ refuses (only 18) = is (chordsTo xs fine m) refl ∙ no-room (chordsTo xs fine m) (sym (c .answer) ∙ ap placedPaper o) in
         record { answer = ap countOf (sym s); out = ap (λ (a : Paper (List Chord)). over (flatOf (writtenOf a)) bs) (sym s) }
 
     -- the chords

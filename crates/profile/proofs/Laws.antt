@@ -23,9 +23,9 @@ use Rattle.profile.specs.declared.Point.{Point}
 use Rattle.profile.specs.declared.Chopped.{Chopped}
 use Rattle.profile.specs.declared.Chopped.the-variants.{Chords, Refused}
 use Rattle.refusals.specs.declared.Refusal.{Refusal}
-use Rattle.refusals.specs.Number.{numberOf}
-use Rattle.refusals.specs.Paper.{Paper, answers, refuses, demand}
-use Rattle.refusals.proofs.OneToOne.{one-to-one}
+use Rattle.refusals.specs.Number.{reasonOf}
+use Rattle.refusals.specs.Paper.{Paper, Reason, answers, refuses, only, demand}
+use Rattle.refusals.proofs.OneToOne.{one-reason}
 use Rattle.profile.specs.Profile.{cleanAt, pointAt, pointCount, goodTo, apartTo, profileGood}
 use Rattle.profile.specs.Chords.{Chord, chordsTo, profileChords, flatOf, roomFor, segmentsOf, writtenOf, countOf, choppedPaper, Segmented}
 use Rattle.profile.proofs.Answers.{flat-length}
@@ -115,13 +115,13 @@ pub record Accepted (xs : List Float) (tol : Float) (n : ℕ) (before after : Li
 abbrev told : ℕ → Paper ℕ
 told n = answers n
 
-not-many : {A : Type 0} (n m : ℕ) → told n ≡ refuses m → A
+not-many : {A : Type 0} (n : ℕ) (m : Reason) → told n ≡ refuses m → A
 not-many n m e = absurd (let z : _≡_ {A = ℕ} 0 1 = cc in omega arith)
 
 same-many : (n m : ℕ) → told n ≡ answers m → n ≡ m
 same-many n m e = cc
 
-same-number : (n m : ℕ) → _≡_ {A = Paper ℕ} (refuses n) (refuses m) → n ≡ m
+same-number : (n m : Reason) → _≡_ {A = Paper ℕ} (refuses n) (refuses m) → n ≡ m
 same-number n m e = cc
 
 pub accepted : (xs : List Float) (tol : Float) (n : ℕ) (before after : List Float) → Segmented xs tol (Chords n) before after → Accepted xs tol n before after
@@ -130,12 +130,12 @@ accepted xs tol n bs ws s = go (profileGood xs tol) (profileChords xs tol) refl 
   where
     fits : (l : List Chord) (t : Bool) → profileGood xs tol ≡ true → profileChords xs tol ≡ some l → leb (length l) (length bs / 5) ≡ t → told n ≡ countOf (demand t 18 (answers l)) → ws ≡ over (flatOf (writtenOf (demand t 18 (answers l)))) bs → Accepted xs tol n bs ws
     fits l true g p e a o = record { chords = l; good = g; are = p; many = same-many n (length l) a; fit = leb-true (length l) (length bs / 5) e; out = o }
-    fits l false g p e a o = not-many n 18 a
+    fits l false g p e a o = not-many n (only 18) a
 
     go : (t : Bool) (p : Option (List Chord)) → profileGood xs tol ≡ t → profileChords xs tol ≡ p → told n ≡ countOf (demand t 17 (roomFor (length bs / 5) p)) → ws ≡ over (flatOf (writtenOf (demand t 17 (roomFor (length bs / 5) p)))) bs → Accepted xs tol n bs ws
-    go true none g p a o = not-many n 18 a
+    go true none g p a o = not-many n (only 18) a
     go true (some l) g p a o = fits l (leb (length l) (length bs / 5)) g p refl a o
-    go false p g q a o = not-many n 17 a
+    go false p g q a o = not-many n (only 17) a
 
 -- the profile has a segment, and its points are good
 several : (xs : List Float) (tol : Float) → profileGood xs tol ≡ true → (2 ≤ pointCount xs) × T (goodTo xs (pointCount xs))
@@ -248,9 +248,9 @@ module _ {xs : List Float} {tol : Float} {n : ℕ} {before after : List Float} (
 -- ---- one outcome
 chopped-same : (p q : Chopped) → choppedPaper p ≡ choppedPaper q → p ≡ q
 chopped-same (Chords m) (Chords n) e = cc
-chopped-same (Chords m) (Refused c) e = not-many m (numberOf c) e
-chopped-same (Refused c) (Chords n) e = not-many n (numberOf c) (sym e)
-chopped-same (Refused c) (Refused d) e = ap (λ (r : Refusal). Refused r) (one-to-one c d (same-number (numberOf c) (numberOf d) e))
+chopped-same (Chords m) (Refused c) e = not-many m (reasonOf c) e
+chopped-same (Refused c) (Chords n) e = not-many n (reasonOf c) (sym e)
+chopped-same (Refused c) (Refused d) e = ap (λ (r : Refusal). Refused r) (one-reason c d (same-number (reasonOf c) (reasonOf d) e))
 
 pub segments-once : {xs : List Float} {tol : Float} {p q : Chopped} {before after after' : List Float} → Segmented xs tol p before after → Segmented xs tol q before after' → (p ≡ q) × (after ≡ after')
 segments-once {p = p} {q = q} s t = (chopped-same p q (s .answer ∙ sym (t .answer)), s .out ∙ sym (t .out))

@@ -8,8 +8,8 @@ use lib.Dec.{leb}
 use lib.ListN.{length, set}
 use denote.Ref.{now}
 use lib.Ieee.{Float, nan, binary64, ofBits, neg, le}
-use Rattle.refusals.specs.Paper.{Paper, answers, refuses, demand}
-use Rattle.refusals.specs.Number.{numberOf}
+use Rattle.refusals.specs.Paper.{Paper, answers, refuses, only, demand}
+use Rattle.refusals.specs.Number.{reasonOf}
 use Rattle.refusals.specs.Lent.{Lent, over}
 use Rattle.floats.specs.Pick.{pick}
 use Rattle.floats.specs.Numbers.{_+₆₄_, _-₆₄_, _*₆₄_, _/₆₄_, one64, sizeOf, cleanOf}
@@ -94,7 +94,7 @@ flatOf (c ∷ l) = c .a .r ∷ c .a .z ∷ c .b .r ∷ c .b .z ∷ c .sag ∷ fl
 -- ---- what is answered
 -- the chords, if there is room for them; else 18
 unfoldable pub roomFor : ℕ → Option (List Chord) → Paper (List Chord)
-roomFor room none = refuses 18
+roomFor room none = refuses (only 18)
 roomFor room (some l) = demand (leb (length l) room) 18 (answers l)
 
 -- 17, else 18, else the chords
@@ -113,7 +113,7 @@ countOf (refuses n) = refuses n
 
 abbrev pub choppedPaper : Chopped → Paper ℕ
 choppedPaper (Chords n) = answers n
-choppedPaper (Refused c) = refuses (numberOf c)
+choppedPaper (Refused c) = refuses (reasonOf c)
 
 -- the answer, and the lent numbers with the chords over their beginning
 pub record Segmented (xs : List Float) (tol : Float) (r : Chopped) (before after : List Float) : Type 0 where

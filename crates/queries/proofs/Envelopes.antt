@@ -6,7 +6,7 @@ use mathlib.Core.Option.{Option, none, some}
 use Prim.Native.Nat.{ℕ, _+_, _-_, _<_, min}
 use native.Mathlib.Omega.{arith}
 use lib.Ieee.{Float, nan, inf, fin, le, lt, eq}
-use Rattle.refusals.specs.Paper.{Paper, answers, refuses, onward-answers, onward-refuses}
+use Rattle.refusals.specs.Paper.{Paper, Reason, answers, refuses, onward-answers, onward-refuses}
 use Rattle.floats.specs.Pick.{pick, pick-true, pick-false}
 use Rattle.floats.specs.Numbers.{zero64, cleanOf}
 use Rattle.stock.specs.declared.TurnStockSpec.{TurnStockSpec}
@@ -36,7 +36,7 @@ module _ (s : TurnStockSpec) (n : ℕ) (cs : List Float) (z : Float) where
 -- ---- of a stock
 module _ (spec : TurnStockSpec) (cs : List Float) (z : Float) where
   -- refused where the stock is
-  pub envelope-refused : (k : ℕ) → stockOf spec cs ≡ refuses k → envelopeAt spec cs z ≡ refuses k
+  pub envelope-refused : (k : Reason) → stockOf spec cs ≡ refuses k → envelopeAt spec cs z ≡ refuses k
   unfolding envelopeAt
   envelope-refused k e = rw e (onward-refuses k (λ n. answers (seenAt (cleanSpec spec) n cs (cleanOf z))))
 

@@ -5,9 +5,9 @@ use mathlib.Core.Option.{Option, none, some}
 use Prim.Native.Nat.{ℕ}
 use native.Mathlib.Omega.{arith}
 use lib.Ieee.{Float}
-use Rattle.refusals.specs.Number.{numberOf}
-use Rattle.refusals.specs.Paper.{Paper, answers, refuses}
-use Rattle.refusals.proofs.OneToOne.{one-to-one}
+use Rattle.refusals.specs.Number.{reasonOf}
+use Rattle.refusals.specs.Paper.{Paper, Reason, answers, refuses}
+use Rattle.refusals.proofs.OneToOne.{one-reason}
 use Rattle.stock.specs.declared.TurnStockSpec.{TurnStockSpec}
 use Rattle.stock.proofs.Count.{same-answer, no-answer}
 use Rattle.queries.specs.declared.Band.{Band}
@@ -20,7 +20,7 @@ use Rattle.queries.specs.Material.{band}
 use Rattle.queries.specs.Envelope.{envelopeAt, seenPaper}
 use Rattle.queries.specs.Volume.{volumeOf, measuredPaper}
 
-same-number : {A : Type 0} {m n : ℕ} → _≡_ {A = Paper A} (refuses m) (refuses n) → m ≡ n
+same-number : {A : Type 0} {m n : Reason} → _≡_ {A = Paper A} (refuses m) (refuses n) → m ≡ n
 same-number h = cc
 
 -- ---- each answer says one thing, and no other answer says it
@@ -29,7 +29,7 @@ same-measured (measured.Between a b) (measured.Between a' b') h =
     let e = same-answer h in ap₂ measured.Between (ap (λ (v : Volumes). v .least) e) (ap (λ (v : Volumes). v .greatest) e)
 same-measured (measured.Between a b) (measured.Refused c) h = absurd (no-answer _ _ (sym h))
 same-measured (measured.Refused c) (measured.Between a b) h = absurd (no-answer _ _ h)
-same-measured (measured.Refused c) (measured.Refused c') h = ap measured.Refused (one-to-one c c' (same-number h))
+same-measured (measured.Refused c) (measured.Refused c') h = ap measured.Refused (one-reason c c' (same-number h))
 
 same-some : {a b : Band} → some a ≡ some b → a ≡ b
 same-some h = cc
@@ -47,7 +47,7 @@ same-seen seen.Nothing seen.Nothing h = refl
 same-seen seen.Nothing (seen.Refused c) h = absurd (no-answer _ _ (sym h))
 same-seen (seen.Refused c) (seen.Radii b o) h = absurd (no-answer _ _ h)
 same-seen (seen.Refused c) seen.Nothing h = absurd (no-answer _ _ h)
-same-seen (seen.Refused c) (seen.Refused c') h = ap seen.Refused (one-to-one c c' (same-number h))
+same-seen (seen.Refused c) (seen.Refused c') h = ap seen.Refused (one-reason c c' (same-number h))
 
 -- ---- so a promise allows one outcome
 pub volume-once : (spec : TurnStockSpec) (cs xs : List Float) (k : ℕ) (r r' : Measured) → measuredPaper r ≡ volumeOf spec cs xs k → measuredPaper r' ≡ volumeOf spec cs xs k → r ≡ r'

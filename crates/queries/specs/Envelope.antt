@@ -5,7 +5,7 @@ use mathlib.Core.List.{List}
 use mathlib.Core.Option.{Option, none, some}
 use lib.Dec.{ltb}
 use lib.Ieee.{Float, le, lt}
-use Rattle.refusals.specs.Number.{numberOf}
+use Rattle.refusals.specs.Number.{reasonOf}
 use Rattle.refusals.specs.Paper.{Paper, answers, refuses, onward}
 use Rattle.floats.specs.Pick.{pick}
 use Rattle.floats.specs.Numbers.{_-₆₄_, _/₆₄_, leastOf, greatestOf, cleanOf}
@@ -83,7 +83,7 @@ envelopeAt spec cs z = onward (stockOf spec cs) (λ n. answers (seenAt (cleanSpe
 abbrev pub seenPaper : Seen → Paper (Option Band)
 seenPaper (Radii b o) = answers (some (band b o))
 seenPaper Nothing = answers none
-seenPaper (Refused c) = refuses (numberOf c)
+seenPaper (Refused c) = refuses (reasonOf c)
 
 -- what an answer shows; a refusal nothing
 abbrev pub shownIn : Seen → Option Band

@@ -2,7 +2,7 @@
 use Prim.Native.Nat.{ℕ, zero, suc}
 use mathlib.Core.List.{List}
 use lib.Ieee.{Float, binary64, ofBits, le, lt}
-use Rattle.refusals.specs.Number.{numberOf}
+use Rattle.refusals.specs.Number.{reasonOf}
 use Rattle.refusals.specs.Paper.{Paper, answers, refuses, demand, onward}
 use Rattle.floats.specs.Pick.{pick}
 use Rattle.floats.specs.Numbers.{_+₆₄_, _-₆₄_, _*₆₄_, zero64, leastOf, greatestOf}
@@ -83,4 +83,4 @@ volumeOf spec cs xs k =
 -- what the answer of `volume` says, case by case
 abbrev pub measuredPaper : Measured → Paper Volumes
 measuredPaper (Between a b) = answers (record { least = a; greatest = b })
-measuredPaper (Refused c) = refuses (numberOf c)
+measuredPaper (Refused c) = refuses (reasonOf c)

@@ -12,8 +12,8 @@ use lib.Ieee.{Float}
 use borrow.Author.Tests.{le-leb, lt-leb, leb-true}
 use Rattle.refusals.specs.declared.Refusal.{Refusal}
 use Rattle.refusals.specs.declared.Refusal.the-variants.{RingsOverRoom}
-use Rattle.refusals.specs.Number.{numberOf}
-use Rattle.refusals.specs.Paper.{Paper, answers, refuses, demand, onward, demand-true, demand-false}
+use Rattle.refusals.specs.Number.{reasonOf}
+use Rattle.refusals.specs.Paper.{Paper, Reason, answers, refuses, only, demand, onward, demand-true, demand-false}
 use Rattle.floats.specs.Pick.{pick, pick-true, pick-false}
 use Rattle.rings.specs.declared.Ring.{Ring}
 use Rattle.rings.specs.declared.StoredAs.{StoredAs}
@@ -27,7 +27,7 @@ use Rattle.rings.proofs.Prefix.{apart-turns}
 use Rattle.rings.proofs.InHand.{kept-few, subtract-apart, in-hand-few, in-hand-more}
 
 -- ---- from a rule's answer to the promise, and back
-pub stores-refused : (xs : List Float) (p : Paper (List Ring)) (x : Refusal) → p ≡ refuses (numberOf x) → StoresAs xs p (Refused x) xs
+pub stores-refused : (xs : List Float) (p : Paper (List Ring)) (x : Refusal) → p ≡ refuses (reasonOf x) → StoresAs xs p (Refused x) xs
 unfolding countOf onward
 stores-refused xs p x e = record { answer = sym (ap countOf e); store = sym (ap (storeAfter xs) e) }
 
@@ -58,20 +58,20 @@ accepted xs p r ys n s e = go p refl
         let z : _≡_ {A = ℕ} 0 1 = cc in
         absurd (omega arith)
 
-pub refused : (xs : List Float) (p : Paper (List Ring)) (r : StoredAs) (ys : List Float) (x : Refusal) → StoresAs xs p r ys → r ≡ Refused x → (p ≡ refuses (numberOf x)) × (ys ≡ xs)
+pub refused : (xs : List Float) (p : Paper (List Ring)) (r : StoredAs) (ys : List Float) (x : Refusal) → StoresAs xs p r ys → r ≡ Refused x → (p ≡ refuses (reasonOf x)) × (ys ≡ xs)
 unfolding countOf onward
 refused xs p r ys x s e = go p refl
   where
-    go : (v : Paper (List Ring)) → p ≡ v → (p ≡ refuses (numberOf x)) × (ys ≡ xs)
+    go : (v : Paper (List Ring)) → p ≡ v → (p ≡ refuses (reasonOf x)) × (ys ≡ xs)
     go (answers l) f =
         let a : storedPaper r ≡ answers (length l) = s .answer ∙ ap countOf f in
-        let b : storedPaper r ≡ refuses (numberOf x) = ap storedPaper e in
+        let b : storedPaper r ≡ refuses (reasonOf x) = ap storedPaper e in
         let z : _≡_ {A = ℕ} 0 1 = cc in
         absurd (omega arith)
     go (refuses k) f =
         let a : storedPaper r ≡ refuses k = s .answer ∙ ap countOf f in
-        let b : storedPaper r ≡ refuses (numberOf x) = ap storedPaper e in
-        let q : k ≡ numberOf x = cc in
+        let b : storedPaper r ≡ refuses (reasonOf x) = ap storedPaper e in
+        let q : k ≡ reasonOf x = cc in
         (f ∙ ap refuses q, s .store ∙ ap (storeAfter xs) f)
 
 -- ---- one clipped ring
@@ -79,7 +79,7 @@ pub added-yes : (room : ℕ) (ks : List Ring) (c : Ring) → roomFor room ks c �
 unfolding added
 added-yes room ks c e = demand-true (roomFor room ks c) 11 (answers (ks ++ left ks c)) e
 
-added-no : (room : ℕ) (ks : List Ring) (c : Ring) → roomFor room ks c ≡ false → added room ks c ≡ refuses 11
+added-no : (room : ℕ) (ks : List Ring) (c : Ring) → roomFor room ks c ≡ false → added room ks c ≡ refuses (only 11)
 unfolding added
 added-no room ks c e = demand-false (roomFor room ks c) 11 (answers (ks ++ left ks c)) e
 
@@ -215,7 +215,7 @@ module _ (room count few : ℕ) (c : Ring) (xs hand : List Float) (r : ℕ) (cut
       (cut .same g)
 
   -- more than 256 in hand
-  pub added-over : few ≡ 256 → few < r → added room (ringsOf count xs) c ≡ refuses 11
+  pub added-over : few ≡ 256 → few < r → added room (ringsOf count xs) c ≡ refuses (only 11)
   unfolding roomFor left pick
   added-over h l = added-no room (ringsOf count xs) c (go (inHand 256 (kept c) (ringsOf count xs)) refl)
     where
@@ -272,7 +272,7 @@ unfolding addedAll ringsOf
 added-one e room ks news c f = ap (added room ks) f ∙ sym (added-next e room ks news 0 ks refl)
 
 -- once refused it stays so
-refused-more : (e : Ring) (room : ℕ) (ks : List Ring) (news : List Float) (x i c : ℕ) → i ≤ c → addedAll e room ks (ringsOf i news) ≡ refuses x → addedAll e room ks (ringsOf c news) ≡ refuses x
+refused-more : (e : Ring) (room : ℕ) (ks : List Ring) (news : List Float) (x : Reason) (i c : ℕ) → i ≤ c → addedAll e room ks (ringsOf i news) ≡ refuses x → addedAll e room ks (ringsOf c news) ≡ refuses x
 unfolding ringsOf onward
 refused-more e room ks news x i c h f = go c h
   where
@@ -316,6 +316,6 @@ module _ (e : Ring) (room : ℕ) (ks : List Ring) (news : List Float) (i : ℕ) 
         rule = next-rule ∙ y .rule ∙ ap answers (sym (ap₂ ringsOf (y .count) (y .store) ∙ rings-stored work (y .rings)));
       }
 
-  pub adding-refused : (x : Refusal) (k : ℕ) → r ≡ Refused x → i < k → addedAll e room ks (ringsOf k news) ≡ refuses (numberOf x)
+  pub adding-refused : (x : Refusal) (k : ℕ) → r ≡ Refused x → i < k → addedAll e room ks (ringsOf k news) ≡ refuses (reasonOf x)
   adding-refused x k h l =
-      refused-more e room ks news (numberOf x) (i + 1) k (omega arith) (next-rule ∙ refused work (added room (ringsOf n work) c) r work' x a h .0)
+      refused-more e room ks news (reasonOf x) (i + 1) k (omega arith) (next-rule ∙ refused work (added room (ringsOf n work) c) r work' x a h .0)

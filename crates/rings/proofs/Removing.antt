@@ -11,7 +11,7 @@ use borrow.Author.Tests.{le-leb, lt-leb, leb-true, lt-ltb, le-ltb}
 use Rattle.refusals.specs.declared.Refusal.{Refusal}
 use Rattle.refusals.specs.declared.Refusal.the-variants.{StoredRings, RingOutside, GenerationsSpent}
 use Rattle.refusals.specs.Limits.{lastGeneration}
-use Rattle.refusals.specs.Number.{numberOf}
+use Rattle.refusals.specs.Number.{reasonOf}
 use Rattle.refusals.specs.Paper.{Paper, answers, refuses, demand, onward, demand-true, demand-false}
 use Rattle.floats.specs.Pick.{pick, pick-true, pick-false}
 use Rattle.stock.specs.declared.TurnStockSpec.{TurnStockSpec}
@@ -48,7 +48,7 @@ unfolding countFits
 fits-within e xs n f = leb-true n (roomOf (length xs)) (and-fst (leb n (roomOf (length xs))) (storeFits e (ringsOf n xs)) f)
 
 -- ---- from a rule's answer to the promise
-removes-refused : (xs : List Float) (p : Paper RingStore) (x : Refusal) → p ≡ refuses (numberOf x) → Removes xs p (removed.Refused x) xs
+removes-refused : (xs : List Float) (p : Paper RingStore) (x : Refusal) → p ≡ refuses (reasonOf x) → Removes xs p (removed.Refused x) xs
 unfolding countsOf ringsAfter onward
 removes-refused xs p x e = record { answer = sym (ap countsOf e); store = sym (ap (ringsAfter xs) e) }
 
@@ -143,7 +143,7 @@ module _ (e : Ring) (xs : List Float) (n : ℕ) (news : List Float) where
     all-one k c f o v a =
         stores-as (added-one e room (ringsOf n xs) news c v ∙ ap (λ (m : ℕ). addedAll e room (ringsOf n xs) (ringsOf m news)) (sym o ∙ f) ∙ sym all-in) a
 
-    pub all-refused : (x : Refusal) → addedAll e room (ringsOf n xs) (ringsOf (length news / 4) news) ≡ refuses (numberOf x) → StoresAs xs (removeAllIn e xs n news) (stored.Refused x) xs
+    pub all-refused : (x : Refusal) → addedAll e room (ringsOf n xs) (ringsOf (length news / 4) news) ≡ refuses (reasonOf x) → StoresAs xs (removeAllIn e xs n news) (stored.Refused x) xs
     all-refused x f = stores-refused xs (removeAllIn e xs n news) x (all-in ∙ f)
 
     pub all-stored : (work : List Float) (m k : ℕ) (ys : List Float) → k ≡ length news / 4 → addedAll e room (ringsOf n xs) (ringsOf k news) ≡ answers (ringsOf m work)

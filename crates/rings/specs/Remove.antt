@@ -7,7 +7,7 @@ use lib.Dec.{leb, ltb}
 use lib.ListN.{length}
 use lib.Ieee.{Float}
 use Rattle.refusals.specs.Limits.{pieceLimit, lastGeneration}
-use Rattle.refusals.specs.Number.{numberOf}
+use Rattle.refusals.specs.Number.{reasonOf}
 use Rattle.refusals.specs.Paper.{Paper, answers, refuses, demand, onward}
 use Rattle.floats.specs.Pick.{pick}
 use Rattle.stock.specs.declared.TurnStockSpec.{TurnStockSpec}
@@ -39,7 +39,7 @@ addedAll e room ks (q ∷ qs) = onward (added room ks (clip e q)) (λ l. addedAl
 
 abbrev pub storedPaper : StoredAs → Paper ℕ
 storedPaper (stored.Rings n) = answers n
-storedPaper (stored.Refused c) = refuses (numberOf c)
+storedPaper (stored.Refused c) = refuses (reasonOf c)
 
 -- how many rings
 unfoldable pub countOf : Paper (List Ring) → Paper ℕ
@@ -93,7 +93,7 @@ pub record RingCount : Type 0 where
 
 abbrev pub removedPaper : Removed → Paper RingCount
 removedPaper (removed.Stored n g) = answers (record { rings = n; generation = g })
-removedPaper (removed.Refused c) = refuses (numberOf c)
+removedPaper (removed.Refused c) = refuses (reasonOf c)
 
 unfoldable pub countsOf : Paper RingStore → Paper RingCount
 countsOf p = onward p (λ s. answers (record { rings = length (s .rings); generation = s .generation }))

@@ -9,7 +9,7 @@ use lib.Ieee.{Float, lt, le}
 use mathlib.Core.List.{List}
 use lib.ListN.{length}
 use borrow.Author.Tests.{leb-true, eqb-true}
-use Rattle.refusals.specs.Paper.{Paper, answers, refuses, demand, onward, onward-answers}
+use Rattle.refusals.specs.Paper.{Paper, Reason, answers, refuses, only, demand, onward, onward-answers}
 use Rattle.refusals.specs.Limits.{cellLimit}
 use Rattle.floats.specs.Numbers.{zero64, usable}
 use Rattle.numbers.specs.Whole.{wholeUp}
@@ -23,14 +23,14 @@ pub same-answer : {A : Type 0} {a b : A} → answers a ≡ answers b → a ≡ b
 same-answer h = cc
 
 -- a refusal is no answer
-pub no-answer : {A : Type 0} (n : ℕ) (a : A) → refuses n ≡ answers a → ⊥
+pub no-answer : {A : Type 0} (n : Reason) (a : A) → refuses n ≡ answers a → ⊥
 no-answer n a h = let z : _≡_ {A = ℕ} 0 1 = cc in omega arith
 
 -- what is demanded of an answer holds
 pub demanded : {A : Type 0} (t : Bool) (n : ℕ) (p : Paper A) (a : A) → demand t n p ≡ answers a → (t ≡ true) × (p ≡ answers a)
 unfolding demand
 demanded true n p a h = (refl, h)
-demanded false n p a h = absurd (no-answer n a h)
+demanded false n p a h = absurd (no-answer (only n) a h)
 
 -- both of two tests that hold together
 pub and-both : (a b : Bool) → (a && b) ≡ true → (a ≡ true) × (b ≡ true)
@@ -56,7 +56,7 @@ checked spec n h =
     go (d .0) (wholeUp (quotient s) cellLimit) refl (d .1)
   where
     go : specGood (cleanSpec spec) ≡ true → (o : Option ℕ) → wholeUp (quotient (cleanSpec spec)) cellLimit ≡ o → counted (spec .«max_cells») o ≡ answers n → Checked spec n
-    go g none e k = absurd (no-answer 2 n k)
+    go g none e k = absurd (no-answer (only 2) n k)
     go g (some m) e k =
         let d = demanded (not (eqb m 0) && leb m (spec .«max_cells»)) 2 (answers m) n k in
         let b = and-both (not (eqb m 0)) (leb m (spec .«max_cells»)) (d .0) in

@@ -6,7 +6,7 @@ use borrow.Author.Tests.{eq-eqb}
 use lib.ListN.{length}
 use lib.Ieee.{Float}
 use Rattle.refusals.specs.declared.Refusal.{Refusal}
-use Rattle.refusals.specs.Number.{numberOf}
+use Rattle.refusals.specs.Number.{reasonOf}
 use Rattle.refusals.specs.Paper.{Paper, answers, refuses, papers}
 use Rattle.stock.specs.declared.TurnStockSpec.{TurnStockSpec}
 use Rattle.stock.specs.declared.Counted.the-variants.{Cells, Refused}
@@ -18,7 +18,7 @@ pub new-is : (spec : TurnStockSpec) (len n : ℕ) → cellsOf spec ≡ answers n
 unfolding newOf
 new-is spec len n e h = simp (papers, e, eq-eqb len (4 * n) h)
 
-pub left : (spec : TurnStockSpec) (cs : List Float) (r : Refusal) → refuses (numberOf r) ≡ newOf spec (length cs) → Filled spec (Refused r) cs cs
+pub left : (spec : TurnStockSpec) (cs : List Float) (r : Refusal) → refuses (reasonOf r) ≡ newOf spec (length cs) → Filled spec (Refused r) cs cs
 left spec cs r e = record { answer = e; cells = ap (λ (p : Paper ℕ). newCells spec p cs) e }
 
 pub made : (spec : TurnStockSpec) (cs cs' : List Float) (n : ℕ) → answers n ≡ newOf spec (length cs) → cs' ≡ cellsLike (freshCell (cleanSpec spec)) n → Filled spec (Cells n) cs cs'

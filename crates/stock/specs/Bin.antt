@@ -3,7 +3,7 @@ use Prim.Native.Nat.{ℕ}
 use lib.Dec.{ltb}
 use lib.IntN.{pos}
 use lib.Ieee.{Float, binary64, ofInt}
-use Rattle.refusals.specs.Number.{numberOf}
+use Rattle.refusals.specs.Number.{reasonOf}
 use Rattle.refusals.specs.Paper.{Paper, answers, refuses, demand, onward}
 use Rattle.floats.specs.Numbers.{_+₆₄_, _*₆₄_, leastOf}
 use Rattle.stock.specs.declared.TurnStockSpec.{TurnStockSpec}
@@ -27,4 +27,4 @@ binFor spec i = onward (cellsOf spec) (λ n. demand (ltb i n) 9 (answers (binOf 
 -- what the answer of `bin` says, case by case
 abbrev pub binnedPaper : Binned → Paper ZRange
 binnedPaper (At z) = answers z
-binnedPaper (Refused c) = refuses (numberOf c)
+binnedPaper (Refused c) = refuses (reasonOf c)

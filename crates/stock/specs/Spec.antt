@@ -4,8 +4,8 @@ use mathlib.Core.Bool.{Bool, not, _&&_}
 use mathlib.Core.Option.{Option, none, some}
 use lib.Dec.{eqb, leb}
 use lib.Ieee.{Float, le, lt}
-use Rattle.refusals.specs.Number.{numberOf}
-use Rattle.refusals.specs.Paper.{Paper, answers, refuses, demand}
+use Rattle.refusals.specs.Number.{reasonOf}
+use Rattle.refusals.specs.Paper.{Paper, answers, refuses, only, demand}
 use Rattle.refusals.specs.Limits.{cellLimit}
 use Rattle.floats.specs.Numbers.{_-₆₄_, _/₆₄_, zero64, cleanOf, usable}
 use Rattle.numbers.specs.Whole.{wholeUp}
@@ -37,7 +37,7 @@ quotient s = (s .«z_max_mm» -₆₄ s .«z_min_mm») /₆₄ s .«cell_mm»
 
 -- 2 unless n is there, not 0, and at most max_cells
 abbrev pub counted : ℕ → Option ℕ → Paper ℕ
-counted most none = refuses 2
+counted most none = refuses (only 2)
 counted most (some n) = demand (not (eqb n 0) && leb n most) 2 (answers n)
 
 -- the number of cells: the least whole number at or above the quotient; 1, 2
@@ -49,4 +49,4 @@ cellsOf spec =
 -- what a count of cells says, case by case
 abbrev pub countedPaper : Counted → Paper ℕ
 countedPaper (Cells n) = answers n
-countedPaper (Refused c) = refuses (numberOf c)
+countedPaper (Refused c) = refuses (reasonOf c)

@@ -7,7 +7,7 @@ use lib.ListN.{length}
 use lib.Ieee.{Float}
 use borrow.Author.Tests.{eq-eqb, ne-eqb}
 use Rattle.floats.specs.Pick.{picks}
-use Rattle.refusals.specs.Paper.{Paper, answers, refuses, onward}
+use Rattle.refusals.specs.Paper.{Paper, answers, refuses, only, onward}
 use Rattle.stock.specs.declared.TurnStockSpec.{TurnStockSpec}
 use Rattle.stock.specs.declared.TurnChange.{TurnChange}
 use Rattle.stock.specs.declared.Counted.{Counted}
@@ -170,7 +170,7 @@ module _ (spec : TurnStockSpec) (cs : List Float) (side : ℕ) (p : TurnSide →
   unfolding bySide
   by-inner e f = simp (picks, ne-eqb side 0 e, eq-eqb side 1 f)
 
-  pub by-none : (side ≡ 0 → ⊥) → (side ≡ 1 → ⊥) → bySide spec cs side p ≡ onward (stockOf spec cs) (λ n. refuses 5)
+  pub by-none : (side ≡ 0 → ⊥) → (side ≡ 1 → ⊥) → bySide spec cs side p ≡ onward (stockOf spec cs) (λ n. refuses (only 5))
   unfolding bySide
   by-none e f = simp (picks, ne-eqb side 0 e, ne-eqb side 1 f)
 

@@ -7,7 +7,7 @@ use Prim.Native.Nat.{ℕ, _<_}
 use native.Mathlib.Omega.{arith}
 use lib.ListN.{length}
 use lib.Ieee.{Float}
-use Rattle.refusals.specs.Paper.{Paper, answers, refuses, onward}
+use Rattle.refusals.specs.Paper.{Paper, Reason, answers, refuses, onward}
 use Rattle.refusals.specs.Lent.{over}
 use Rattle.stock.specs.declared.TurnStockSpec.{TurnStockSpec}
 use Rattle.stock.specs.declared.TurnChange.{TurnChange}
@@ -23,9 +23,9 @@ no-code : {r : ℕ} → r ≡ 0 → 0 < r → ⊥
 no-code e h = omega arith
 
 -- a number other than 0 is that of a refusal
-pub refused : {A : Type 0} (p : Paper A) (r : ℕ) → r ≡ codeOf p → 0 < r → p ≡ refuses r
+pub refused : {A : Type 0} (p : Paper A) (r : ℕ) → r ≡ codeOf p → 0 < r → (n : Reason) × (p ≡ refuses n) × (n .number ≡ r)
 refused (answers a) r e h = absurd (no-code e h)
-refused (refuses n) r e h = ap refuses (sym e)
+refused (refuses n) r e h = (n, refl, sym e)
 
 -- `turning_root`, `turning_length`, `turning_validate`, `turning_envelope_order`: the number
 pub one-left : {A : Type 0} (p : Paper A) (r : ℕ) (x x' : A) → Gives p r x x' → 0 < r → x' ≡ x

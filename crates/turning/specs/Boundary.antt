@@ -10,8 +10,8 @@ use denote.Ref.{RefT, now}
 use denote.Triple.Both.{Both}
 use Rattle.floats.specs.Pick.{pick}
 use Rattle.refusals.specs.declared.Refusal.{Refusal}
-use Rattle.refusals.specs.Number.{numberOf}
-use Rattle.refusals.specs.Paper.{Paper, answers, refuses, onward}
+use Rattle.refusals.specs.Number.{reasonOf}
+use Rattle.refusals.specs.Paper.{Paper, answers, refuses, only, onward}
 use Rattle.refusals.specs.Lent.{Lent, over}
 use Rattle.stock.specs.declared.TurnStockSpec.{TurnStockSpec}
 use Rattle.stock.specs.declared.TurnChange.{TurnChange}
@@ -32,7 +32,7 @@ use Rattle.moves.specs.Move.{Left}
 -- 0, or the number of the refusal
 abbrev pub codeOf : {A : Type 0} → Paper A → ℕ
 codeOf (answers a) = 0
-codeOf (refuses n) = n
+codeOf (refuses n) = n .number
 
 -- an out-parameter: a part of the answer, or as it was
 abbrev pub outOf : {A B : Type 0} → (A → B) → Paper A → B → B
@@ -84,7 +84,7 @@ pub record GivesStock (p : Paper Committed) (r : ℕ) (cs cs' : List Float) (g g
 
 -- 0 is outside, 1 inside; any other is an argument outside its domain, asked for after 1, 2, 3
 unfoldable pub bySide : TurnStockSpec → List Float → ℕ → (TurnSide → Paper (List TurnChange)) → Paper (List TurnChange)
-bySide spec cs side p = pick (eqb side 0) (p Outer) (pick (eqb side 1) (p Inner) (onward (stockOf spec cs) (λ n. refuses 5)))
+bySide spec cs side p = pick (eqb side 0) (p Outer) (pick (eqb side 1) (p Inner) (onward (stockOf spec cs) (λ n. refuses (only 5))))
 
 -- a nose along segments, and a polygon
 abbrev pub noseBySide : TurnStockSpec → List Float → ℕ → Float → List Float → ℕ → Paper (List TurnChange)
@@ -95,7 +95,7 @@ polygonBySide spec cs side excess ps room = bySide spec cs side (λ (s : TurnSid
 
 -- a refusal in place of changes
 abbrev pub noChanges : Refusal → Paper (List TurnChange)
-noChanges c = refuses (numberOf c)
+noChanges c = refuses (reasonOf c)
 
 -- ---- rings
 

@@ -1,6 +1,6 @@
 // The cuts of a nose and of a polygon, whose side comes as a number.
 ghost use mathlib.Core.Path.{_≡_};
-ghost use Rattle.refusals.specs.Paper.{refuses, onward};
+ghost use Rattle.refusals.specs.Paper.{refuses, only, onward};
 ghost use Rattle.stock.specs.Cell.{stockOf};
 ghost use Rattle.changes.specs.Change.{Proposes};
 ghost use Rattle.turning.specs.Boundary.{specFrom, noseBySide, polygonBySide, noChanges, HandsChanges};
@@ -14,7 +14,7 @@ use stock::TurnStockSpec;
 
 // How a number that is no side is refused: 1, 2, 3, then 5.
 fn no_side(spec: TurnStockSpec, cells: &[f64]) -> Refusal
-    ensures { λ r. ⌜ onward (stockOf spec (now (cells .entry))) (λ n. refuses 5) ≡ noChanges r ⌝ }
+    ensures { λ r. ⌜ onward (stockOf spec (now (cells .entry))) (λ n. refuses (only 5)) ≡ noChanges r ⌝ }
 {
     let counted = stock::cells_fit(spec, cells);
     match counted {

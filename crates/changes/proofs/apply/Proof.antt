@@ -3,7 +3,7 @@ use mathlib.Core.Path.{sym, ap, _∙_, subst}
 use Prim.Native.Nat.{ℕ, _<_, _≤_}
 use native.Mathlib.Omega.{arith}
 use borrow.Author.Needs.{needs}
-use Rattle.refusals.specs.Number.{numberOf}
+use Rattle.refusals.specs.Number.{reasonOf}
 use Rattle.stock.specs.Spec.{countedPaper}
 use Rattle.changes.proofs.Written.{apply-refused, apply-short, apply-is, left, same-outcome, same-spec}
 use Rattle.changes.proofs.apply.Statement.{statement}
@@ -18,7 +18,7 @@ returns c =
 returns-2 : tie.Need-returns-2
 returns-2 c =
     let told = c .before .counted .given in
-    left _ (told .0 .0) _ (apply-refused _ _ _ _ _ _ (numberOf (told .0 .0)) (sym (c .before .before .before .cells-fit .ensures) ∙ ap countedPaper (told .1)))
+    left _ (told .0 .0) _ (apply-refused _ _ _ _ _ _ (reasonOf (told .0 .0)) (sym (c .before .before .before .cells-fit .ensures) ∙ ap countedPaper (told .1)))
 
 returns-3 : tie.Need-returns-3
 returns-3 c =

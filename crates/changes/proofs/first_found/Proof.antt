@@ -4,7 +4,7 @@ use Prim.Native.Nat.{ℕ, _+_, _≤_, _-_}
 use native.Mathlib.Omega.{arith}
 use borrow.Author.Needs.{needs}
 use lib.ListN.{length}
-use Rattle.refusals.specs.Number.{numberOf}
+use Rattle.refusals.specs.Number.{reasonOf}
 use Rattle.refusals.specs.Paper.{answers}
 use Rattle.changes.specs.Change.{changesFrom, roomOf}
 use Rattle.changes.specs.Commit.{passingPaper}
@@ -33,7 +33,7 @@ returns c =
     let on = steps-next (a .cells .now) d (a .indices .now) (a .records .now) (b .loop .i) _ _ _ (b .loop .inv .2) (omega arith) (c .before .before .before .before .change-at .ensures) (c .before .before .before .step .ensures) in
     sym
     (ap (λ (x : Decides). stepsOf (a .cells .now) x (changesFrom (a .indices .now) (a .records .now) (a .k)) .found) (sym (b .before .on-cells .ensures))
-    ∙ steps-stops (a .cells .now) d (a .indices .now) (a .records .now) (b .loop .i + 1) (a .k) (numberOf (told .0 .0)) (omega arith) (ap (λ (x : Decides). x .found) (sym on) ∙ ap passingPaper (told .1)))
+    ∙ steps-stops (a .cells .now) d (a .indices .now) (a .records .now) (b .loop .i + 1) (a .k) (reasonOf (told .0 .0)) (omega arith) (ap (λ (x : Decides). x .found) (sym on) ∙ ap passingPaper (told .1)))
 
 loop-again : tie.Need-loop-again Inv-loop μ-loop
 unfolding passingPaper

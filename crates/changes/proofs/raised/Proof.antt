@@ -3,7 +3,7 @@ use mathlib.Core.Path.{sym, ap, _∙_}
 use Prim.Native.Nat.{ℕ}
 use native.Mathlib.Omega.{arith}
 use borrow.Author.Needs.{needs}
-use Rattle.refusals.specs.Number.{numberOf}
+use Rattle.refusals.specs.Number.{reasonOf}
 use Rattle.refusals.specs.Paper.{onward-refuses}
 use Rattle.changes.specs.declared.Passing.{Passing}
 use Rattle.changes.specs.Commit.{passingPaper}
@@ -16,7 +16,7 @@ returns : tie.Need-returns
 unfolding passingPaper
 returns c =
     let g = c .before .before .before .args .generation in
-    sym (ap (λ (f : Passing). raisedOf (passingPaper f) g) (c .before .found .given .1) ∙ raised-stops (numberOf (c .before .found .given .0 .0)) g)
+    sym (ap (λ (f : Passing). raisedOf (passingPaper f) g) (c .before .found .given .1) ∙ raised-stops (reasonOf (c .before .found .given .0 .0)) g)
 
 returns-2 : tie.Need-returns-2
 unfolding passingPaper

@@ -2,7 +2,7 @@
 use mathlib.Core.Path.{_≡_, sym, ap, _∙_}
 use borrow.Author.Needs.{needs}
 use borrow.Author.Tests.{not-true, not-false}
-use Rattle.refusals.specs.Number.{numberOf}
+use Rattle.refusals.specs.Number.{reasonOf}
 use Rattle.stock.specs.Spec.{countedPaper}
 use Rattle.stock.proofs.Bins.{HeldSpec}
 use Rattle.changes.proofs.Proposals.{left, same-proposal}
@@ -32,7 +32,7 @@ tool-in-requires c κs =
 returns-2 : tie.Need-returns-2
 returns-2 c =
     let told = c .before .counted .given in
-    left _ (told .0 .0) _ _ (tool-refused _ _ _ _ _ (numberOf (told .0 .0)) (sym (c .before .before .before .cells-fit .ensures) ∙ ap countedPaper (told .1)))
+    left _ (told .0 .0) _ _ (tool-refused _ _ _ _ _ (reasonOf (told .0 .0)) (sym (c .before .before .before .cells-fit .ensures) ∙ ap countedPaper (told .1)))
 
 returns-3 : tie.Need-returns-3
 returns-3 c =

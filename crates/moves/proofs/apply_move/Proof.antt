@@ -2,7 +2,7 @@
 use mathlib.Core.Path.{refl, sym, ap, _∙_}
 use native.Mathlib.Omega.{arith}
 use borrow.Author.Needs.{needs}
-use Rattle.refusals.specs.Number.{numberOf}
+use Rattle.refusals.specs.Number.{reasonOf}
 use Rattle.stock.specs.Spec.{countedPaper}
 use Rattle.moves.proofs.Moving.{left, same-outcome, move-refused, move-short, move-is}
 use Rattle.moves.proofs.apply_move.Statement.{statement}
@@ -16,7 +16,7 @@ returns c =
 returns-2 : tie.Need-returns-2
 returns-2 c =
     let told = c .before .counted .given in
-    left _ (told .0 .0) _ _ _ (move-refused _ _ _ _ _ _ _ _ _ (numberOf (told .0 .0)) (sym (c .before .before .before .cells-fit .ensures) ∙ ap countedPaper (told .1))) refl
+    left _ (told .0 .0) _ _ _ (move-refused _ _ _ _ _ _ _ _ _ (reasonOf (told .0 .0)) (sym (c .before .before .before .cells-fit .ensures) ∙ ap countedPaper (told .1))) refl
 
 returns-3 : tie.Need-returns-3
 returns-3 c =

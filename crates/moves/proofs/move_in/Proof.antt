@@ -3,7 +3,7 @@ use mathlib.Core.Path.{refl, sym, _∙_}
 use native.Mathlib.Omega.{arith}
 use borrow.Author.Needs.{needs}
 use borrow.Author.Tests.{not-true, not-false}
-use Rattle.refusals.specs.Number.{numberOf}
+use Rattle.refusals.specs.Number.{reasonOf}
 use Rattle.moves.proofs.Moving.{left, stopped, passed, put-is, refuses-4, refuses-10, refuses-change, refuses-12, refuses-11, moves}
 use Rattle.moves.proofs.move_in.Statement.{statement}
 use Rattle.moves.proofs.move_in.Tie as tie
@@ -23,7 +23,7 @@ returns-3 c =
     let start = b1 .before .before .before .before .before .before .before .before in
     let told = c .before .found .given in
     left _ (told .0 .0) _ _ _
-    (refuses-change _ _ _ _ _ _ _ _ (sym (b1 .before .rings-fit .ensures) ∙ not-false _ (b1 .if1 .left)) (sym (b2 .before .rings-good .ensures) ∙ not-false _ (b2 .if2 .left)) (numberOf (told .0 .0))
+    (refuses-change _ _ _ _ _ _ _ _ (sym (b1 .before .rings-fit .ensures) ∙ not-false _ (b1 .if1 .left)) (sym (b2 .before .rings-good .ensures) ∙ not-false _ (b2 .if2 .left)) (reasonOf (told .0 .0))
     (stopped _ _ _ _ _ _ _ _ (c .before .before .before .before .before .clean-spec .ensures) (start .pre) (c .before .before .before .first-refusal .ensures) (told .0 .0) (told .1)))
     refl
 

@@ -2,7 +2,7 @@
 use mathlib.Core.Path.{sym, ap, _∙_}
 use borrow.Author.Needs.{needs}
 use borrow.Author.Tests.{not-true, not-false}
-use Rattle.refusals.specs.Number.{numberOf}
+use Rattle.refusals.specs.Number.{reasonOf}
 use Rattle.stock.specs.Spec.{countedPaper}
 use Rattle.change_slices.proofs.Decided.{first-stock, first-stored, first-removed, first-change}
 use Rattle.change_slices.proofs.moving.first_of.Statement.{statement}
@@ -11,7 +11,7 @@ use Rattle.change_slices.proofs.moving.first_of.Tie as tie
 returns : tie.Need-returns
 returns c =
     let told = c .before .counted .given in
-    first-stock _ _ _ _ _ _ (numberOf (told .0 .0)) (sym (c .before .before .before .cells-fit .ensures) ∙ ap countedPaper (told .1))
+    first-stock _ _ _ _ _ _ (reasonOf (told .0 .0)) (sym (c .before .before .before .cells-fit .ensures) ∙ ap countedPaper (told .1))
 
 returns-2 : tie.Need-returns-2
 returns-2 c =
