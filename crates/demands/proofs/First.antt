@@ -57,6 +57,9 @@ use Rattle.moves.specs.Move.{generationAfter, moveIn, moveOf, partsOf}
 use Rattle.change_slices.specs.Move.{moveListOf}
 use Rattle.queries.specs.Envelope.{envelopeAt}
 use Rattle.queries.specs.Volume.{volumeOf}
+use Rattle.blocks.specs.Block.{blocksIn, matchesOf, keptStock}
+use Rattle.blocks.specs.Range.{rangeOf}
+use Rattle.blocks.specs.Renew.{renewOf}
 use Rattle.profile.specs.Profile.{profileGood}
 use Rattle.profile.specs.Chords.{Chord, profileChords, segmentsOf}
 use Rattle.profile.specs.Chords as profile
@@ -68,7 +71,7 @@ use Rattle.job_words.specs.declared.Line.the-variants.{Bar, Cutting, Removing, 
 use Rattle.job_words.specs.Kind.{lineOf}
 use Rattle.job_run.specs.declared.line.Job.{Job}
 use Rattle.job_run.specs.Job.{lineLimit, cellsOfJob, barLine, madeCut, cutLine, removingLine, firstLine, laterLine, jobLine}
-use Rattle.demands.specs.Refused.{Asked, ask, Exactly, rootAsks, lengthAsks, countGood, specAsks, binAsks, newAsks, stockAsks, roomGood, previewCutAsks, previewAsks, previewNoseAsks, previewPolygonAsks, previewToolAsks, eachAsks, changeAsks, passAsks, commitInAsks, commitAsks, applyAsks, differenceAsks, removeAsks, roomForAll, allStored, removeRingsAsks, partsAsks, moveInAsks, moveListAsks, moveAsks, volumeAsks, pointsAsks, radiusAsks, withinAsks, barAsks, cutLineAsks, firstLineAsks, laterLineAsks, lineAsks, chordsFit, segmentsAsks, insertAsks, erodingAsks}
+use Rattle.demands.specs.Refused.{Asked, ask, Exactly, rootAsks, lengthAsks, countGood, specAsks, binAsks, newAsks, stockAsks, roomGood, previewCutAsks, previewAsks, previewNoseAsks, previewPolygonAsks, previewToolAsks, eachAsks, changeAsks, passAsks, commitInAsks, commitAsks, applyAsks, differenceAsks, removeAsks, roomForAll, allStored, removeRingsAsks, partsAsks, moveInAsks, moveListAsks, moveAsks, volumeAsks, keptAsks, renewAsks, pointsAsks, radiusAsks, withinAsks, barAsks, cutLineAsks, firstLineAsks, laterLineAsks, lineAsks, chordsFit, segmentsAsks, insertAsks, erodingAsks}
 use Rattle.demands.proofs.Asking.{refusalOf, Asks, exactly, exactly-as, asks-none, asks-more, asks-of, asks-on, asks-then, asks-as, asks-holds, asks-fails, onward-demand}
 
 -- ---- the root and the length
@@ -367,6 +370,28 @@ volume-exactly spec cs xs k = exactly (asks-on (stockOf spec cs) _ (stock-asks s
 pub envelope-at-exactly : (spec : TurnStockSpec) (cs : List Float) (z : Float) → Exactly (envelopeAt spec cs z) (stockAsks spec cs)
 unfolding envelopeAt
 envelope-at-exactly spec cs z = exactly (asks-then (stockOf spec cs) _ (stock-asks spec cs) (λ _ _. asks-none _))
+
+-- `shown` answers a band that it is handed, and refuses nothing
+
+-- ---- kept numbers and ranges
+
+kept-asks : (spec : TurnStockSpec) (cs bs : List Float) → Asks (keptStock spec cs bs) (keptAsks spec cs bs)
+unfolding keptStock
+kept-asks spec cs bs = asks-on (stockOf spec cs) _ (stock-asks spec cs) (λ n e. asks-of (stockOf spec cs) n e (λ n. matchesOf (cleanSpec spec) n cs bs) 20 (asks-none n))
+
+-- `kept_cells`: 1, 2, 3, 20
+pub kept-exactly : (spec : TurnStockSpec) (cs bs : List Float) → Exactly (keptStock spec cs bs) (keptAsks spec cs bs)
+kept-exactly spec cs bs = exactly (kept-asks spec cs bs)
+
+-- `renew`: 1, 2, 3, and 20 for the count of the lent numbers alone
+pub renew-exactly : (spec : TurnStockSpec) (cs : List Float) (len : ℕ) → Exactly (renewOf spec cs len) (renewAsks spec cs len)
+unfolding renewOf
+renew-exactly spec cs len = exactly (asks-on (stockOf spec cs) _ (stock-asks spec cs) (λ n e. asks-of (stockOf spec cs) n e (λ n. eqb len (2 * blocksIn n)) 20 (asks-none n)))
+
+-- `range`: 1, 2, 3, 20, whatever its ends are; `range_kept`, which asks nothing, refuses nothing
+pub range-exactly : (spec : TurnStockSpec) (cs bs : List Float) (lo hi : Float) → Exactly (rangeOf spec cs bs lo hi) (keptAsks spec cs bs)
+unfolding rangeOf
+range-exactly spec cs bs lo hi = exactly (asks-then (keptStock spec cs bs) _ (kept-asks spec cs bs) (λ _ _. asks-none _))
 
 -- ---- envelopes: 14
 

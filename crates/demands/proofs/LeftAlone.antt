@@ -15,6 +15,7 @@ use Rattle.stock.specs.declared.TurnChange.{TurnChange}
 use Rattle.stock.specs.declared.Counted.the-variants as counted
 use Rattle.stock.specs.Cell.{newOf, newCells, Filled}
 use Rattle.stock.proofs.Count.{no-answer}
+use Rattle.blocks.specs.Renew.{renewOf, blocksAfter, Renewed}
 use Rattle.changes.specs.declared.Previewed.{Previewed}
 use Rattle.changes.specs.declared.Previewed.the-variants as previewed
 use Rattle.changes.specs.Change.{previewedPaper, countOf, numbersOf, Proposed}
@@ -153,9 +154,14 @@ line-left (refuses n) c cs cs' xs xs' h = (same-number (h .answer), h .cells, h 
 pub fill-left : (spec : TurnStockSpec) (c : Refusal) (cs cs' : List Float) → Filled spec (counted.Refused c) cs cs' → (newOf spec (length cs) ≡ refuses (reasonOf c)) × (cs' ≡ cs)
 fill-left spec c cs cs' h = (sym (h .answer), h .cells ∙ ap (λ (p : Paper ℕ). newCells spec p cs) (sym (h .answer)))
 
+-- ---- kept numbers that are worked out
+
+pub renew-left : (spec : TurnStockSpec) (cs : List Float) (c : Refusal) (bs bs' : List Float) → Renewed spec cs (counted.Refused c) bs bs' → (renewOf spec cs (length bs) ≡ refuses (reasonOf c)) × (bs' ≡ bs)
+renew-left spec cs c bs bs' h = (sym (h .answer), h .numbers ∙ ap (λ (p : Paper ℕ). blocksAfter spec cs p bs) (sym (h .answer)))
+
 -- ---- calls that are lent nothing to write
 
--- `validate`, `bin`, `cells_fit`, `root`, `length`, `volume`, `envelope_at`, `order_of`, `radius_at`, ..: the promise is that the answer, case by case, is the rule's
+-- `validate`, `bin`, `cells_fit`, `root`, `length`, `volume`, `envelope_at`, `range`, `order_of`, `radius_at`, ..: the promise is that the answer, case by case, is the rule's
 pub plain-call : {A : Type 0} {p q : Paper A} {l : List Asked} → q ≡ p → Exactly p l → Exactly q l
 plain-call {l = l} e x = subst (λ y. Exactly y l) (sym e) x
 

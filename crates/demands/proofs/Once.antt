@@ -13,6 +13,7 @@
 --   changes   room, change_at, held_of, is_accepted, put_after
 --   rings     rings_fit, rings_good, raised_by
 --   queries   bins_at
+--   blocks    blocks_in, matches, renew_all, clear, renew_block, renew_changed
 --   envelope  within, of the numbers of the part that is lent back; number_of
 --   text      part, front, of the bytes that are lent back; part_count, same, read_whole
 --   job_words read_line, read_number
@@ -27,7 +28,8 @@
 --   changes   first_refusal (same-passing), begin, step (same-deciding), conclude (same-applied)
 --   envelope  order_of (same-ordered), within_span (same-spanned), within_refusal (same-looked), radius_at (same-radius-at), radius_range (same-radius-range)
 --   insert    excess, penetration (same-touch), eroded (same-radius-at)
---   queries   volume, envelope_at (Outcomes.volume-once, Outcomes.envelope-once of queries)
+--   queries   volume, envelope_at (Outcomes.volume-once, Outcomes.envelope-once of queries), shown (Outcomes.same-seen of queries)
+--   blocks    kept_cells (same-counted), range (Outcomes.same-seen of queries)
 --
 -- a record of equations: the answer and each lent buffer
 --   stock     fill (filled-once)
@@ -37,6 +39,7 @@
 --   change_slices apply, read_changes, propose (Once of change_slices), apply_move (Once.moved-once of moves)
 --   rings     remove_ring (removed-once), remove_rings (Once.stored-once of moves)
 --   moves     apply_move (Once.moved-once of moves), from_parts (Once.stored-once of moves)
+--   blocks    renew (renewed-once), leave_block (left-once), range_kept (kept-once)
 --   envelope  span_over (span-over-once), highest (highest-once)
 --   envelope  held::Envelope: new (new-once), order (order-once), within (within-once, of the numbers), radius_at (radius-at-once), radius_range (radius-range-once)
 --   profile   segments (Laws.segments-once of profile)
@@ -103,6 +106,10 @@ use Rattle.reach.specs.declared.Swept.{Swept}
 use Rattle.reach.specs.Low.{lowPaper, Found, sweptPaper}
 use Rattle.reach.specs.Reach.{reachPaper}
 use Rattle.changes.specs.Change.{Listed}
+use Rattle.queries.specs.declared.Seen.{Seen}
+use Rattle.queries.proofs.Outcomes.{same-seen}
+use Rattle.blocks.specs.Way.{RangeKept}
+use Rattle.blocks.specs.Renew.{Renewed, Open, Leaves}
 use Rattle.nose.specs.declared.Sample.{Sample}
 use Rattle.nose.specs.Track.{Samples, samplePaper}
 use Rattle.polygon.specs.declared.Extent.{Extent}
@@ -310,6 +317,15 @@ same-radius-range (radius-range.Refused c) (radius-range.Refused d) h = ap radiu
 
 pub filled-once : (spec : TurnStockSpec) (r r' : Counted) (cs cs₁ cs₂ : List Float) → Filled spec r cs cs₁ → Filled spec r' cs cs₂ → (r ≡ r') × (cs₁ ≡ cs₂)
 filled-once spec r r' cs cs₁ cs₂ a b = (same-counted r r' (a .answer ∙ sym (b .answer)), a .cells ∙ sym (b .cells))
+
+pub renewed-once : (spec : TurnStockSpec) (cs : List Float) (r r' : Counted) (bs bs₁ bs₂ : List Float) → Renewed spec cs r bs bs₁ → Renewed spec cs r' bs bs₂ → (r ≡ r') × (bs₁ ≡ bs₂)
+renewed-once spec cs r r' bs bs₁ bs₂ a b = (same-counted r r' (a .answer ∙ sym (b .answer)), a .numbers ∙ sym (b .numbers))
+
+pub left-once : (s : TurnStockSpec) (n : ℕ) (cs : List Float) (o : Open) (i r r' : ℕ) (bs₁ bs₂ : List Float) → Leaves s n cs o i r bs₁ → Leaves s n cs o i r' bs₂ → (r ≡ r') × (bs₁ ≡ bs₂)
+left-once s n cs o i r r' bs₁ bs₂ a b = (a .block ∙ sym (b .block), a .numbers ∙ sym (b .numbers))
+
+pub kept-once : (spec : TurnStockSpec) (n : ℕ) (cs bs : List Float) (lo hi : Float) (r r' : Seen) → RangeKept spec n cs bs lo hi r → RangeKept spec n cs bs lo hi r' → r ≡ r'
+kept-once spec n cs bs lo hi r r' a b = same-seen r r' (a .found ∙ sym (b .found))
 
 pub listed-once : (k k₁ k₂ : ℕ) (c : TurnChange) (is is₁ is₂ : List ℕ) (xs xs₁ xs₂ : List Float) → Listed k k₁ c is is₁ xs xs₁ → Listed k k₂ c is is₂ xs xs₂ → (k₁ ≡ k₂) × (is₁ ≡ is₂) × (xs₁ ≡ xs₂)
 listed-once k k₁ k₂ c is is₁ is₂ xs xs₁ xs₂ a b = (a .count ∙ sym (b .count), a .indices ∙ sym (b .indices), a .numbers ∙ sym (b .numbers))

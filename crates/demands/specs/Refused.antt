@@ -37,6 +37,7 @@ use Rattle.rings.specs.Ring.{filled, clip, left}
 use Rattle.rings.specs.Store.{extentOf, ringsOf, roomOf, countFits, finiteRing, ringsGood}
 use Rattle.rings.specs.Remove.{roomFor}
 use Rattle.moves.specs.Move.{generationAfter}
+use Rattle.blocks.specs.Block.{blocksIn, matchesOf}
 use Rattle.insert.specs.Insert.{touchAsks, erodedAsks}
 use Rattle.envelope.specs.Envelope.{pointsGood}
 use Rattle.job_words.specs.declared.Line.{Line}
@@ -224,6 +225,14 @@ moveAsks spec cs xs count g is ys k removed = stockAsks spec cs ++ (ask (leb k (
 -- ---- volume: 1, 2, 3, 4. `envelope_at` asks as a stock does.
 abbrev pub volumeAsks : TurnStockSpec → List Float → List Float → ℕ → List Asked
 volumeAsks spec cs xs k = stockAsks spec cs ++ (ask (countFits (extentOf (cleanSpec spec)) xs k) 4 ∷ [])
+
+-- a stock with its kept numbers
+abbrev pub keptAsks : TurnStockSpec → List Float → List Float → List Asked
+keptAsks spec cs bs = stockAsks spec cs ++ (ask (ofAnswer (stockOf spec cs) (λ n. matchesOf (cleanSpec spec) n cs bs)) 20 ∷ [])
+
+-- kept numbers that are worked out: two for each block
+abbrev pub renewAsks : TurnStockSpec → List Float → ℕ → List Asked
+renewAsks spec cs len = stockAsks spec cs ++ (ask (ofAnswer (stockOf spec cs) (λ n. eqb len (2 * blocksIn n))) 20 ∷ [])
 
 -- ---- envelopes: 14
 

@@ -14,7 +14,7 @@ use lib.Ieee.Bits.{is-false}
 use lib.Ieee.Back.{round-whole}
 use lib.Ieee.Exact.{HasValue}
 use lib.Ieee.Fits.{and-i, down-pos}
-use borrow.Author.Tests.{le-leb, lt-leb, leb-true}
+use borrow.Author.Tests.{le-leb, lt-leb, leb-true, ltb-true, ltb-false}
 use Rattle.floats.specs.Pick.{pick, pick-true, pick-false}
 use Rattle.floats.specs.Numbers.{zero64, one64}
 use Rattle.floats.specs.Kinds.{Number}
@@ -67,6 +67,13 @@ module _ (N D : ℕ) (D+ : 0 < D) where
       let a : (N / D + 1) * D ≡ N / D * D + D = add-mul (N / D) 1 D ∙ ap (λ (x : ℕ). N / D * D + x) (one-mul D) in
       let b : (N / D + 1 + 1) * D ≡ N / D * D + D + D = add-mul (N / D + 1) 1 D ∙ ap₂ (λ (x y : ℕ). x + y) a (one-mul D) in
       div-eq-of-lt-le D (subst (λ (x : ℕ). x ≤ N + (D - 1)) (sym a) (omega arith)) (subst (λ (x : ℕ). N + (D - 1) < x) (sym b) (omega arith))
+
+  raised-at-most : (N + (D - 1)) / D ≤ N / D + 1
+  raised-at-most = go (ltb (N / D * D) N) refl
+    where
+      go : (t : Bool) → ltb (N / D * D) N ≡ t → (N + (D - 1)) / D ≤ N / D + 1
+      go true e = le-of-eq (raised-odd (ltb-true (N / D * D) N e))
+      go false e = le-trans (le-of-eq (raised-even (ltb-false (N / D * D) N e))) (omega arith)
 
 -- ---- which q pass the tests
 -- q is not at most 0, and below 2 ^ 64
@@ -267,3 +274,37 @@ up-most q limit n = go (ceilingOf q)
     go : (o : Option ℕ) → atMost limit o ≡ some n → n ≤ limit
     go none h = let z : _≡_ {A = ℕ} 0 1 = cc in absurd (omega arith)
     go (some m) h = kept m (leb m limit) refl h
+
+-- ---- both of them
+
+-- the whole part of what is at most 0 is 0
+pub part-low : (q : Float) → T (fits binary64 q) → T (le q zero64) → wholePart q ≡ 0
+unfolding toUnsigned
+part-low nan h l = refl
+part-low (inf true) h l = refl
+part-low (inf false) h l = absurd (unfold le lt eq ofBits ofFields odd in l)
+part-low (fin true m e) h l = refl
+part-low (fin false m e) h l =
+    let z = zero-size m e h (subst (λ (x : Float). T (le (fin false m e) x)) zero-is l) in
+    ap (λ (n : ℕ). min (n / down e) (2 ^ 64 - 1)) z ∙ ap (λ (n : ℕ). min n (2 ^ 64 - 1)) (div-eq-of-lt (down-pos e)) ∙ (omega arith)
+
+-- the least whole number at or above q is at most one more than the whole part
+pub up-part : (q : Float) (limit n : ℕ) → limit < 2 ^ 64 → wholeUp q limit ≡ some n → n ≤ wholePart q + 1
+unfolding wholeUp toUnsigned
+up-part q limit n l e = go q e (up-most q limit n e)
+  where
+    never : _≡_ {A = Option ℕ} none (some n) → ⊥
+    never h = let z : _≡_ {A = ℕ} 0 1 = cc in omega arith
+
+    is : (k : ℕ) (t : Bool) → pick t (some k) none ≡ some n → k ≡ n
+    is k true e = let s : some k ≡ some n = sym (pick-true true (some k) none refl) ∙ e in cc
+    is k false e = absurd (never (sym (pick-false false (some k) none refl) ∙ e))
+
+    go : (x : Float) → atMost limit (ceilingOf x) ≡ some n → n ≤ limit → n ≤ wholePart x + 1
+    go nan h m = absurd (never h)
+    go (inf s) h m = absurd (never h)
+    go (fin true k e) h m = let z = is 0 (leb 0 limit) h in omega arith
+    go (fin false k e) h m =
+        let z = is ((k * up e + (down e - 1)) / down e) (leb ((k * up e + (down e - 1)) / down e) limit) h in
+        let r = raised-at-most (k * up e) (down e) (down-pos e) in
+        omega arith

@@ -4,20 +4,19 @@ use mathlib.Core.Bool.{Bool, true, false}
 use mathlib.Core.List.{List}
 use mathlib.Core.Logic.{_⊎_, inl, inr}
 use mathlib.Core.Option.{Option, none, some}
-use Prim.Native.Nat.{ℕ, zero, suc, _+_, _-_, _≤_, _<_}
+use Prim.Native.Nat.{ℕ, zero, suc, _+_, _-_}
 use native.Mathlib.Omega.{arith}
 use lib.Dec.{T, ltb}
 use lib.Ieee.{Float, lt, le, isNan}
 use borrow.Author.Tests.{ltb-true, ltb-false}
-use Rattle.floats.specs.Pick.{pick, pick-true, pick-false}
+use Rattle.floats.specs.Pick.{pick, pick-true}
 use Rattle.floats.specs.Numbers.{leastOf, greatestOf}
-use Rattle.stock.specs.declared.TurnCell.{TurnCell}
 use Rattle.stock.specs.Cell.{cellAt}
 use Rattle.rings.proofs.Anywhere.{le-chain}
-use Rattle.rings.proofs.Edges.{of-true, lt-number-l, lt-number-r, le-same, lt-le-chain, le-lt-chain, least-under, greatest-over}
+use Rattle.rings.proofs.Edges.{of-true, lt-number-l, lt-number-r, le-same, least-under, greatest-over}
 use Rattle.queries.specs.declared.Band.{Band}
-use Rattle.queries.specs.Material.{band, mostOf}
-use Rattle.queries.specs.Envelope.{shownOf, together, mostOver}
+use Rattle.queries.specs.Material.{mostOf}
+use Rattle.queries.specs.Envelope.{shownOf, joinOf, together, mostOver}
 use Rattle.queries.specs.Looked.{Holds, Nested, Most}
 
 -- ---- a band that is shown
@@ -58,16 +57,11 @@ record Thick (b : Band) : Type 0 where
 thick : (b c : Band) → shownOf b ≡ some c → Thick c
 thick b c e = record { bore = bore-number b c e; outer = outer-number b c e }
 
-joined : Band → Band → Band
-joined a b = band (leastOf (a .bore) (b .bore)) (greatestOf (a .outer) (b .outer))
-
 module _ {a b : Band} (ta : Thick a) (tb : Thick b) where
-  first-nested : Nested a (joined a b)
-  unfolding joined
+  first-nested : Nested a (joinOf a b)
   first-nested = record { bore = least-under (a .bore) (b .bore) (ta .bore) (tb .bore) .0; outer = greatest-over (a .outer) (b .outer) (ta .outer) (tb .outer) .0 }
 
-  second-nested : Nested b (joined a b)
-  unfolding joined
+  second-nested : Nested b (joinOf a b)
   second-nested = record { bore = least-under (a .bore) (b .bore) (ta .bore) (tb .bore) .1; outer = greatest-over (a .outer) (b .outer) (ta .outer) (tb .outer) .1 }
 
 either : (P : Float → Type 0) (t : Bool) (x y : Float) → P x → P y → P (pick t x y)
@@ -76,16 +70,16 @@ either P true x y p q = p
 either P false x y p q = q
 
 -- the joined band has the bore of one of them and the outer radius of one of them
-bore-of : (a b : Band) → (a .bore ≡ joined a b .bore) ⊎ (b .bore ≡ joined a b .bore)
-unfolding joined leastOf pick
+bore-of : (a b : Band) → (a .bore ≡ joinOf a b .bore) ⊎ (b .bore ≡ joinOf a b .bore)
+unfolding leastOf pick
 bore-of a b = go (lt (b .bore) (a .bore))
   where
     go : (t : Bool) → (a .bore ≡ pick t (b .bore) (a .bore)) ⊎ (b .bore ≡ pick t (b .bore) (a .bore))
     go true = inr refl
     go false = inl refl
 
-outer-of : (a b : Band) → (a .outer ≡ joined a b .outer) ⊎ (b .outer ≡ joined a b .outer)
-unfolding joined greatestOf pick
+outer-of : (a b : Band) → (a .outer ≡ joinOf a b .outer) ⊎ (b .outer ≡ joinOf a b .outer)
+unfolding greatestOf pick
 outer-of a b = go (lt (a .outer) (b .outer))
   where
     go : (t : Bool) → (a .outer ≡ pick t (b .outer) (a .outer)) ⊎ (b .outer ≡ pick t (b .outer) (a .outer))
@@ -186,7 +180,7 @@ module _ (cs : List Float) (a k : ℕ) where
     there : Holds cs a (suc k) bin of
     same : f of ≡ x
 
-  both-shown : (u v : Band) → Most cs a k u → shownOf (mostOf (cellAt cs (a + k))) ≡ some v → Most cs a (suc k) (joined u v)
+  both-shown : (u v : Band) → Most cs a k u → shownOf (mostOf (cellAt cs (a + k))) ≡ some v → Most cs a (suc k) (joinOf u v)
   both-shown u v m q = record {
     bore-bin = low .bin;
     bore-band = low .of;
@@ -198,7 +192,7 @@ module _ (cs : List Float) (a k : ℕ) where
     outer-same = high .same;
     within = λ i c h. among cs a k h
         (λ n. nested-chain (m .within i c n) (first-nested tu tv))
-        (λ s. subst (λ (w : Band). Nested w (joined u v)) (some-is (sym q ∙ s)) (second-nested tu tv));
+        (λ s. subst (λ (w : Band). Nested w (joinOf u v)) (some-is (sym q ∙ s)) (second-nested tu tv));
   }
     where
       tu : Thick u
@@ -207,13 +201,13 @@ module _ (cs : List Float) (a k : ℕ) where
       tv : Thick v
       tv = thick _ v q
 
-      low : Side (λ (b : Band). b .bore) (joined u v .bore)
+      low : Side (λ (b : Band). b .bore) (joinOf u v .bore)
       low = elim (bore-of u v) [
         | inl e ↦ record { bin = m .bore-bin; of = m .bore-band; there = one-more cs a k (m .bore-there); same = m .bore-same ∙ e }
         | inr e ↦ record { bin = a + k; of = v; there = last-one cs a k q; same = e }
       ]
 
-      high : Side (λ (b : Band). b .outer) (joined u v .outer)
+      high : Side (λ (b : Band). b .outer) (joinOf u v .outer)
       high = elim (outer-of u v) [
         | inl e ↦ record { bin = m .outer-bin; of = m .outer-band; there = one-more cs a k (m .outer-there); same = m .outer-same ∙ e }
         | inr e ↦ record { bin = a + k; of = v; there = last-one cs a k q; same = e }
@@ -221,7 +215,7 @@ module _ (cs : List Float) (a k : ℕ) where
 
 -- what it shows is the most of the bins that hold material
 pub walk-most : (cs : List Float) (a k : ℕ) (b : Band) → mostOver cs a k ≡ some b → Most cs a k b
-unfolding mostOver together joined
+unfolding mostOver together
 walk-most cs a zero b e = none-not e
 walk-most cs a (suc k) b e = go (walk-most cs a k) (mostOver cs a k) refl (shownOf (mostOf (cellAt cs (a + k)))) refl e
   where
@@ -230,3 +224,56 @@ walk-most cs a (suc k) b e = go (walk-most cs a k) (mostOver cs a k) refl (shown
     go w none p (some v) q f = subst (λ (z : Band). Most cs a (suc k) z) (some-is f) (only-last cs a k v p q)
     go w (some u) p none q f = subst (λ (z : Band). Most cs a (suc k) z) (some-is f) (not-last cs a k u (w u p) q)
     go w (some u) p (some v) q f = subst (λ (z : Band). Most cs a (suc k) z) (some-is f) (both-shown cs a k u v (w u p) q)
+
+-- an answer, or none
+pub data Case (x : Option Band) : Type 0 where
+  nothing : x ≡ none → Case x
+  found : (b : Band) → x ≡ some b → Case x
+
+pub case : (x : Option Band) → Case x
+case none = nothing refl
+case (some b) = found b refl
+
+-- where each bin with material of one walk has one of another about it, what the one shows lies within what the other shows
+pub walk-within : (cs cs' : List Float) (a k a' k' : ℕ) → ((i : ℕ) (c : Band) → Holds cs a k i c → (d : Band) × Holds cs' a' k' i d × Nested c d) → (b : Band) → mostOver cs a k ≡ some b → (b' : Band) × (mostOver cs' a' k' ≡ some b') × Nested b b'
+walk-within cs cs' a k a' k' about b e = elim (case (mostOver cs' a' k')) [
+  | nothing p ↦ let h = about (m .bore-bin) (m .bore-band) (m .bore-there) in absurd (walk-none cs' a' k' p (m .bore-bin) (h .0) (h .1))
+  | found b' p ↦
+      let w = walk-most cs' a' k' b' p in
+      let u = about (m .bore-bin) (m .bore-band) (m .bore-there) in
+      let v = about (m .outer-bin) (m .outer-band) (m .outer-there) in (
+        b',
+        p,
+        record {
+          bore = subst (λ (x : Float). T (le (b' .bore) x)) (m .bore-same) (nested-chain (u .2) (w .within (m .bore-bin) (u .0) (u .1)) .bore);
+          outer = subst (λ (x : Float). T (le x (b' .outer))) (m .outer-same) (nested-chain (v .2) (w .within (m .outer-bin) (v .0) (v .1)) .outer);
+        },
+      )
+]
+  where
+    m : Most cs a k b
+    m = walk-most cs a k b e
+
+-- ---- a walk that is asked where a test holds
+module _ (t : Bool) (cs : List Float) (a k : ℕ) where
+  -- an answer is the most of its bins
+  pub asked-most : (b : Band) → pick t (mostOver cs a k) none ≡ some b → (t ≡ true) × Most cs a k b
+  unfolding pick
+  asked-most b e = go t refl e
+    where
+      go : (u : Bool) → t ≡ u → pick u (mostOver cs a k) none ≡ some b → (t ≡ true) × Most cs a k b
+      go true p q = (p, walk-most cs a k b q)
+      go false p q = none-not q
+
+  -- it shows nothing where none of its bins holds material
+  pub asked-none : pick t (mostOver cs a k) none ≡ none → t ≡ true → (i : ℕ) (c : Band) → Holds cs a k i c → ⊥
+  asked-none e p = walk-none cs a k (sym (pick-true _ _ _ p) ∙ e)
+
+  -- and where none does, and where it is not asked
+  pub none-asked : (t ≡ true → (i : ℕ) (c : Band) → Holds cs a k i c → ⊥) → pick t (mostOver cs a k) none ≡ none
+  unfolding pick
+  none-asked f = go t refl
+    where
+      go : (u : Bool) → t ≡ u → pick u (mostOver cs a k) none ≡ none
+      go true p = none-walk cs a k (f p)
+      go false p = refl

@@ -12,7 +12,7 @@ use lib.Ieee.{Float, lt, le, isNan}
 use lib.Ieee.Bits.{is-true}
 use borrow.Author.Tests.{ltb-true, ltb-false}
 use Rattle.refusals.specs.Paper.{answers}
-use Rattle.floats.specs.Pick.{pick, pick-true, pick-false}
+use Rattle.floats.specs.Pick.{pick, pick-true}
 use Rattle.floats.specs.Numbers.{minusZero}
 use Rattle.stock.specs.declared.TurnStockSpec.{TurnStockSpec}
 use Rattle.stock.specs.declared.RadiusBounds.{RadiusBounds}
@@ -22,7 +22,7 @@ use Rattle.stock.specs.Bin.{binOf}
 use Rattle.stock.specs.Cell.{cellAt, cellFits, pairFits, stockOf}
 use Rattle.stock.proofs.Count.{and-both, stocked, checked}
 use Rattle.stock.proofs.EachFits.{stock-fits}
-use Rattle.rings.proofs.Anywhere.{le-chain, le-number-l, le-number-r}
+use Rattle.rings.proofs.Anywhere.{le-number-l, le-number-r}
 use Rattle.rings.proofs.Edges.{of-true, le-same, lt-le-chain, le-lt-chain}
 use Rattle.queries.specs.declared.Band.{Band}
 use Rattle.queries.specs.Material.{mostOf}
@@ -30,7 +30,7 @@ use Rattle.queries.specs.Envelope.{inRange, binAt, holdsZ, firstAt, last
 use Rattle.queries.specs.Looked.{Holds, Nested, Most}
 use Rattle.queries.proofs.Walks.{first-near, last-over, last-near, first-start, first-before, first-alone, last-end, last-behind, last-alone}
 use Rattle.queries.proofs.Envelopes.{shown-band}
-use Rattle.queries.proofs.Looks.{shown-is, shown-thick, nested-chain, walk-none, none-walk, walk-most}
+use Rattle.queries.proofs.Looks.{shown-is, shown-thick, nothing, found, case, walk-within, asked-most, asked-none, none-asked}
 
 -- how many bins are looked at, from firstAt on
 abbrev pub looked : TurnStockSpec → ℕ → Float → ℕ
@@ -39,40 +39,23 @@ looked s n z = lastAt s n z - firstAt s n z + 1
 none-not : {A : Type 0} {x : Band} → _≡_ {A = Option Band} none (some x) → A
 none-not e = let y : _≡_ {A = ℕ} 0 1 = cc in absurd (omega arith)
 
--- an answer, or none
-data Case (x : Option Band) : Type 0 where
-  nothing : x ≡ none → Case x
-  found : (b : Band) → x ≡ some b → Case x
-
-case : (x : Option Band) → Case x
-case none = nothing refl
-case (some b) = found b refl
-
 module _ (s : TurnStockSpec) (n : ℕ) (cs : List Float) (z : Float) where
   -- ---- exactly what the bins that are looked at show
 
   -- an answer is the most of them, at a height within the stock
   pub seen-most : (b : Band) → seenAt s n cs z ≡ some b → (inRange s z ≡ true) × Most cs (firstAt s n z) (looked s n z) b
-  unfolding seenAt pick
-  seen-most b e = go (inRange s z) refl e
-    where
-      go : (t : Bool) → inRange s z ≡ t → pick t (mostOver cs (firstAt s n z) (looked s n z)) none ≡ some b → (inRange s z ≡ true) × Most cs (firstAt s n z) (looked s n z) b
-      go true p q = (p, walk-most cs (firstAt s n z) (looked s n z) b q)
-      go false p q = none-not q
+  unfolding seenAt
+  seen-most = asked-most (inRange s z) cs (firstAt s n z) (looked s n z)
 
   -- nothing is seen within the stock where none of them holds material
   pub seen-none : seenAt s n cs z ≡ none → inRange s z ≡ true → (i : ℕ) (c : Band) → Holds cs (firstAt s n z) (looked s n z) i c → ⊥
   unfolding seenAt
-  seen-none e p = walk-none cs (firstAt s n z) (looked s n z) (sym (pick-true _ _ _ p) ∙ e)
+  seen-none = asked-none (inRange s z) cs (firstAt s n z) (looked s n z)
 
   -- and where none does, and outside, nothing is seen
   pub none-seen : (inRange s z ≡ true → (i : ℕ) (c : Band) → Holds cs (firstAt s n z) (looked s n z) i c → ⊥) → seenAt s n cs z ≡ none
-  unfolding seenAt pick
-  none-seen f = go (inRange s z) refl
-    where
-      go : (t : Bool) → inRange s z ≡ t → pick t (mostOver cs (firstAt s n z) (looked s n z)) none ≡ none
-      go true p = none-walk cs (firstAt s n z) (looked s n z) (f p)
-      go false p = refl
+  unfolding seenAt
+  none-seen = none-asked (inRange s z) cs (firstAt s n z) (looked s n z)
 
   -- ---- beside the bin of z alone
 
@@ -226,28 +209,9 @@ module _ (cs cs' : List Float) where
 
   -- so a walk over the same bins shows nothing, or a band within the one before
   pub walk-less : (a k : ℕ) → ((i : ℕ) → a ≤ i → i < a + k → Less (cellAt cs i) (cellAt cs' i)) → (b' : Band) → mostOver cs' a k ≡ some b' → (b : Band) × (mostOver cs a k ≡ some b) × Nested b' b
-  walk-less a k f b' e = elim (case (mostOver cs a k)) [
-    | nothing p ↦ let h = before (m .bore-bin) (m .bore-band) (m .bore-there) in absurd (walk-none cs a k p (m .bore-bin) _ (h .0))
-    | found b p ↦
-        let w = walk-most cs a k b p in
-        let u = before (m .bore-bin) (m .bore-band) (m .bore-there) in
-        let v = before (m .outer-bin) (m .outer-band) (m .outer-there) in (
-          b,
-          p,
-          record {
-            bore = subst (λ (x : Float). T (le (b .bore) x)) (m .bore-same) (nested-chain (u .1) (w .within (m .bore-bin) _ (u .0)) .bore);
-            outer = subst (λ (x : Float). T (le x (b .outer))) (m .outer-same) (nested-chain (v .1) (w .within (m .outer-bin) _ (v .0)) .outer);
-          },
-        )
-  ]
-    where
-      m : Most cs' a k b'
-      m = walk-most cs' a k b' e
-
-      before : (i : ℕ) (c : Band) → Holds cs' a k i c → Holds cs a k i (mostOf (cellAt cs i)) × Nested c (mostOf (cellAt cs i))
-      before i c h =
-          let q = held-before i c (f i (h .from) (h .to)) (h .shown) in
-          (record { from = h .from; to = h .to; shown = q .0 }, q .1)
+  walk-less a k f = walk-within cs' cs a k a k (λ i c h.
+      let q = held-before i c (f i (h .from) (h .to)) (h .shown) in
+      (mostOf (cellAt cs i), record { from = h .from; to = h .to; shown = q .0 }, q .1))
 
   -- and at a height nothing is seen, or a band within the one before
   pub seen-less : (s : TurnStockSpec) (n : ℕ) (z : Float) → 0 < n → ((i : ℕ) → i < n → Less (cellAt cs i) (cellAt cs' i)) → (b' : Band) → seenAt s n cs' z ≡ some b' → (b : Band) × (seenAt s n cs z ≡ some b) × Nested b' b

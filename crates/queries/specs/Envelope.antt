@@ -56,11 +56,15 @@ binsAt s n z = record { first = firstAt s n z; last = lastAt s n z }
 unfoldable pub shownOf : Band → Option Band
 shownOf b = pick (lt (b .bore) (b .outer)) (some b) none
 
--- of two, each there or not: the least bore and the greatest outer radius of what is there
+-- of two bands the least bore and the greatest outer radius
+abbrev pub joinOf : Band → Band → Band
+joinOf a b = band (leastOf (a .bore) (b .bore)) (greatestOf (a .outer) (b .outer))
+
+-- of two, each there or not, the same of what is there
 unfoldable pub together : Option Band → Option Band → Option Band
 together none b = b
 together (some a) none = some a
-together (some a) (some b) = some (band (leastOf (a .bore) (b .bore)) (greatestOf (a .outer) (b .outer)))
+together (some a) (some b) = some (joinOf a b)
 
 -- the most over k bins, from bin a on
 unfoldable pub mostOver : List Float → ℕ → ℕ → Option Band

@@ -140,7 +140,7 @@ pub fn bins_at(s: TurnStockSpec, n: usize, z: f64) -> BinSpan
 }
 
 // A band, if it has material.
-fn shown(b: Band) -> Seen
+pub fn shown(b: Band) -> Seen
     ensures { λ r. ⌜ seenPaper r ≡ answers (shownOf b) ⌝ }
 {
     if b.bore < b.outer {

@@ -41,6 +41,8 @@ pub enum Refusal {
     ProfileOutside,
     // 18: ten halvings do not reach the tolerance, or more chords than the lent room
     ChordsOutgrow,
+    // 20: lent block numbers do not match the cells
+    BlocksDoNotMatch,
 }
 
 // 01's number of a refusal.
@@ -65,6 +67,7 @@ pub fn number(r: Refusal) -> u32
         Refusal::LineMalformed => 15,
         Refusal::ProfileOutside => 17,
         Refusal::ChordsOutgrow => 18,
+        Refusal::BlocksDoNotMatch => 20,
     }
 }
 
@@ -82,5 +85,8 @@ pub const PROFILE_LIMIT: usize = 256;
 pub const RING_LIMIT: usize = 256;
 
 pub const PIECE_LIMIT: usize = 256;
+
+// Bins a block, of Req 09: the bins that one pair of kept numbers stands for.
+pub const BLOCK: usize = 64;
 
 pub const LAST_GENERATION: u64 = 0xffff_ffff_ffff_ffff;

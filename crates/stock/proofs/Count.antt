@@ -47,6 +47,7 @@ pub record Checked (spec : TurnStockSpec) (n : ℕ) : Type 0 where
   pub some-cells : 0 < n
   pub few : n ≤ cellLimit
   pub most : n ≤ spec .«max_cells»
+  pub whole : wholeUp (quotient (cleanSpec spec)) cellLimit ≡ some n
 
 pub checked : (spec : TurnStockSpec) (n : ℕ) → cellsOf spec ≡ answers n → Checked spec n
 unfolding cellsOf cleanSpec
@@ -61,7 +62,7 @@ checked spec n h =
         let d = demanded (not (eqb m 0) && leb m (spec .«max_cells»)) 2 (answers m) n k in
         let b = and-both (not (eqb m 0)) (leb m (spec .«max_cells»)) (d .0) in
         let s : m ≡ n = same-answer (d .1) in
-        subst (λ (i : ℕ). Checked spec i) s (record { good = g; some-cells = not-zero m (b .0); few = up-most (quotient (cleanSpec spec)) cellLimit m e; most = leb-true m (spec .«max_cells») (b .1) })
+        subst (λ (i : ℕ). Checked spec i) s (record { good = g; some-cells = not-zero m (b .0); few = up-most (quotient (cleanSpec spec)) cellLimit m e; most = leb-true m (spec .«max_cells») (b .1); whole = e })
 
 seventh : (a b c d e f g h i : Bool) → (a && b && c && d && e && f && g && h && i) ≡ true → g ≡ true
 seventh a b c d e f g h i t = and-both (a && b && c && d && e && f) g (and-both (a && b && c && d && e && f && g) h (and-both (a && b && c && d && e && f && g && h) i t .0) .0) .1

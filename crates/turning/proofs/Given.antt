@@ -7,6 +7,8 @@ use lib.ListN.{length}
 use lib.Ieee.{Float}
 use borrow.Author.Tests.{eq-eqb, ne-eqb}
 use Rattle.floats.specs.Pick.{picks}
+use Rattle.refusals.specs.declared.Refusal.{Refusal}
+use Rattle.refusals.specs.Number.{numberOf, reasonOf}
 use Rattle.refusals.specs.Paper.{Paper, answers, refuses, only, onward}
 use Rattle.stock.specs.declared.TurnStockSpec.{TurnStockSpec}
 use Rattle.stock.specs.declared.TurnChange.{TurnChange}
@@ -35,6 +37,10 @@ use Rattle.moves.specs.declared.Moved.{Moved}
 use Rattle.moves.specs.Move as Move
 use Rattle.moves.specs.Move.{Left, movedPaper, Moves}
 use Rattle.turning.specs.Boundary.{codeOf, outOf, Gives, GivesBin, GivesCells, GivesChanges, GivesStock, bySide, GivesTwo, GivesRings, GivesMove, GivesStore, GivesChords, GivesFound, GivesFoundTwo}
+
+-- a refusal hands out its number and nothing else, whatever its number is
+pub gives-refused : {A : Type 0} (p : Paper A) (c : Refusal) (r : ℕ) (x : A) → p ≡ refuses (reasonOf c) → r ≡ numberOf c → Gives p r x x
+gives-refused {A} p c r x e h = record { code = h ∙ ap codeOf (sym e); out = ap (λ (q : Paper A). outOf (λ (a : A). a) q x) (sym e) }
 
 -- an answer that says what the rule says
 pub gives : {A : Type 0} (p q : Paper A) (r : ℕ) (x x' : A) → p ≡ q → Gives p r x x' → Gives q r x x'

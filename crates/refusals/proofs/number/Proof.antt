@@ -54,10 +54,14 @@ returns-16 c = simp (c .enum-told16 .given .1)
 returns-17 : tie.Need-returns-17
 returns-17 c = simp (c .enum-told17 .given .1)
 
+returns-18 : tie.Need-returns-18
+returns-18 c = simp (c .enum-told18 .given .1)
+
 pub number-spec : {M : Type 1} → statement M
 number-spec =
     tie.close
     (tie.spec
+    (λ c. search needs)
     (λ c. search needs)
     (λ c. search needs)
     (λ c. search needs)
@@ -91,4 +95,5 @@ number-spec =
     returns-14
     returns-15
     returns-16
-    returns-17)
+    returns-17
+    returns-18)

@@ -1,0 +1,12 @@
+pub mod Steps
+pub mod Renewing
+pub mod Split
+pub mod Walks
+pub mod Kept
+pub mod Afresh
+pub mod Touched
+pub mod Stocks
+pub mod Ranges
+pub mod Laws
+pub mod Whole
+pub mod Tested
