@@ -12,6 +12,7 @@ mod insert;
 pub mod numbers;
 pub mod profile;
 pub mod queries;
+pub mod ranges;
 pub mod rings;
 pub mod stock;
 
@@ -33,6 +34,7 @@ pub const GENERATION: u32 = 12;
 pub const ENVELOPE: u32 = 14;
 pub const PROFILE: u32 = 17;
 pub const CHORDS: u32 = 18;
+pub const BLOCKS: u32 = 20;
 
 /// Document 01's limits, and those of Req 07 of 02: a nose's segments and a profile's points.
 pub const MILLION: f64 = 1e6;

@@ -38,16 +38,27 @@ pub fn most_at(
         assert_eq!(own, None);
         return None;
     }
+    let (first, last) = looked(spec, n, z, bin);
+    if first == last {
+        return own.map(|(bore, outer)| vec![clean(bore), clean(outer)]);
+    }
+    walk((first..=last).map(cell))
+}
+
+/// The first and the last bin that are looked at for a z within the stock: the bin of z, and a
+/// neighbour on either side whose closed range holds z.
+pub fn looked(spec: &Spec, n: usize, z: f64, bin: impl Fn(usize) -> [f64; 2]) -> (usize, usize) {
     let i = (((z - spec.z_min) / spec.cell) as usize).min(n - 1);
     let holds = |j: usize| bin(j)[0] <= z && z <= bin(j)[1];
     let before = i > 0 && holds(i - 1);
     let behind = i + 1 < n && holds(i + 1);
-    if !before && !behind {
-        return own.map(|(bore, outer)| vec![clean(bore), clean(outer)]);
-    }
+    (i - before as usize, i + behind as usize)
+}
+
+/// Of the cells that hold material the least bore and the greatest outer radius.
+pub fn walk(cells: impl Iterator<Item = [f64; 4]>) -> Option<Vec<f64>> {
     let mut most: Option<Vec<f64>> = None;
-    for j in i - before as usize..=i + behind as usize {
-        let [_, outer, bore, _] = cell(j);
+    for [_, outer, bore, _] in cells {
         if outer > bore {
             let [b, o] = most.map_or([bore, outer], |m| [m[0], m[1]]);
             most = Some(vec![b.min(bore), o.max(outer)]);
