@@ -199,6 +199,9 @@ fn cut_file(i: usize) {
 }
 
 fn main() {
+    if !streams::hold_standard() {
+        return;
+    }
     let n = os::arg_count();
     let mut i: usize = 1;
     while i < n {

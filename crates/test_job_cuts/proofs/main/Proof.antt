@@ -19,6 +19,8 @@ main-spec =
     (λ c κs. search needs)
     (λ c. tt)
     (λ c κs. search needs)
+    (λ c. tt)
+    (λ c κs. search needs)
     (λ c. search needs)
     (λ c. search needs)
     (λ c. tt)
