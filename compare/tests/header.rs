@@ -2,7 +2,6 @@
 //! each parameter's name and type, in order. Every call is compared and timed, and needs no more stack than the header says.
 use compare::bench;
 use compare::generate::{FAMILIES, Rng, family};
-use compare::jobs::parts;
 use compare::stack;
 use std::collections::{BTreeMap, BTreeSet};
 
@@ -90,16 +89,31 @@ fn number(name: &str) -> &str {
     }
 }
 
-/// The arrays that are lent have these lengths.
+/// The text of each source file of a crate.
+fn sources(krate: &str) -> Vec<String> {
+    let folder = format!("crates/{krate}/src");
+    let files = std::fs::read_dir(format!("{}/../{folder}", env!("CARGO_MANIFEST_DIR")));
+    let names = files.unwrap().map(|f| f.unwrap().file_name());
+    names
+        .map(|n| read(&format!("{folder}/{}", n.to_str().unwrap())))
+        .collect()
+}
+
+/// A length, or the constant of the code that is one: a number, or a product of numbers and constants.
 fn array_length(name: &str) -> usize {
-    match name {
-        "WORDS" => 8,
-        "BAR" => 5,
-        "CELL_NUMBERS" => 2048,
-        "RING_NUMBERS" => 256,
-        "LINE_LIMIT" | "LINE_ROOM" => 128,
-        other => other.parse().expect("a length"),
+    if let Ok(length) = name.parse() {
+        return length;
     }
+    let mark = format!("const {name}: usize = ");
+    let mut found = vec![];
+    for krate in ["turning", "job_run", "job_words", "text"] {
+        for text in sources(krate) {
+            let values = text.split(&mark).skip(1);
+            found.extend(values.map(|v| v.split(';').next().unwrap().to_string()));
+        }
+    }
+    assert_eq!(found.len(), 1, "{name} is defined once");
+    found[0].split(" * ").map(array_length).product()
 }
 
 /// An array of a fixed length as C has it, lent to be written or (`const `) to be read.
@@ -142,11 +156,8 @@ fn of_code(text: &str) -> Vec<String> {
 
 /// The exported functions of crate `turning`.
 fn code() -> Calls {
-    let folder = concat!(env!("CARGO_MANIFEST_DIR"), "/../crates/turning/src");
     let mut calls = Calls::new();
-    for entry in std::fs::read_dir(folder).unwrap() {
-        let name = entry.unwrap().file_name();
-        let text = read(&format!("crates/turning/src/{}", name.to_str().unwrap()));
+    for text in sources("turning") {
         for part in text.split("pub extern \"C\" fn ").skip(1) {
             let (_, name, list, after) = lists(part)[0];
             let parameters = list.split(',').map(words).filter(|p| !p.is_empty());
@@ -239,6 +250,15 @@ fn the_library_is_called_as_the_header_declares() {
     assert_eq!(library(), header());
 }
 
+/// The calls of a job that src/jobs/parts.rs makes.
+fn called_in_parts() -> Vec<String> {
+    let text = read("compare/src/jobs/parts.rs");
+    let calls = lists(&text).into_iter();
+    calls
+        .map(|(_, name, ..)| name.strip_prefix("turning_").unwrap().to_string())
+        .collect()
+}
+
 #[test]
 fn every_call_is_compared() {
     let mut made = BTreeSet::new();
@@ -246,16 +266,18 @@ fn every_call_is_compared() {
         let (make, mut rng) = (family(name).unwrap(), Rng::new(1));
         made.extend((0..100).map(|_| make(&mut rng).name().to_string()));
     }
-    made.extend(parts::NAMES.map(String::from));
+    made.extend(called_in_parts());
     assert_eq!(made, declared());
 }
 
 #[test]
 fn every_call_is_timed() {
-    let timed: BTreeSet<String> = bench::names()
-        .chain(parts::NAMES)
-        .map(String::from)
-        .collect();
+    let mut timed: BTreeSet<String> = bench::names().map(String::from).collect();
+    // jobs are timed in parts, by the calls that parts.rs makes
+    let parts = read("compare/src/jobs/bench.rs");
+    if parts.contains("answered(input.chunks(size))") {
+        timed.extend(called_in_parts());
+    }
     assert_eq!(timed, declared());
 }
 
@@ -285,7 +307,10 @@ fn stacks() -> BTreeMap<String, usize> {
 fn no_call_needs_more_stack_than_the_header_says() {
     let said = stacks();
     assert_eq!(said.keys().cloned().collect::<BTreeSet<_>>(), declared());
-    for (name, bytes) in stack::most(200, 1) {
+    let most = stack::most(200, 1);
+    let measured: BTreeSet<String> = most.keys().map(|n| n.to_string()).collect();
+    assert_eq!(measured, declared());
+    for (name, bytes) in most {
         assert!(
             bytes <= 1024 * said[name],
             "turning_{name} needs {bytes} bytes of stack"

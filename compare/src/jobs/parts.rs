@@ -8,9 +8,6 @@ use crate::library::c::{turning_job_finish, turning_job_output, turning_job_take
 use crate::run::{SHOWN, Source};
 use crate::stack::used_by;
 
-/// The calls that are compared here.
-pub const NAMES: [&str; 3] = ["job_take", "job_finish", "job_output"];
-
 /// So many bytes a part has.
 const SIZES: [usize; 9] = [0, 1, 2, 3, 7, 127, 128, 129, 4096];
 
