@@ -17,6 +17,7 @@ pub mod JobOrder
 pub mod Once
 pub mod Profile
 pub mod Sees
+pub mod SeenCalls
 pub mod NoseAnswers
 pub mod Cells
 pub mod JobHeld

@@ -1,6 +1,6 @@
 -- What is seen at a height, said of the calls (Req 05). Crate `queries` has what an answer says of the bins that are looked at: `proofs/Sights`. `seen-more`: never less than in the bin
 -- of z alone; `seen-most`, `seen-none`, `none-seen`: exactly the most of them, and nothing exactly where none holds material; `seen-band`: a band of the stock; `seen-same`: where no
--- neighbour holds z, as in the bin of z alone; `seen-edge`: on an edge both bins count. Assumes nothing.
+-- neighbour holds z, as in the bin of z alone; `seen-edge`: on an edge both bins count. `proofs/SeenCalls` says them of the rule that the call promises. Assumes nothing.
 use mathlib.Core.Path.{_≡_, refl, sym, ap, _∙_, subst}
 use mathlib.Core.Bool.{true, _&&_}
 use mathlib.Core.List.{List}

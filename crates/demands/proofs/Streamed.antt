@@ -9,8 +9,8 @@ use lib.ListN.{length}
 use lib.Ieee.{Float}
 use Rattle.lines.specs.File.{joined}
 use Rattle.job_words.specs.Kind.{maxCells}
-use Rattle.job_run.specs.Run.{state, freshRun, maxRings, outputOf, jobOf}
-use Rattle.job_run.specs.InParts.{Answered}
+use Rattle.job_run.specs.Run.{state, freshRun, Hold, maxRings, outputOf, jobOf}
+use Rattle.job_run.specs.InParts.{Took, Answered}
 use Rattle.job_run.proofs.Streamed as calls
 
 -- THE ANSWER AFTER THE LAST BYTE IS THE ONE FOR THE WHOLE FILE, however it was cut and whatever the lent room held: that of the file in any other room.
@@ -25,3 +25,7 @@ same-answer a b e = calls.same-file-same-answer a b e
 -- ONLY THE UNFINISHED LINE IS HELD OVER: 127 bytes at most, which with its newline are the 128 of a line.
 pub held-over : {ps : List (List ℕ)} {s : List ℕ} (a : Answered ps s) → a .left .len ≤ 127
 held-over a = calls.held-at-most (a .took) (omega arith)
+
+-- A REFUSED LINE IS THE LAST: whatever parts `take_part` is handed after a refusal, the run with its number and line, the cells, the rings and the lent line stay as it left them.
+pub refused-stays : {h k : Hold} {ps : List (List ℕ)} → Took h ps k → (h .state .run .refused ≡ 0 → ⊥) → k ≡ h
+refused-stays t r = calls.refused-stays t r

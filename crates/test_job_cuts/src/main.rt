@@ -8,6 +8,7 @@ use job_run::LINE_LIMIT;
 use job_run::RING_NUMBERS;
 use job_run::Run;
 use job_run::Taken;
+use stock::TurnStockSpec;
 
 // Files are cut to so many bytes.
 const MOST: usize = 4096;
@@ -90,11 +91,22 @@ fn same_numbers(a: &[f64], b: &[f64]) -> bool {
     same
 }
 
+// Whether two specs are the same; no number of a job is a NaN.
+fn same_spec(a: TurnStockSpec, b: TurnStockSpec) -> bool {
+    (a.z_min_mm == b.z_min_mm)
+        & (a.z_max_mm == b.z_max_mm)
+        & (a.outer_radius_mm == b.outer_radius_mm)
+        & (a.bore_radius_mm == b.bore_radius_mm)
+        & (a.cell_mm == b.cell_mm)
+        & (a.max_cells == b.max_cells)
+}
+
 // Whether two runs are the same.
 fn same_run(a: Run, b: Run) -> bool {
     let j = a.job;
     let k = b.job;
-    (a.lines == b.lines)
+    same_spec(j.spec, k.spec)
+        & (a.lines == b.lines)
         & (a.refused == b.refused)
         & (j.cells == k.cells)
         & (j.rings == k.rings)

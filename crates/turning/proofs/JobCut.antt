@@ -1,20 +1,21 @@
 -- However a job is cut into parts for the C calls, their answer is that of the whole file. Assumes nothing.
-use mathlib.Core.Path.{_≡_, refl, sym, ap, _∙_}
+use mathlib.Core.Path.{_≡_, refl, sym, ap, _∙_, subst}
 use mathlib.Core.Bool.{Bool, true, false, not}
 use mathlib.Core.List.{List, [], _∷_, _++_, foldl}
-use Prim.Native.Nat.{ℕ}
+use Prim.Native.Nat.{ℕ, min}
 use native.Mathlib.Omega.{arith}
 use lib.Dec.{eqb}
 use lib.ListN.{length, drop, getD}
 use lib.Seq.{sets-eq, length-sets}
 use lib.Ieee.{Float}
+use Rattle.floats.specs.Pick.{pick}
 use Rattle.text.proofs.Chosen.{yes, no}
 use Rattle.lines.specs.File.{joined}
 use Rattle.job_run.specs.declared.Run.{Run}
-use Rattle.job_run.specs.Run.{state, freshRun, refusedWith, Hold, hold, byteOn, finishOf, outputOf, jobOf}
+use Rattle.job_run.specs.Run.{State, state, freshRun, refusedWith, Hold, hold, byteOn, finishOf, outputOf, jobOf}
 use Rattle.job_run.proofs.WholeFile.{takeParts, endOf, however-cut}
 use Rattle.job_run.proofs.Room.{Alike, alike-job, alike-output, alike-fresh}
-use Rattle.turning.specs.Jobs.{runFrom, heldIn, wordsOf, barOf, Kept, TakesJob, noBar, endState}
+use Rattle.turning.specs.Jobs.{runFrom, heldIn, wordsOf, barOf, Kept, TakesJob, noBar, endFrom, endState, EndsJob}
 use Rattle.turning.specs.JobCalls.{Flat, inHand, TookFlat, start, part}
 
 -- eight words and five numbers
@@ -72,16 +73,44 @@ no-bar r r' n cs rs el er ec ek eg = by (not (eqb (r .refused) 0)) refl (not (eq
     by false e false f true g = simp (← el, ← er, ← ec, ← ek, ← eg, e, f, g, yes, no)
     by false e false f false g = simp (← el, ← er, ← ec, ← ek, ← eg, e, f, g, no)
 
--- HOWEVER THE BYTES ARE CUT, FROM WORDS THAT ARE ALL 0: whatever else is lent, what `turning_job_output` and `turning_job_finish` are then of is the job of the whole file in a room that held anything.
-pub job-in-c : {f k : Flat} {ps : List (List ℕ)} → f .words ≡ (0 ∷ 0 ∷ 0 ∷ 0 ∷ 0 ∷ 0 ∷ 0 ∷ 0 ∷ []) → length (f .bar) ≡ 5 → length (f .line) ≡ 128 → TookFlat f ps k
-    → (cs rs : List Float) → length cs ≡ length (f .cells) → length rs ≡ length (f .rings) → outputOf (endState (k .words) (k .cells) (k .rings)) ≡ outputOf (jobOf (state freshRun cs rs) (joined ps))
-job-in-c {f} {k} {ps} zeros hb hl t cs rs ec er =
+-- nor in what `turning_job_finish` tells
+no-bar-told : (r r' : Run) (n : ℕ) → r .lines ≡ r' .lines → r .refused ≡ r' .refused → (finishOf r n .refused ≡ finishOf r' n .refused) × (finishOf r n .lines ≡ finishOf r' n .lines)
+unfolding finishOf refusedWith
+no-bar-told r r' n el er = by (not (eqb (r .refused) 0)) refl (not (eqb n 0)) refl (eqb (r .lines) 0) refl
+  where
+    by : (t : Bool) → not (eqb (r .refused) 0) ≡ t → (u : Bool) → not (eqb n 0) ≡ u → (v : Bool) → eqb (r .lines) 0 ≡ v → (finishOf r n .refused ≡ finishOf r' n .refused) × (finishOf r n .lines ≡ finishOf r' n .lines)
+    by true e u f v g = (simp (← el, ← er, e, yes), simp (← el, ← er, e, yes))
+    by false e true f v g = (simp (← el, ← er, e, f, yes, no), simp (← el, ← er, e, f, yes, no))
+    by false e false f true g = (simp (← el, ← er, e, f, g, yes, no), simp (← el, ← er, e, f, g, yes, no))
+    by false e false f false g = (simp (← el, ← er, e, f, g, no), simp (← el, ← er, e, f, g, no))
+
+-- the job in hand after its parts, as if its input ended there, is alike to that of the whole file
+whole-alike : {f k : Flat} {ps : List (List ℕ)} → f .words ≡ (0 ∷ 0 ∷ 0 ∷ 0 ∷ 0 ∷ 0 ∷ 0 ∷ 0 ∷ []) → length (f .bar) ≡ 5 → length (f .line) ≡ 128 → TookFlat f ps k
+    → (cs rs : List Float) → length cs ≡ length (f .cells) → length rs ≡ length (f .rings) → Alike (endOf (inHand k)) (jobOf (state freshRun cs rs) (joined ps))
+whole-alike {f} {k} {ps} zeros hb hl t cs rs ec er =
     let s : Sized f = record { words = ap length zeros; bar = hb } in
     let st = state (runFrom (f .words) (f .bar)) (f .cells) (f .rings) in
     let held : heldIn (f .words) ≡ 0 = ap heldIn zeros in
     let e : inHand k ≡ takeParts (hold st (f .line) 0) ps = took-flat s t ∙ ap (λ (n : ℕ). takeParts (hold st (f .line) n) ps) held in
     let a : Alike st (state freshRun cs rs) = alike-fresh st (state freshRun cs rs) (ap (λ (x : List ℕ). getD x 4 0) zeros) (ap (λ (x : List ℕ). getD x 5 0) zeros) (ap (λ (x : List ℕ). getD x 1 0) zeros) refl (ap (λ (x : List ℕ). getD x 2 0) zeros) refl (ap (λ (x : List ℕ). getD x 3 0) zeros) (sym ec) (sym er) in
-    no-bar (runFrom (k .words) noBar) (runFrom (k .words) (k .bar)) (heldIn (k .words)) (k .cells) (k .rings) refl refl refl refl refl
-    ∙ ap (λ (h : Hold). outputOf (endOf h)) e
-    ∙ ap outputOf (however-cut st (f .line) ps (omega (arith, hl)))
-    ∙ alike-output _ _ (alike-job (joined ps) st (state freshRun cs rs) a)
+    let same : endOf (inHand k) ≡ jobOf st (joined ps) = ap endOf e ∙ however-cut st (f .line) ps (omega (arith, hl)) in
+    subst (λ (x : State). Alike x (jobOf (state freshRun cs rs) (joined ps))) (sym same) (alike-job (joined ps) st (state freshRun cs rs) a)
+
+-- HOWEVER THE BYTES ARE CUT, FROM WORDS THAT ARE ALL 0: whatever else is lent, what `turning_job_output` is then of is the job of the whole file in a room that held anything.
+pub job-in-c : {f k : Flat} {ps : List (List ℕ)} → f .words ≡ (0 ∷ 0 ∷ 0 ∷ 0 ∷ 0 ∷ 0 ∷ 0 ∷ 0 ∷ []) → length (f .bar) ≡ 5 → length (f .line) ≡ 128 → TookFlat f ps k
+    → (cs rs : List Float) → length cs ≡ length (f .cells) → length rs ≡ length (f .rings) → outputOf (endState (k .words) (k .cells) (k .rings)) ≡ outputOf (jobOf (state freshRun cs rs) (joined ps))
+job-in-c {k = k} zeros hb hl t cs rs ec er =
+    no-bar (runFrom (k .words) noBar) (runFrom (k .words) (k .bar)) (heldIn (k .words)) (k .cells) (k .rings) refl refl refl refl refl ∙ alike-output _ _ (whole-alike zeros hb hl t cs rs ec er)
+
+-- AND `turning_job_finish` TELLS THE WHOLE FILE'S REFUSAL AND ITS LINE: whatever meets its promise after these parts meets that of the whole file's run.
+pub job-end-in-c : {f k : Flat} {ps : List (List ℕ)} → f .words ≡ (0 ∷ 0 ∷ 0 ∷ 0 ∷ 0 ∷ 0 ∷ 0 ∷ 0 ∷ []) → length (f .bar) ≡ 5 → length (f .line) ≡ 128 → TookFlat f ps k
+    → (cs rs : List Float) → length cs ≡ length (f .cells) → length rs ≡ length (f .rings) → (r l l' : ℕ) → EndsJob (endFrom (k .words)) r l l' → EndsJob (jobOf (state freshRun cs rs) (joined ps) .run) r l l'
+job-end-in-c {k = k} {ps = ps} zeros hb hl t cs rs ec er r l l' g =
+    let n = no-bar-told (runFrom (k .words) noBar) (runFrom (k .words) (k .bar)) (heldIn (k .words)) refl refl in
+    let a = whole-alike zeros hb hl t cs rs ec er in
+    let refused : endFrom (k .words) .refused ≡ jobOf (state freshRun cs rs) (joined ps) .run .refused = n .0 ∙ a .refused in
+    let lines : endFrom (k .words) .lines ≡ jobOf (state freshRun cs rs) (joined ps) .run .lines = n .1 ∙ a .lines in
+    record {
+      code = g .code ∙ ap (λ (x : ℕ). min x 4294967295) refused;
+      line = g .line ∙ ap (λ (x : ℕ). pick (eqb x 0) l (endFrom (k .words) .lines)) refused ∙ ap (λ (x : ℕ). pick (eqb (jobOf (state freshRun cs rs) (joined ps) .run .refused) 0) l x) lines;
+    }

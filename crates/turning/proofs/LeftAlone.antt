@@ -17,7 +17,8 @@ use Rattle.changes.specs.Commit.{Committed}
 use Rattle.rings.specs.declared.Ring.{Ring}
 use Rattle.rings.specs.Remove.{RingStore, ringsAfter}
 use Rattle.moves.specs.Move.{Left}
-use Rattle.turning.specs.Boundary.{codeOf, Gives, GivesBin, GivesCells, GivesChanges, GivesStock, GivesTwo, GivesRings, GivesMove, GivesStore, GivesFound, GivesFoundTwo}
+use Rattle.profile.specs.Chords.{Chord, flatOf, writtenOf}
+use Rattle.turning.specs.Boundary.{codeOf, Gives, GivesBin, GivesCells, GivesChanges, GivesStock, GivesTwo, GivesRings, GivesMove, GivesStore, GivesChords, GivesFound, GivesFoundTwo}
 
 no-code : {r : ℕ} → r ≡ 0 → 0 < r → ⊥
 no-code e h = omega arith
@@ -74,7 +75,13 @@ pub store-left : (p : Paper (List Ring)) (r : ℕ) (xs xs' : List Float) (k k' :
 store-left (answers l) r xs xs' k k' g h = absurd (no-code (g .code) h)
 store-left (refuses n) r xs xs' k k' g h = (g .rings, g .count)
 
--- `turning_radius_at`: whether there is one, and the radius
+-- `turning_segments`: the chords and their count
+pub chords-left : (p : Paper (List Chord)) (r : ℕ) (xs xs' : List Float) (k k' : ℕ) → GivesChords p r xs xs' k k' → 0 < r → (xs' ≡ xs) × (k' ≡ k)
+unfolding over flatOf writtenOf
+chords-left (answers l) r xs xs' k k' g h = absurd (no-code (g .code) h)
+chords-left (refuses n) r xs xs' k k' g h = (g .chords, g .count)
+
+-- `turning_radius_at`, `turning_excess`, `turning_penetration`, `turning_eroded`: whether there is one, and the radius or the distance
 pub found-left : {A : Type 0} (p : Paper (Option A)) (r f f' : ℕ) (x x' : A) → GivesFound p r f f' x x' → 0 < r → (f' ≡ f) × (x' ≡ x)
 found-left (answers a) r f f' x x' g h = absurd (no-code (g .code) h)
 found-left (refuses n) r f f' x x' g h = (g .found, g .out)
