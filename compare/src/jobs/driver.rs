@@ -1,5 +1,6 @@
 //! Runs jobs through a program and holds what it writes against the job program over camlib.
 use super::generate::job;
+use super::parts::cut;
 use super::program::run;
 use crate::count::Counts;
 use crate::generate::Rng;
@@ -7,9 +8,15 @@ use crate::run::{SHOWN, Source};
 use crate::shrink::{Parts, Shrink, Way, runs, shrink};
 use std::io::Write;
 use std::process::{Command, Stdio};
+use std::thread::yield_now;
 
 /// What the program writes for a job.
 pub fn written(program: &[String], input: &[u8]) -> Vec<u8> {
+    written_in(program, [input])
+}
+
+/// The same for a job that is written to it in these parts.
+fn written_in<'a>(program: &[String], parts: impl IntoIterator<Item = &'a [u8]>) -> Vec<u8> {
     let mut child = Command::new(&program[0])
         .args(&program[1..])
         .stdin(Stdio::piped())
@@ -17,14 +24,21 @@ pub fn written(program: &[String], input: &[u8]) -> Vec<u8> {
         .spawn()
         .expect("the program starts");
     // the program reads all of its input before it writes
-    child.stdin.take().unwrap().write_all(input).ok();
+    let mut stdin = child.stdin.take().unwrap();
+    for part in parts {
+        stdin.write_all(part).ok();
+        // it may read this part before the next one is there
+        yield_now();
+    }
+    drop(stdin);
     child.wait_with_output().unwrap().stdout
 }
 
-/// Jobs from a seed, through a program.
+/// Jobs from a seed, through a program, a third of them in parts.
 pub struct Jobs {
     program: Vec<String>,
     rng: Rng,
+    cuts: Rng,
 }
 
 impl Jobs {
@@ -32,6 +46,7 @@ impl Jobs {
         Self {
             program: program.to_vec(),
             rng: Rng::new(seed),
+            cuts: Rng::new(seed),
         }
     }
 }
@@ -40,7 +55,12 @@ impl Source for Jobs {
     fn next(&mut self, counts: &mut Counts) {
         let input = job(&mut self.rng);
         let expected = run(&input);
-        let found = written(&self.program, &input);
+        let parts = if self.cuts.once_in(3) {
+            cut(&mut self.cuts, &input)
+        } else {
+            vec![&input[..]]
+        };
+        let found = written_in(&self.program, parts);
         if found != expected && counts.differ() < SHOWN {
             let differs = |lines: &Lines| written(&self.program, &lines.0) != run(&lines.0);
             let least = shrink(&Lines(input), differs).0;

@@ -151,7 +151,7 @@ pub fn answered<'a>(parts: impl IntoIterator<Item = &'a [u8]>) -> Vec<u8> {
 }
 
 /// A job in parts of any sizes.
-fn cut<'a>(rng: &mut Rng, input: &'a [u8]) -> Vec<&'a [u8]> {
+pub fn cut<'a>(rng: &mut Rng, input: &'a [u8]) -> Vec<&'a [u8]> {
     let mut rest = input;
     let mut parts = vec![];
     // of one size as a rule, so that some jobs come byte by byte
