@@ -15,7 +15,7 @@
 --   queries   bins_at
 --   blocks    blocks_in, matches, renew_all, clear, renew_block, renew_changed
 --   envelope  within, of the numbers of the part that is lent back; number_of
---   text      part, front, of the bytes that are lent back; part_count, same, read_whole
+--   text      part, front, of the bytes that are lent back; part_count, same, read_whole, read_hex, float
 --   job_words read_line, read_number
 --   job_run   fresh, finish
 --

@@ -1,13 +1,14 @@
 -- Two lists of bytes compared from the left. Assumes nothing.
 use Prim.Native.Nat.{ℕ, _+_, _-_, _≤_, _<_}
 use native.Mathlib.Numerals.{add-one}
-use mathlib.Core.Path.{_≡_, refl}
+use mathlib.Core.Path.{_≡_, refl, sym, _∙_, subst}
 use mathlib.Core.Bool.{Bool, true, false}
-use mathlib.Core.List.{List}
-use lib.Dec.{leb}
+use mathlib.Core.List.{List, [], _∷_}
+use lib.Dec.{T, leb, eqb}
 use lib.ListN.{length, drop, getD, drop-of-length-le}
 use lib.Seq.{drop-cons}
-use borrow.Author.Tests.{eq-eqb, ne-eqb, leb-true, leb-false}
+use borrow.Author.Tests.{eq-eqb, ne-eqb, eqb-true, leb-true, leb-false}
+use Rattle.floats.specs.Pick.{pick-true, pick-false}
 use Rattle.text.proofs.Chosen.{yes, no}
 use Rattle.text.specs.Same.{sameBytes}
 
@@ -37,3 +38,24 @@ same-end a b i h = by (leb (length b) i) refl
     by : (t : Bool) → leb (length b) i ≡ t → sameBytes (drop i a) (drop i b) ≡ t
     by true e = over (leb-true _ _ e)
     by false e = under (leb-false _ _ e)
+
+-- what is compared with itself is the same
+pub same-self : (a : List ℕ) → sameBytes a a ≡ true
+unfolding sameBytes
+same-self [] = refl
+same-self (x ∷ xs) = simp (eq-eqb x x refl, yes, same-self xs)
+
+-- what is the same is equal
+pub same-true : (a b : List ℕ) → sameBytes a b ≡ true → a ≡ b
+unfolding sameBytes
+same-true [] [] e = refl
+same-true [] (y ∷ ys) e = absurd (subst T (sym e) tt)
+same-true (x ∷ xs) [] e = absurd (subst T (sym e) tt)
+same-true (x ∷ xs) (y ∷ ys) e = by (eqb x y) refl (same-true xs ys)
+  where
+    by : (t : Bool) → eqb x y ≡ t → (sameBytes xs ys ≡ true → xs ≡ ys) → x ∷ xs ≡ y ∷ ys
+    by true f r =
+        let p : x ≡ y = eqb-true x y f in
+        let q : xs ≡ ys = r (sym (pick-true _ _ _ f) ∙ e) in
+        cc
+    by false f r = absurd (subst T (sym (sym (pick-false _ _ _ f) ∙ e)) tt)

@@ -7,4 +7,5 @@ pub mod Spelling
 pub mod Chain
 pub mod Nan
 pub mod Distinct
+pub mod Reading
 pub mod Nine

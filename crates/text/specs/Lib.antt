@@ -2,6 +2,7 @@ pub mod Parts
 pub mod Same
 pub mod Whole
 pub mod Digits
+pub mod Hex
 pub mod Wrote
 pub mod Lines
 pub mod Placed

@@ -1,10 +1,12 @@
-// Text in bytes: parts and whole numbers read, words and numbers put into a lent buffer.
+// Text in bytes: parts and numbers read, words and numbers put into a lent buffer.
 //
 // What is read is parted at a byte, a line at its tabs and a file at its newlines; a whole number is in
-// decimal. A line is put together in a buffer of 128 bytes, each text whole or not at all (`digits`);
-// what is for a person goes into any buffer as far as there is room (`plain`).
+// decimal, and an f64 in the 16 hexadecimal digits of its bits (`sixteen`). A line is put together in a
+// buffer of 128 bytes, each text whole or not at all (`digits`); what is for a person goes into any
+// buffer as far as there is room (`plain`).
 mod digits;
 mod plain;
+mod sixteen;
 
 pub use digits::LINE_ROOM;
 pub use digits::put;
@@ -17,6 +19,9 @@ pub use plain::front;
 pub use plain::put_count;
 pub use plain::put_millimetres;
 pub use plain::put_text;
+pub use sixteen::Hex;
+pub use sixteen::float;
+pub use sixteen::read_hex;
 ghost use mathlib.Core.Path.{_≡_};
 ghost use mathlib.Core.List.{[]};
 ghost use Prim.Native.Nat.{_+_, _≤_};
