@@ -18,6 +18,7 @@
 --   text      part, front, of the bytes that are lent back; part_count, same, read_whole, read_hex, float
 --   job_words read_line, read_number
 --   job_run   fresh, finish
+--   stock_lines refuse
 --
 -- alike: the promise is `paper answer ≡ rule`, and the paper is one to one
 --   numbers   root, length (same-rooted), whole_up (same-whole)
@@ -46,6 +47,7 @@
 --   text      put, put_digits, put_decimal, put_hex, put_four (put-once), ring_line (wrote-once)
 --   job_answer cell_line, gen_line, refused_line, answer_line (wrote-once)
 --   job_run   carry_out (Carrying.once of job_run; its two lists by the equations of `ChangesOver`), take_part (taken-once), output_line (wrote-once)
+--   stock_lines take_line (Readings.line-once of stock_lines), stock_line, kept_cell_line, end_line (wrote-once)
 --
 -- The calls of the C boundary: proofs/Once of turning. What `streams` and `job_streams` read and write is not determined by a promise: docs/OPEN_ANSWERS.md.
 use mathlib.Core.Path.{_≡_, refl, sym, ap, ap₂, _∙_}

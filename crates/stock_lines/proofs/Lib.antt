@@ -1,0 +1,5 @@
+pub mod Forms
+pub mod Steps
+pub mod EachLine
+pub mod Rooms
+pub mod Readings

@@ -1,0 +1,117 @@
+-- What the code of a line walks by. Assumes nothing.
+use Prim.Native.Nat.{ℕ, zero, suc, _+_, _-_, _*_, _≤_, _<_}
+use native.Mathlib.Omega.{arith}
+use mathlib.Core.Path.{_≡_, refl, sym, ap, _∙_, subst}
+use mathlib.Core.Bool.{Bool, true, false}
+use mathlib.Core.List.{List, [], _∷_, _++_}
+use lib.Dec.{T, eqb}
+use lib.Ieee.{Float}
+use lib.ListN.{length, take, drop, getD, drop-of-length-le}
+use lib.Seq.{drop-drop, getD-drop, sets-eq, take-append-seam}
+use borrow.Author.Tests.{eqb-true, eq-eqb, ne-eqb}
+use Rattle.floats.specs.Pick.{pick, pick-true, pick-false}
+use Rattle.text.specs.Same.{sameBytes}
+use Rattle.text.specs.Digits.{digits, decimalOf}
+use Rattle.text.specs.Wrote.{Wrote, Put, WroteLine}
+use Rattle.text.proofs.Sets.{room, and-then, put-wrote}
+use Rattle.text.proofs.Spelling.{digits-length, decimal-short}
+use Rattle.text.specs.declared.sixteen.Hex.{Hex}
+use Rattle.text.specs.declared.sixteen.Hex.the-variants.{Of, NoHex}
+use Rattle.text.specs.Hex.{hexAt, fieldOf}
+use Rattle.stock_lines.specs.Form.{Line, holds, other, withFirst, fieldsOf, beginsWith, lineOf, cellPrefix, endText}
+use Rattle.stock_lines.proofs.Forms.{Parted, line-parted, line-long}
+use Rattle.text.proofs.Compare.{same-self}
+
+-- ---- one field after another
+
+next : (k : ℕ) (s : List ℕ) (at to : ℕ) → to ≡ at + 17 → fieldsOf (suc k) (drop at s) ≡ withFirst (fieldOf (drop at s)) (fieldsOf k (drop to s))
+unfolding fieldsOf
+next k s at to e = ap (λ (y : List ℕ). withFirst (fieldOf (drop at s)) (fieldsOf k y)) (drop-drop 17 at s ∙ ap (λ (n : ℕ). drop n s) (sym e))
+
+pub stops : (k : ℕ) (s : List ℕ) (at : ℕ) → fieldOf (drop at s) ≡ NoHex → fieldsOf (suc k) (drop at s) ≡ other
+unfolding withFirst
+stops k s at e = next k s at (at + 17) refl ∙ ap (λ (h : Hex). withFirst h (fieldsOf k (drop (at + 17) s))) e
+
+pub goes : (k : ℕ) (s : List ℕ) (at to : ℕ) (x : Float) → fieldOf (drop at s) ≡ Of x → to ≡ at + 17 → fieldsOf k (drop to s) ≡ other → fieldsOf (suc k) (drop at s) ≡ other
+unfolding withFirst
+goes k s at to x e f r = next k s at to f ∙ ap (λ (h : Hex). withFirst h (fieldsOf k (drop to s))) e ∙ ap (λ (l : Line). withFirst (Of x) l) r
+
+pub gives : (k : ℕ) (s : List ℕ) (at to : ℕ) (x : Float) (xs : List Float)
+    → fieldOf (drop at s) ≡ Of x → to ≡ at + 17 → fieldsOf k (drop to s) ≡ holds xs → fieldsOf (suc k) (drop at s) ≡ holds (x ∷ xs)
+unfolding withFirst
+gives k s at to x xs e f r = next k s at to f ∙ ap (λ (h : Hex). withFirst h (fieldsOf k (drop to s))) e ∙ ap (λ (l : Line). withFirst (Of x) l) r
+
+pub ends : (s : List ℕ) (at : ℕ) → length s ≤ at → fieldsOf 0 (drop at s) ≡ holds []
+unfolding fieldsOf
+ends s at h = ap (fieldsOf 0) (drop-of-length-le s h)
+
+-- ---- the prefix
+
+pub begins-not : (p : List ℕ) (n : ℕ) (s : List ℕ) → (length s ≡ length p + n → ⊥) → false ≡ beginsWith p n s
+unfolding beginsWith
+begins-not p n s e = sym (pick-false _ _ _ (ne-eqb _ _ e))
+
+pub begins-same : (p : List ℕ) (n : ℕ) (s : List ℕ) → length s ≡ length p + n → sameBytes (take (length p) s) p ≡ beginsWith p n s
+unfolding beginsWith
+begins-same p n s e = sym (pick-true _ _ _ (eq-eqb _ _ e))
+
+pub begins-long : (p : List ℕ) (n : ℕ) (s : List ℕ) → beginsWith p n s ≡ true → length p + n ≡ length s
+unfolding beginsWith
+begins-long p n s e = by (eqb (length s) (length p + n)) refl
+  where
+    by : (t : Bool) → eqb (length s) (length p + n) ≡ t → length p + n ≡ length s
+    by true f = sym (eqb-true _ _ f)
+    by false f = absurd (subst T (sym (sym (pick-false _ _ _ f) ∙ e)) tt)
+
+pub line-begins : (p : List ℕ) (n k : ℕ) (s : List ℕ) → beginsWith p n s ≡ true → lineOf p k s ≡ fieldsOf k (drop (length p) s)
+unfolding beginsWith lineOf
+line-begins p n k s e = pick-true _ _ _ (begins-same p n s (sym (begins-long p n s e)) ∙ e)
+
+pub line-begins-not : (p : List ℕ) (n k : ℕ) (s : List ℕ) → n ≡ 17 * k → beginsWith p n s ≡ false → lineOf p k s ≡ other
+line-begins-not p n k s q e = by (lineOf p k s) refl
+  where
+    by : (l : Line) → lineOf p k s ≡ l → lineOf p k s ≡ other
+    by other f = f
+    by (holds xs) f =
+        let w : Parted p k s xs = line-parted p k s xs f in
+        let m : length s ≡ length p + n = line-long p k s xs f ∙ ap (λ (y : ℕ). length p + y) (sym q) in
+        let g : true ≡ false = sym (same-self p) ∙ ap (λ (y : List ℕ). sameBytes y p) (sym (w .front)) ∙ begins-same p n s m ∙ e in
+        absurd (subst T g tt)
+
+-- ---- a prefix put into a buffer
+
+pub cell-long : (i : ℕ) → length (cellPrefix i) ≡ 9
+cell-long i = ap (λ (n : ℕ). suc (suc (suc (suc (suc n))))) (digits-length 10 4 i)
+
+-- `cell` and an index
+pub cell-put : {l m o : List ℕ} {e f : ℕ} (i : ℕ) → Put l 0 (99 ∷ 101 ∷ 108 ∷ 108 ∷ 9 ∷ []) m e → Put m e (digits 10 4 i) o f → WroteLine l (cellPrefix i) o f
+cell-put i p q =
+    let u = put-wrote 5 refl (omega arith) p in
+    let w = put-wrote 4 (digits-length 10 4 i) (omega (arith, u .end)) q in
+    record { wrote = and-then u w; within = omega (arith, u .end, w .end, digits-length 10 4 i) }
+
+-- `end` and a count: there is room for a newline behind it
+pub record WroteEnd (l line m : List ℕ) (r : ℕ) : Type 0 where
+  pub wrote : Wrote l 0 line m r
+  pub within : r ≤ 127
+
+pub end-put : {l m o : List ℕ} {e f : ℕ} (n : ℕ) → Put l 0 (101 ∷ 110 ∷ 100 ∷ 9 ∷ []) m e → Put m e (decimalOf n) o f → WroteEnd l (endText n) o f
+end-put n p q =
+    let h = decimal-short n in
+    let u = put-wrote 4 refl (omega arith) p in
+    let w = put-wrote _ refl (omega (arith, u .end)) q in
+    record { wrote = and-then u w; within = omega (arith, u .end, w .end) }
+
+-- ---- a text at the front of a buffer
+
+pub wrote-front : {l m t : List ℕ} {j : ℕ} → Wrote l 0 t m j → j ≤ length l → take j m ≡ t
+wrote-front {l} {m} {t} {j} w h =
+    let f : 0 + length t ≤ length l = omega (arith, w .end) in
+    let e : j ≡ length t = omega (arith, w .end) in
+    ap (λ (n : ℕ). take n m) e ∙ ap (take (length t)) (w .text ∙ sets-eq t l 0 f) ∙ take-append-seam t (drop (0 + length t) l)
+
+pub wrote-fits : {l m t : List ℕ} {j : ℕ} → Wrote l 0 t m j → j ≤ length l → j ≤ length m
+wrote-fits w h = omega (arith, room w)
+
+pub wrote-length : {l m t : List ℕ} {j : ℕ} → Wrote l 0 t m j → j ≤ length l → j ≡ length (take j m)
+wrote-length {l} {m} {t} {j} w h = omega (arith, w .end, ap length (wrote-front w h))

@@ -1,0 +1,95 @@
+-- The form of a line of a stock file: the writer's own prefix, then exactly k times a tab and 16 digits. Assumes nothing.
+use Prim.Native.Nat.{ℕ, zero, suc, _+_}
+use mathlib.Core.Bool.{Bool, false}
+use lib.Dec.{eqb}
+use mathlib.Core.List.{List, [], _∷_, _++_}
+use lib.ListN.{length, take, drop, getD}
+use lib.Ieee.{Float, nan}
+use Rattle.floats.specs.Pick.{pick}
+use Rattle.text.specs.Same.{sameBytes}
+use Rattle.text.specs.Digits.{digits, decimalOf, hexOf}
+use Rattle.text.specs.Lines.{newline}
+use Rattle.text.specs.Hex.{fieldOf}
+use Rattle.text.specs.declared.sixteen.Hex.{Hex}
+use Rattle.text.specs.declared.sixteen.Hex.the-variants.{Of, NoHex}
+use Rattle.stock_lines.specs.declared.Bar.{Bar}
+use Rattle.stock_lines.specs.declared.form.Four.{Four}
+use Rattle.stock_lines.specs.declared.form.Four.the-variants.{Numbers, NoFour}
+use Rattle.stock_lines.specs.declared.form.Five.{Five}
+use Rattle.stock_lines.specs.declared.form.Five.the-variants.{Spec, NoFive}
+
+-- the numbers of a line, or that it is not of the form
+pub data Line : Type 0 where
+  holds : List Float → Line
+  other : Line
+
+-- a number before those of the rest
+unfoldable pub withFirst : Hex → Line → Line
+withFirst (Of x) (holds xs) = holds (x ∷ xs)
+withFirst (Of x) other = other
+withFirst NoHex l = other
+
+-- exactly k times a tab and 16 digits
+unfoldable pub fieldsOf : ℕ → List ℕ → Line
+fieldsOf zero [] = holds []
+fieldsOf zero (b ∷ s) = other
+fieldsOf (suc k) s = withFirst (fieldOf s) (fieldsOf k (drop 17 s))
+
+-- a line without its newline: the prefix p, and then k numbers
+unfoldable pub lineOf : List ℕ → ℕ → List ℕ → Line
+lineOf p k s = pick (sameBytes (take (length p) s) p) (fieldsOf k (drop (length p) s)) other
+
+-- the prefix p, and then so many bytes
+unfoldable pub beginsWith : List ℕ → ℕ → List ℕ → Bool
+beginsWith p n s = pick (eqb (length s) (length p + n)) (sameBytes (take (length p) s) p) false
+
+-- numbers as they are written, each with its tab before it, and then t
+unfoldable pub fieldsText : List Float → List ℕ → List ℕ
+fieldsText [] t = t
+fieldsText (x ∷ xs) t = (9 ∷ hexOf x) ++ fieldsText xs t
+
+-- `stock` and the form's number
+abbrev pub stockPrefix : List ℕ
+stockPrefix = 115 ∷ 116 ∷ 111 ∷ 99 ∷ 107 ∷ 9 ∷ 49 ∷ []
+
+-- an index has so many digits, and so there are at most so many cells
+abbrev pub indexDigits : ℕ
+indexDigits = 4
+
+abbrev pub mostCells : ℕ
+mostCells = 10000
+
+-- `cell` and the index
+abbrev pub cellPrefix : ℕ → List ℕ
+cellPrefix i = 99 ∷ 101 ∷ 108 ∷ 108 ∷ 9 ∷ digits 10 indexDigits i
+
+abbrev pub ringPrefix : List ℕ
+ringPrefix = 114 ∷ 105 ∷ 110 ∷ 103 ∷ []
+
+-- `end` and the count of the lines before it
+abbrev pub endText : ℕ → List ℕ
+endText n = 101 ∷ 110 ∷ 100 ∷ 9 ∷ decimalOf n
+
+-- the numbers of a bar, in its order
+abbrev pub barNumbers : Bar → List Float
+barNumbers b = b .«z_min_mm» ∷ b .«z_max_mm» ∷ b .«outer_radius_mm» ∷ b .«bore_radius_mm» ∷ b .«cell_mm» ∷ []
+
+-- the writer's lines
+unfoldable pub stockLine : Bar → List ℕ
+stockLine b = stockPrefix ++ fieldsText (barNumbers b) newline
+
+unfoldable pub keptCellLine : ℕ → Float → Float → Float → Float → List ℕ
+keptCellLine i a b c d = cellPrefix i ++ fieldsText (a ∷ b ∷ c ∷ d ∷ []) newline
+
+unfoldable pub endLine : ℕ → List ℕ
+endLine n = endText n ++ newline
+
+-- the numbers of a line of four
+unfoldable pub fourOf : Line → Four
+fourOf (holds xs) = Numbers (getD xs 0 nan) (getD xs 1 nan) (getD xs 2 nan) (getD xs 3 nan)
+fourOf other = NoFour
+
+-- the numbers of a line of five
+unfoldable pub fiveOf : Line → Five
+fiveOf (holds xs) = Spec (getD xs 0 nan) (getD xs 1 nan) (getD xs 2 nan) (getD xs 3 nan) (getD xs 4 nan)
+fiveOf other = NoFive

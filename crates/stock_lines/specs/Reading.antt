@@ -1,0 +1,86 @@
+-- A file read line by line: what each line does to the reading and to the lent room. Assumes nothing.
+use Prim.Native.Nat.{ℕ, _+_, _%_, _^_}
+use mathlib.Core.Bool.{Bool, true, false}
+use mathlib.Core.List.{List}
+use lib.Dec.{ltb, eqb}
+use lib.Ieee.{Float}
+use denote.Ref.{now}
+use Rattle.refusals.specs.Lent.{Lent}
+use Rattle.refusals.specs.Limits.{ringLimit}
+use Rattle.floats.specs.Pick.{pick}
+use Rattle.stock_lines.specs.declared.Reading.{Reading}
+use Rattle.stock_lines.specs.declared.form.Five.{Five}
+use Rattle.stock_lines.specs.declared.form.Five.the-variants.{Spec, NoFive}
+use Rattle.stock_lines.specs.declared.room.Took.{Took}
+use Rattle.stock_lines.specs.declared.room.Took.the-variants.{Cell, Ring, End, NoLine}
+use Rattle.stock_lines.specs.Form.{lineOf, fiveOf, stockPrefix, mostCells}
+use Rattle.stock_lines.specs.Room.{stored, cellAt, tookOf, ringsAfter}
+
+-- a reading with the lent room of its cells and its rings
+pub record State : Type 0 where
+  pub reading : Reading
+  pub cells : List Float
+  pub rings : List Float
+
+abbrev pub state : Reading → List Float → List Float → State
+state r cs rs = record { reading = r; cells = cs; rings = rs }
+
+-- the number of the next line
+abbrev pub next : Reading → ℕ
+next r = (r .lines + 1) % 2 ^ 64
+
+-- rings are counted so far: one more than are stored
+abbrev pub ringCount : ℕ
+ringCount = ringLimit + 1
+
+-- one more, as far as is counted
+unfoldable pub countTo : ℕ → ℕ → ℕ
+countTo limit n = pick (ltb n limit) (n + 1) n
+
+-- the next line is not of the form
+unfoldable pub refusing : Reading → Reading
+refusing r = record { stage = r .stage; bar = r .bar; cells = r .cells; rings = r .rings; lines = next r; refused = true }
+
+-- the first line
+unfoldable pub begun : Reading → Five → Reading
+begun r (Spec a b c d e) =
+    record {
+      stage = 1;
+      bar = record { «z_min_mm» = a; «z_max_mm» = b; «outer_radius_mm» = c; «bore_radius_mm» = d; «cell_mm» = e };
+      cells = r .cells;
+      rings = r .rings;
+      lines = next r;
+      refused = false;
+    }
+begun r NoFive = refusing r
+
+-- one line more behind the first, with what is known now
+unfoldable pub onwardTo : Reading → ℕ → ℕ → ℕ → Reading
+onwardTo r stage n m = record { stage = stage; bar = r .bar; cells = n; rings = m; lines = next r; refused = false }
+
+-- a line behind the first
+unfoldable pub went : Reading → Took → Reading
+went r Cell = onwardTo r 1 (countTo mostCells (r .cells)) (r .rings)
+went r Ring = onwardTo r 1 (r .cells) (countTo ringCount (r .rings))
+went r End = onwardTo r 2 (r .cells) (r .rings)
+went r NoLine = refusing r
+
+-- a line behind the first, its numbers stored
+unfoldable pub onBody : State → List ℕ → State
+onBody st s =
+    let r = st .reading in
+    state (went r (tookOf (r .cells) (r .rings) (r .lines) s)) (stored mostCells (st .cells) (r .cells) (cellAt (r .cells) (r .rings) s)) (ringsAfter (r .cells) (r .rings) s (st .rings))
+
+-- the next line: the first, one behind it, or one behind `end`
+unfoldable pub onLine : State → List ℕ → State
+onLine st s =
+    pick (eqb (st .reading .stage) 0) (state (begun (st .reading) (fiveOf (lineOf stockPrefix 5 s))) (st .cells) (st .rings))
+    (pick (eqb (st .reading .stage) 1) (onBody st s)
+    (state (refusing (st .reading)) (st .cells) (st .rings)))
+
+-- a reading as a call finds it in lent memory, and as it leaves it
+abbrev pub stateFound : Reading → Lent Float → Lent Float → State
+stateFound r cells rings = state r (now (cells .entry)) (now (rings .entry))
+
+abbrev pub stateLeft : Reading → Lent Float → Lent Float → State
+stateLeft r cells rings = state r (now (cells .exit)) (now (rings .exit))

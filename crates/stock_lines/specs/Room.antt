@@ -1,0 +1,46 @@
+-- What a line leaves in the lent room. Assumes nothing.
+use Prim.Native.Nat.{ℕ, _*_, _/_}
+use mathlib.Core.Bool.{Bool, true, false}
+use mathlib.Core.List.{List, [], _∷_}
+use lib.Dec.{ltb, eqb}
+use lib.ListN.{length}
+use lib.Seq.{sets}
+use lib.Ieee.{Float}
+use Rattle.floats.specs.Pick.{pick}
+use Rattle.text.specs.Same.{sameBytes}
+use Rattle.refusals.specs.Limits.{ringLimit}
+use Rattle.stock_lines.specs.Form.{mostCells, lineOf, fourOf, cellPrefix, ringPrefix, endText}
+use Rattle.stock_lines.specs.declared.form.Four.{Four}
+use Rattle.stock_lines.specs.declared.form.Four.the-variants.{Numbers, NoFour}
+use Rattle.stock_lines.specs.declared.room.Took.{Took}
+use Rattle.stock_lines.specs.declared.room.Took.the-variants.{Cell, Ring, End, NoLine}
+
+-- four numbers at place k, if the limit and the room reach there
+unfoldable pub kept : ℕ → List Float → ℕ → List Float → List Float
+kept limit l k xs = pick (ltb k limit) (pick (ltb k (length l / 4)) (sets l (4 * k) xs) l) l
+
+-- a line that held numbers
+unfoldable pub taken : Four → Bool
+taken (Numbers a b c d) = true
+taken NoFour = false
+
+-- the room after a line: its numbers at place k, or all as before
+unfoldable pub stored : ℕ → List Float → ℕ → Four → List Float
+stored limit l k (Numbers a b c d) = kept limit l k (a ∷ b ∷ c ∷ d ∷ [])
+stored limit l k NoFour = l
+
+-- a cell's line in its turn: the index n, before all rings
+unfoldable pub cellAt : ℕ → ℕ → List ℕ → Four
+cellAt n m s = pick (eqb m 0) (pick (ltb n mostCells) (fourOf (lineOf (cellPrefix n) 4 s)) NoFour) NoFour
+
+abbrev pub ringAt : List ℕ → Four
+ringAt s = fourOf (lineOf ringPrefix 4 s)
+
+-- what the line is, after n cell lines, m ring lines and so many lines in all
+unfoldable pub tookOf : ℕ → ℕ → ℕ → List ℕ → Took
+tookOf n m before s =
+    pick (taken (cellAt n m s)) Cell (pick (taken (ringAt s)) Ring (pick (sameBytes s (endText before)) End NoLine))
+
+-- the rings after the line
+unfoldable pub ringsAfter : ℕ → ℕ → List ℕ → List Float → List Float
+ringsAfter n m s l = pick (taken (cellAt n m s)) l (stored ringLimit l m (ringAt s))

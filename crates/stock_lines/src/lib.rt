@@ -1,0 +1,174 @@
+// One line of a stock file: read into the lent room, and spelled.
+//
+// A line is of the form when it is the writer's own prefix, followed by exactly k times a tab and 16
+// hexadecimal digits in capitals; `end` is compared whole with the writer's line. The digits of -0.0
+// are not of the form. `form` reads one line; here a line moves a reading on, and lines are spelled.
+mod form;
+mod room;
+
+ghost use mathlib.Core.Path.{_≡_};
+ghost use Rattle.text.specs.Wrote.{WritesLine};
+ghost use Rattle.stock_lines.specs.Form.{stockLine, keptCellLine, endLine};
+ghost use Rattle.stock_lines.specs.Reading.{countTo, refusing, begun, onwardTo, went, onLine, stateFound, stateLeft};
+use form::Five;
+use refusals::RING_LIMIT;
+use room::CELL_LINES;
+use room::Took;
+use text::LINE_ROOM;
+
+// The numbers of a stock's spec that a file keeps, in the order of a job's `bar`.
+pub struct Bar {
+    pub z_min_mm: f64,
+    pub z_max_mm: f64,
+    pub outer_radius_mm: f64,
+    pub bore_radius_mm: f64,
+    pub cell_mm: f64,
+}
+
+// A file read so far: what its next line may be, its bar, how many of its lines were cells' and how
+// many rings', counted to 257, how many there were in all, and whether the last of them was refused.
+pub struct Reading {
+    // 0 before the first line, 1 behind it, and any other number behind `end`
+    pub stage: u64,
+    pub bar: Bar,
+    pub cells: usize,
+    pub rings: usize,
+    pub lines: u64,
+    pub refused: bool,
+}
+
+// Rings are counted so far: one more than are stored.
+const RING_COUNT: usize = RING_LIMIT + 1;
+
+// One more, as far as is counted.
+fn count_to(limit: usize, n: usize) -> usize
+    ensures { λ r. ⌜ r ≡ countTo limit n ⌝ }
+{
+    if n < limit {
+        return n + 1;
+    }
+    n
+}
+
+// The next line is not of the form.
+pub fn refuse(reading: Reading) -> Reading
+    ensures { λ r. ⌜ r ≡ refusing reading ⌝ }
+{
+    let bar = reading.bar;
+    Reading {
+        stage: reading.stage,
+        bar,
+        cells: reading.cells,
+        rings: reading.rings,
+        lines: std::num::wrapping_add_u64(reading.lines, 1),
+        refused: true,
+    }
+}
+
+// The first line, which told these numbers.
+fn begin(reading: Reading, five: Five) -> Reading
+    ensures { λ r. ⌜ r ≡ begun reading five ⌝ }
+{
+    match five {
+        Five::NoFive => refuse(reading),
+        Five::Spec(a, b, c, d, e) => Reading {
+            stage: 1,
+            bar: Bar {
+                z_min_mm: a,
+                z_max_mm: b,
+                outer_radius_mm: c,
+                bore_radius_mm: d,
+                cell_mm: e,
+            },
+            cells: reading.cells,
+            rings: reading.rings,
+            lines: std::num::wrapping_add_u64(reading.lines, 1),
+            refused: false,
+        },
+    }
+}
+
+// One line more behind the first, at this stage, with so many cells' and rings' lines now.
+fn onward(reading: Reading, stage: u64, cells: usize, rings: usize) -> Reading
+    ensures { λ r. ⌜ r ≡ onwardTo reading stage cells rings ⌝ }
+{
+    let bar = reading.bar;
+    Reading {
+        stage,
+        bar,
+        cells,
+        rings,
+        lines: std::num::wrapping_add_u64(reading.lines, 1),
+        refused: false,
+    }
+}
+
+// A line behind the first, which was this.
+fn go_on(reading: Reading, took: Took) -> Reading
+    ensures { λ r. ⌜ r ≡ went reading took ⌝ }
+{
+    let n = reading.cells;
+    let m = reading.rings;
+    match took {
+        Took::Cell => onward(reading, 1, count_to(CELL_LINES, n), m),
+        Took::Ring => onward(reading, 1, n, count_to(RING_COUNT, m)),
+        Took::End => onward(reading, 2, n, m),
+        Took::NoLine => refuse(reading),
+    }
+}
+
+// The next line of a file, without its newline. Its numbers are stored at once, as far as there is
+// room; a line that is not of the form stores nothing.
+pub fn take_line(reading: Reading, line: &[u8], cells: &mut [f64], rings: &mut [f64]) -> Reading
+    ensures { λ r. ⌜ stateLeft r cells rings ≡ onLine (stateFound reading cells rings) (now (line .entry)) ⌝ }
+{
+    if reading.stage == 0 {
+        return begin(reading, form::read_first_line(line));
+    }
+    if reading.stage == 1 {
+        let took = room::store_line(
+            line,
+            reading.cells,
+            reading.rings,
+            reading.lines,
+            cells,
+            rings,
+        );
+        return go_on(reading, took);
+    }
+    refuse(reading)
+}
+
+// The first line of a file: the form's number, and the bar.
+pub fn stock_line(out: &mut [u8; LINE_ROOM], bar: Bar) -> usize
+    ensures { λ r. ⌜ WritesLine out (stockLine bar) r ⌝ }
+{
+    let e = text::put(out, 0, b"stock\t1");
+    let f = text::put_hex(out, e, bar.z_min_mm);
+    text::put_four(
+        out,
+        f,
+        bar.z_max_mm,
+        bar.outer_radius_mm,
+        bar.bore_radius_mm,
+        bar.cell_mm,
+    )
+}
+
+// A cell, its index in four digits.
+pub fn kept_cell_line(out: &mut [u8; LINE_ROOM], i: u64, a: f64, b: f64, c: f64, d: f64) -> usize
+    ensures { λ r. ⌜ WritesLine out (keptCellLine i a b c d) r ⌝ }
+{
+    let e = text::put(out, 0, b"cell\t");
+    let f = text::put_digits(out, e, 4, i);
+    text::put_four(out, f, a, b, c, d)
+}
+
+// The last line of a file, after so many lines.
+pub fn end_line(out: &mut [u8; LINE_ROOM], n: u64) -> usize
+    ensures { λ r. ⌜ WritesLine out (endLine n) r ⌝ }
+{
+    let e = text::put(out, 0, b"end\t");
+    let f = text::put_decimal(out, e, n);
+    text::put(out, f, b"\n")
+}

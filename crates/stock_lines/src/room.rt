@@ -1,0 +1,87 @@
+// A line behind the first, its numbers stored in the lent room as far as that reaches.
+ghost use mathlib.Core.Path.{_≡_};
+ghost use mathlib.Core.List.{_∷_, []};
+ghost use Rattle.stock_lines.specs.Form.{mostCells};
+ghost use Rattle.stock_lines.specs.Room.{kept, stored, taken, cellAt, tookOf, ringsAfter};
+use crate::form;
+use crate::form::Four;
+use refusals::RING_LIMIT;
+
+// By form there are so many cell lines at most: four digits have no index after 9999.
+pub const CELL_LINES: usize = 10000;
+
+// What a line behind the first was.
+pub enum Took {
+    Cell,
+    Ring,
+    End,
+    NoLine,
+}
+
+// Four numbers at place k of a lent list, if its room and the limit reach there.
+fn keep(list: &mut [f64], limit: usize, k: usize, a: f64, b: f64, c: f64, d: f64)
+    ensures { λ r. ⌜ now (list .exit) ≡ kept limit (now (list .entry)) k (a ∷ b ∷ c ∷ d ∷ []) ⌝ }
+{
+    if k < limit {
+        if k < list.len() / 4 {
+            let at = 4 * k;
+            list[at] = a;
+            list[at + 1] = b;
+            list[at + 2] = c;
+            list[at + 3] = d;
+        }
+    }
+}
+
+// Whether a line held numbers; they are stored at place k.
+fn store(list: &mut [f64], limit: usize, k: usize, four: Four) -> bool
+    ensures { λ r. ⌜ r ≡ taken four ⌝ }
+    ensures { λ r. ⌜ now (list .exit) ≡ stored limit (now (list .entry)) k four ⌝ }
+{
+    match four {
+        Four::Numbers(a, b, c, d) => {
+            keep(list, limit, k, a, b, c, d);
+            true
+        }
+        Four::NoFour => false,
+    }
+}
+
+// The line of the cell at n after m rings: no cell's line stands after a ring's.
+fn cell_in_turn(line: &[u8], n: usize, m: usize) -> Four
+    ensures { λ r. ⌜ r ≡ cellAt n m (now (line .entry)) ⌝ }
+{
+    if m == 0 {
+        if n < CELL_LINES {
+            return form::read_cell_line(line, n as u64);
+        }
+    }
+    Four::NoFour
+}
+
+// One line behind the first, after n cell lines and m ring lines, of `before` lines in all.
+pub fn store_line(
+    line: &[u8],
+    n: usize,
+    m: usize,
+    before: u64,
+    cells: &mut [f64],
+    rings: &mut [f64],
+) -> Took
+    ensures { λ r. ⌜ r ≡ tookOf n m before (now (line .entry)) ⌝ }
+    ensures { λ r. ⌜ now (cells .exit) ≡ stored mostCells (now (cells .entry)) n (cellAt n m (now (line .entry))) ⌝ }
+    ensures { λ r. ⌜ now (rings .exit) ≡ ringsAfter n m (now (line .entry)) (now (rings .entry)) ⌝ }
+{
+    let cell = cell_in_turn(line, n, m);
+    if store(cells, CELL_LINES, n, cell) {
+        return Took::Cell;
+    }
+    let ring = form::read_ring_line(line);
+    if store(rings, RING_LIMIT, m, ring) {
+        return Took::Ring;
+    }
+    if form::is_end_line(line, before) {
+        return Took::End;
+    }
+    Took::NoLine
+}
