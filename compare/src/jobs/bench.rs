@@ -4,10 +4,14 @@ use super::generate::cut_line;
 use super::parts::answered;
 use super::program::run;
 use crate::generate::Rng;
+use std::ffi::c_long;
 use std::time::Instant;
 
 /// How often each side runs a job.
 const JOB_RUNS: usize = 3;
+
+/// How often a job is taken in parts of one size.
+const PART_RUNS: usize = 9;
 
 /// Whether a job is to have lines of a kind.
 type Wanted = fn(&str) -> bool;
@@ -75,31 +79,56 @@ pub fn bench(program: &[String], lines: usize) {
     }
 }
 
-/// Prints the time of a job of some 300 KiB through the C calls, in parts of several sizes.
+unsafe extern "C" {
+    /// The processor time of this process, in millionths of a second.
+    fn clock() -> c_long;
+}
+
+/// A wheel with 26 detents, 300 fine passes of a nose at each.
+fn detents(rng: &mut Rng) -> String {
+    let mut input = String::from("bar\t0\t512000\t30000\t0\t1000\n");
+    for detent in 0..26 {
+        let z = 10_000 + 19_000 * detent;
+        for pass in 0..300 {
+            let sag = pass % 3;
+            let r = 30_600 - 30 * (pass % 200);
+            let [dr, az, bz] = [60, 4_000, 4_000].map(|n| rng.below(n));
+            let (end, az, bz) = (r - dr, z + az, z + 4_000 + bz);
+            input += &format!("line\touter\t800\t{sag}\t{r}\t{az}\t{end}\t{bz}\n");
+        }
+    }
+    input
+}
+
+/// Prints the processor time of a job of some 300 KiB through the C calls, in parts of several sizes.
 pub fn parts_bench() {
-    let mut rng = Rng::new(26);
-    let input = long_job(&mut rng, 10_000, |kind| kind != "ring");
+    let input = detents(&mut Rng::new(26));
     let expected = run(input.as_bytes());
     println!(
         "## A job of {} bytes in parts, through the C calls\n",
         input.len()
     );
-    println!("The median of {JOB_RUNS} runs in ms, and the least and the greatest in brackets.\n");
+    println!("Processor time, the least of {PART_RUNS} runs.\n");
     println!(
-        "| bytes in a part | parts | time | a part, over the whole at once |\n|---|---|---|---|"
+        "| bytes in a part | parts | ms | ns a part, over the whole at once |\n|---|---|---|---|"
     );
     let mut whole = 0.;
     for size in [input.len(), 4096, 16, 1] {
-        let (found, [median, least, most]) = timed(&input, |input| answered(input.chunks(size)));
-        assert!(
-            found == expected,
-            "parts of {size} bytes: the answers differ"
-        );
+        let mut least = f64::INFINITY;
+        for _ in 0..PART_RUNS {
+            let start = unsafe { clock() };
+            let found = answered(input.as_bytes().chunks(size));
+            least = least.min((unsafe { clock() } - start) as f64 / 1000.);
+            assert!(
+                found == expected,
+                "parts of {size} bytes: the answers differ"
+            );
+        }
         let parts = input.len().div_ceil(size);
         if parts == 1 {
             whole = least;
         }
         let each = (least - whole) * 1e6 / parts as f64;
-        println!("| {size} | {parts} | {median:.1} ({least:.1}..{most:.1}) | {each:.0} ns |");
+        println!("| {size} | {parts} | {least:.1} | {each:.0} |");
     }
 }
