@@ -1,0 +1,3 @@
+profile	outer	800	100
+point	20000	0	300000
+point	20000	10000	0
