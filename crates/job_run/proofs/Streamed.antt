@@ -57,7 +57,7 @@ bytes-stay : (s : List ℕ) (h : Hold) → stopped (h .state) ≡ true → foldl
 bytes-stay [] h e = refl
 bytes-stay (b ∷ s) h e = ap (λ (x : Hold). foldl byteOn x s) (byte-stays h b e) ∙ bytes-stay s h e
 
-parts-stay : (ps : List (List ℕ)) (h : Hold) → stopped (h .state) ≡ true → takeParts h ps ≡ h
+pub parts-stay : (ps : List (List ℕ)) (h : Hold) → stopped (h .state) ≡ true → takeParts h ps ≡ h
 parts-stay [] h e = refl
 parts-stay (p ∷ ps) h e = ap (λ (x : Hold). takeParts x ps) (bytes-stay p h e) ∙ parts-stay ps h e
 

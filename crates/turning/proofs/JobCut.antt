@@ -8,12 +8,14 @@ use lib.Dec.{eqb}
 use lib.ListN.{length, drop, getD}
 use lib.Seq.{sets-eq, length-sets}
 use lib.Ieee.{Float}
+use borrow.Author.Tests.{ne-eqb}
 use Rattle.floats.specs.Pick.{pick}
 use Rattle.text.proofs.Chosen.{yes, no}
 use Rattle.lines.specs.File.{joined}
 use Rattle.job_run.specs.declared.Run.{Run}
 use Rattle.job_run.specs.Run.{State, state, freshRun, refusedWith, Hold, hold, byteOn, finishOf, outputOf, jobOf}
 use Rattle.job_run.proofs.WholeFile.{takeParts, endOf, however-cut}
+use Rattle.job_run.proofs.Streamed.{parts-stay}
 use Rattle.job_run.proofs.Room.{Alike, alike-job, alike-output, alike-fresh}
 use Rattle.turning.specs.Jobs.{runFrom, heldIn, wordsOf, barOf, Kept, TakesJob, noBar, endFrom, endState, EndsJob}
 use Rattle.turning.specs.JobCalls.{Flat, inHand, TookFlat, start, part}
@@ -114,3 +116,7 @@ job-end-in-c {k = k} {ps = ps} zeros hb hl t cs rs ec er r l l' g =
       code = g .code ∙ ap (λ (x : ℕ). min x 4294967295) refused;
       line = g .line ∙ ap (λ (x : ℕ). pick (eqb x 0) l (endFrom (k .words) .lines)) refused ∙ ap (λ (x : ℕ). pick (eqb (jobOf (state freshRun cs rs) (joined ps) .run .refused) 0) l x) lines;
     }
+
+-- A REFUSED LINE IS THE LAST: whatever parts `turning_job_take` is handed after a refusal, the words are of the same job, and its bar, cells, rings and line are as they were.
+pub refused-in-c : {f k : Flat} {ps : List (List ℕ)} → length (f .words) ≡ 8 → length (f .bar) ≡ 5 → TookFlat f ps k → (getD (f .words) 5 0 ≡ 0 → ⊥) → inHand k ≡ inHand f
+refused-in-c {f} {k} {ps} hw hb t r = took-flat (record { words = hw; bar = hb }) t ∙ parts-stay ps (inHand f) (ap not (ne-eqb _ _ r))
