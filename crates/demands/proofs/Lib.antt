@@ -26,3 +26,5 @@ pub mod FieldNumbers
 pub mod JobNumbers
 pub mod Arcs
 pub mod Inserts
+pub mod InsertFinite
+pub mod InsertExample

@@ -35,13 +35,13 @@ lt-nan-l : (y : Float) → lt nan y ≡ false
 unfolding lt
 lt-nan-l y = refl
 
-lt-nan-r : (x : Float) → lt x nan ≡ false
+pub lt-nan-r : (x : Float) → lt x nan ≡ false
 unfolding lt
 lt-nan-r nan = refl
 lt-nan-r (inf s) = refl
 lt-nan-r (fin s m e) = refl
 
-nan-or : (x : Float) → T (fits binary64 x) → (x ≡ nan) ⊎ Number binary64 x
+pub nan-or : (x : Float) → T (fits binary64 x) → (x ≡ nan) ⊎ Number binary64 x
 unfolding isNan
 nan-or nan f = inl refl
 nan-or (inf s) f = inr (record { held = f; number = tt })

@@ -1,3 +1,4 @@
 pub mod Steps
 pub mod Best
 pub mod Eroding
+pub mod Finite
