@@ -1,8 +1,9 @@
 //! Chords of arcs go to the nose: cells beside camlib's own arc preview, chords split over two cuts, and what a nose refuses.
 use compare::call::{Answer, Call, Outcome, Room, Spec};
-use compare::generate::Rng;
-use compare::oracle::answer;
+use compare::generate::{Rng, family};
+use compare::oracle::numbers::length;
 use compare::oracle::stock::{bar, camlib_stock, fresh};
+use compare::oracle::{answer, profile};
 use compare::run::difference;
 use plain::motion::{Curve, Plane};
 use plain::turning::profile::{Seg, TurnProfile};
@@ -70,7 +71,64 @@ fn arc(rng: &mut Rng) -> ([[f64; 3]; 2], f64, f64) {
     ([a, b], rng.between(0.1, 3.), rng.pick(&[0.1, 0.02, 0.005]))
 }
 
-/// Of a bin's outer bounds both hold the exact sweep: the metal that is left to a bin by one may be left to it by the other.
+/// An arc from its first to its last angle about a centre in (z, r).
+struct Circle {
+    c: [f64; 2],
+    radius: f64,
+    from: f64,
+    sweep: f64,
+    ends: [[f64; 2]; 2],
+}
+
+impl Circle {
+    /// How far p is from the arc.
+    fn distance(&self, p: [f64; 2]) -> f64 {
+        let [dz, dr] = [p[0] - self.c[0], p[1] - self.c[1]];
+        let turned = (dr.atan2(dz) - self.from) * self.sweep.signum();
+        let on = turned.rem_euclid(std::f64::consts::TAU) <= self.sweep.abs();
+        let across = |e: &[f64; 2]| (p[0] - e[0]).hypot(p[1] - e[1]);
+        let ends = self.ends.iter().map(across).fold(f64::INFINITY, f64::min);
+        if on {
+            ends.min((dz.hypot(dr) - self.radius).abs())
+        } else {
+            ends
+        }
+    }
+
+    /// The lowest radius at z that a nose along the arc covers. It lies on the circle about an end, or beside the arc.
+    fn lowest(&self, z: f64, rn: f64) -> Option<f64> {
+        let mut found = vec![];
+        for e in self.ends {
+            found.push(e[1] - (rn * rn - (z - e[0]).powi(2)).sqrt());
+        }
+        for beside in [self.radius + rn, self.radius - rn] {
+            let h = (beside * beside - (z - self.c[0]).powi(2)).sqrt();
+            found.extend([self.c[1] - h, self.c[1] + h]);
+        }
+        let covered = |r: &f64| r.is_finite() && self.distance([z, *r]) <= rn + 1e-9;
+        found.into_iter().filter(covered).reduce(f64::min)
+    }
+}
+
+/// Of each bin the bounds hold the exact sweep.
+fn holds(cells: &[[f64; 4]], circle: &Circle, rn: f64, who: &str) {
+    for (i, cell) in cells.iter().enumerate() {
+        for k in 0..=32 {
+            let z = BAR.cell * (i as f64 + k as f64 / 32.);
+            let at = circle
+                .lowest(z, rn)
+                .unwrap_or(BAR.outer)
+                .min(BAR.outer)
+                .max(0.);
+            assert!(
+                cell[0] <= at + 1e-9 && at - 1e-9 <= cell[1],
+                "{who}: bin {i} {cell:?} at z {z}: {at}"
+            );
+        }
+    }
+}
+
+/// Of a bin's outer bounds both hold the exact sweep, so a radius lies within both.
 #[test]
 fn cells_agree_with_camlibs_arc() {
     let mut rng = Rng::new(7);
@@ -102,6 +160,17 @@ fn cells_agree_with_camlibs_arc() {
             theirs[change.index][1] = change.after.outer.upper_mm;
         }
         let ours = cut(&fresh(&stock), rn, &chords(&points, tolerance));
+        let ends = points.map(|p| [p[1], p[0]]);
+        let [dz, dr] = [ends[0][0] - c[0], ends[0][1] - c[1]];
+        let circle = Circle {
+            c,
+            radius: dz.hypot(dr),
+            from: dr.atan2(dz),
+            sweep,
+            ends,
+        };
+        holds(&ours, &circle, rn, "here");
+        holds(&theirs, &circle, rn, "camlib");
         for (i, (a, b)) in ours.iter().zip(&theirs).enumerate() {
             let (lower, upper) = (a[0].max(b[0]), a[1].min(b[1]));
             assert!(
@@ -147,4 +216,75 @@ fn chords_past_a_million() {
         },
     };
     assert_eq!(here(call), Err(5));
+}
+
+/// camlib's `segments` accepts exactly where 17 does not refuse, but for what DIFFERENCES lists: over 256 points, a bulge over 1,
+/// that of the last point too, and a distance at which `hypot` and the length differ.
+#[test]
+fn accepts_where_camlib_does() {
+    let (make, mut rng) = (family("profile").expect("a family"), Rng::new(26));
+    let (mut both, mut neither, mut listed) = (0, 0, 0);
+    for _ in 0..200_000 {
+        let Call::Segments { points, .. } = make(&mut rng) else {
+            panic!()
+        };
+        let (whole, rest) = points.as_chunks::<3>();
+        if !rest.is_empty() {
+            continue;
+        }
+        let theirs = TurnProfile {
+            points: whole.to_vec(),
+        }
+        .segments()
+        .is_ok();
+        let ours = profile::points(&points, 0.1).is_ok();
+        let apart = |w: &[[f64; 3]]| {
+            let [dz, dr] = [w[1][1] - w[0][1], w[1][0] - w[0][0]];
+            (dz.hypot(dr) > 1e-9) == length(dz, dr).is_ok_and(|l| l > 1e-9)
+        };
+        let named = whole.len() > 256
+            || whole.iter().any(|p| p[2].abs() > 1.)
+            || !whole.windows(2).all(apart);
+        if named {
+            listed += 1;
+        } else {
+            assert_eq!(ours, theirs, "{points:?}");
+            both += usize::from(ours);
+            neither += usize::from(!ours);
+        }
+    }
+    assert!(
+        both > 10_000 && neither > 1_000 && listed > 100,
+        "{both} {neither} {listed}"
+    );
+    println!("{both} accepted by both, {neither} by neither, {listed} that differences name");
+}
+
+/// More than 4,096 chords: accepted into a larger room, refused by one nose, and cut by two.
+#[test]
+fn more_chords_than_a_nose_takes() {
+    let points: Vec<f64> = (0..6).flat_map(|k| [20., 2. * f64::from(k), 1.]).collect();
+    let call = Call::Segments {
+        points,
+        tolerance: 1.2e-6,
+        segments_len: 5 * 6000,
+    };
+    let Ok(Answer::Chords(chords)) = here(call) else {
+        panic!()
+    };
+    assert_eq!(chords.len(), 5 * 1024);
+    let call = Call::Preview {
+        spec: BAR,
+        cells: fresh(&bar(&BAR).unwrap()).as_flattened().to_vec(),
+        side: 0,
+        rn: 1.,
+        segments: chords.as_flattened().to_vec(),
+        room: Room {
+            indices: N,
+            records: 8 * N,
+        },
+    };
+    assert_eq!(here(call), Err(5));
+    let cells = cut(&fresh(&bar(&BAR).unwrap()), 1., &chords[..4096]);
+    cut(&cells, 1., &chords[4096..]);
 }

@@ -28,7 +28,11 @@ fn whole(field: &[u8]) -> Option<i64> {
         None => (1, field),
     };
     let good = (1..=10).contains(&digits.len()) && digits.iter().all(u8::is_ascii_digit);
-    let n: i64 = std::str::from_utf8(digits).ok().filter(|_| good)?.parse().ok()?;
+    let n: i64 = std::str::from_utf8(digits)
+        .ok()
+        .filter(|_| good)?
+        .parse()
+        .ok()?;
     (n <= 1_000_000_000).then_some(sign * n)
 }
 
@@ -52,7 +56,9 @@ enum Line {
 
 fn line(text: &[u8]) -> Option<Line> {
     let fields: Vec<&[u8]> = text.split(|b| *b == b'\t').collect();
-    let [word, a, b, c] = fields[..] else { return None };
+    let [word, a, b, c] = fields[..] else {
+        return None;
+    };
     let mm = |f: &[u8]| whole(f).map(|n| n as f64 / 1000.);
     match word {
         b"profile" if a == b"outer" || a == b"inner" => Some(Line::Head(
@@ -124,7 +130,11 @@ fn good(rng: &mut Rng) -> Vec<u8> {
     let mut text = format!("profile\t{side}\t{rn}\t{tolerance}\n");
     for _ in 0..2 + rng.below(4) {
         let (r, z) = (whole(rng, 0., 42000.), whole(rng, -2000., 52000.));
-        let bulge = if rng.once_in(4) { 0 } else { whole(rng, -1e6, 1e6) };
+        let bulge = if rng.once_in(4) {
+            0
+        } else {
+            whole(rng, -1e6, 1e6)
+        };
         text += &format!("point\t{r}\t{z}\t{bulge}\n");
     }
     text.into_bytes()
@@ -222,8 +232,13 @@ fn lines_through_the_job() {
         for line in std::str::from_utf8(&lines).unwrap().lines() {
             let fields: Vec<&str> = line.split('\t').collect();
             assert_eq!(fields[..2], ["line", &profile.side]);
-            let n: Vec<f64> = fields[2..].iter().map(|f| f.parse::<i64>().unwrap() as f64 / 1000.).collect();
-            let [rn, sag, ar, az, br, bz] = n[..] else { panic!("{line}") };
+            let n: Vec<f64> = fields[2..]
+                .iter()
+                .map(|f| f.parse::<i64>().unwrap() as f64 / 1000.)
+                .collect();
+            let [rn, sag, ar, az, br, bz] = n[..] else {
+                panic!("{line}")
+            };
             assert_eq!(rn, profile.rn);
             cells = cut(&cells, side, rn, &[[ar, az, br, bz, sag]]);
             lines_seen += 1;
@@ -259,7 +274,11 @@ fn the_program() {
     };
     let mut rng = Rng::new(27);
     for k in 0..3_000 {
-        let input = if k % 3 == 0 { good(&mut rng) } else { any(&mut rng) };
+        let input = if k % 3 == 0 {
+            good(&mut rng)
+        } else {
+            any(&mut rng)
+        };
         let mut child = Command::new(&program)
             .stdin(Stdio::piped())
             .stdout(Stdio::piped())
@@ -272,6 +291,11 @@ fn the_program() {
         stdin.write_all(b).unwrap();
         drop(stdin);
         let got = child.wait_with_output().unwrap().stdout;
-        assert!(got == chopped(&input), "{}\n{}", String::from_utf8_lossy(&input), String::from_utf8_lossy(&got));
+        assert!(
+            got == chopped(&input),
+            "{}\n{}",
+            String::from_utf8_lossy(&input),
+            String::from_utf8_lossy(&got)
+        );
     }
 }

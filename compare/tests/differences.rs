@@ -708,6 +708,54 @@ fn nothing_touches() {
     assert_eq!(eroded(3.5, 0.1), found(5.9));
     assert_eq!(eroded(0.05, 0.1), nothing);
     assert_eq!(eroded(0.1, 0.1), found(9.9));
+    // from the other end on, and as far as points may be
+    let mut turned = WHEEL;
+    turned.reverse();
+    assert_eq!(excess(&turned, &insert, 0.1), found(2.9000000000000004));
+    assert_eq!(
+        penetration(&turned, &insert, 0.1),
+        found(0.40000000000000036)
+    );
+    let far = |u: f64, tolerance: f64| {
+        here(Call::Eroded {
+            points: vec![-1e6, 5., 1e6, 5.],
+            u,
+            tolerance,
+        })
+    };
+    assert_eq!(far(0., 1e6), found(-999995.));
+    assert_eq!(far(1e6, 0.5), nothing);
+}
+
+/// The same in both, and wrong: between two candidates what is eroded may be higher than at both, so that a gouge is missed.
+#[test]
+fn between_two_candidates() {
+    let peak = [[0., 10.], [4., 14.], [6., 10.]];
+    let flat = [[1., 12.6], [5., 12.6], [5., 15.], [1., 15.]];
+    let theirs = Envelope::new(peak.to_vec()).penetration(&flat, 0.5);
+    assert!((theirs + 0.1).abs() < 1e-9, "{theirs}");
+    assert_eq!(
+        penetration(&peak, &flat, 0.5),
+        Ok(Answer::Found(Some(vec![theirs])))
+    );
+    let eroded = here(Call::Eroded {
+        points: peak.as_flattened().to_vec(),
+        u: 23. / 6.,
+        tolerance: 0.5,
+    });
+    let Ok(Answer::Found(Some(eroded))) = eroded else {
+        panic!("{eroded:?}")
+    };
+    assert!((eroded[0] - 77. / 6.).abs() < 1e-9 && eroded[0] > 12.6);
+    // and a bore in a valley, for which excess is too small
+    let valley = [[0., 14.], [4., 10.], [6., 14.]];
+    let high = [[1., 9.], [5., 9.], [5., 11.6], [1., 11.6]];
+    let theirs = Envelope::new(valley.to_vec()).excess(&high, 0.5);
+    assert!((theirs - 0.1).abs() < 1e-9, "{theirs}");
+    assert_eq!(
+        excess(&valley, &high, 0.5),
+        Ok(Answer::Found(Some(vec![theirs])))
+    );
 }
 
 /// camlib panics on points that have an order.
