@@ -446,6 +446,25 @@ fn bulge_over_one() {
     }
 }
 
+/// The length is one step over 1e-9; `hypot` is 1e-9, as the distance is nearer to.
+#[test]
+fn neighbours_at_1e_9() {
+    let points = [
+        [0., 0., 0.],
+        [2.9318362339102347e-10, 9.560561505347428e-10, 0.],
+    ];
+    let theirs = TurnProfile {
+        points: points.to_vec(),
+    };
+    assert!(theirs.segments().is_err());
+    let call = Call::Segments {
+        points: points.as_flattened().to_vec(),
+        tolerance: 0.1,
+        segments_len: 100,
+    };
+    assert!(here(call).is_ok());
+}
+
 #[test]
 fn more_than_256_points() {
     let points: Vec<[f64; 3]> = (0..257).map(|k| [1., k as f64, 0.]).collect();

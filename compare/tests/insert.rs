@@ -165,3 +165,29 @@ fn all_points_in_the_place_of_a_part() {
     assert!(tried > CALLS / 10, "{tried}");
     println!("{tried} calls");
 }
+
+/// How long a call takes on 1,024 points in no order; `cargo test --release --test insert -- --ignored --nocapture` prints it.
+#[test]
+#[ignore]
+fn points_in_no_order() {
+    let points: Points = (0..1024)
+        .map(|i| [f64::from(i * 389 % 1024), 10. + f64::from(i % 7)])
+        .collect();
+    let polygon = [[0., 9.], [1023., 9.], [1023., 12.], [0., 12.]];
+    let envelope = plain::turning::profile::Envelope::new(points.clone());
+    for tolerance in [0.05, 5., 300.] {
+        let start = std::time::Instant::now();
+        let theirs = envelope.penetration(&polygon, tolerance);
+        let rust = start.elapsed();
+        let call = Call::Penetration {
+            points: points.as_flattened().to_vec(),
+            polygon: polygon.as_flattened().to_vec(),
+            tolerance,
+        };
+        let mut memory = compare::memory::Memory::of(&call);
+        let start = std::time::Instant::now();
+        let number = compare::library::run(&call, &mut memory);
+        let here = start.elapsed();
+        println!("t {tolerance}: {rust:?} and {here:?}: {theirs}, {number}");
+    }
+}

@@ -1,4 +1,4 @@
--- A profile read from a descriptor. No reader has to believe this file: what is read is `scanOf` of some bytes. Assumes nothing.
+-- A profile read from a descriptor; need not be believed: what is read is `scanOf` of some bytes (`ChopsSome`). Assumes nothing.
 use mathlib.Core.Path.{_≡_}
 use mathlib.Core.Bool.{Bool, true, false}
 use mathlib.Core.List.{List}

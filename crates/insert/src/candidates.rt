@@ -1,5 +1,6 @@
 // The candidates, where an insert is compared: each point of the envelope about the polygon, at its u and the
-// tolerance beside it, and each point of the polygon. Between two of them both shapes are straight.
+// tolerance beside it, and each point of the polygon, as the source has them. Between two of them more may
+// be there (docs/INSERT.md).
 ghost use mathlib.Core.Path.{_≡_};
 ghost use Rattle.envelope.specs.Halving.{radiusOf};
 ghost use mathlib.Core.Option.{some};
