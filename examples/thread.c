@@ -21,11 +21,15 @@ static int refused(const char *call, uint32_t number)
 int main(void)
 {
     double cells[4 * BINS], records[8 * BINS], rings[4 * 8];
-    size_t indices[BINS], n = 0, changes = 0, stored = 0, k;
+    size_t indices[BINS], n = 0, changes = 0, stored = 0, position = 0, k;
     uint64_t generation = 0;
     uint32_t number, found = 0;
     double least = 0, greatest = 0, bore = 0, outer = 0;
 
+    if (turning_header() != TURNING_HEADER) {
+        fprintf(stderr, "the archive is of another turning.h\n");
+        return 1;
+    }
     if (refused("turning_validate", turning_validate(BAR, &n)))
         return 1;
     if (refused("turning_new", turning_new(BAR, cells, 4 * n)))
@@ -40,10 +44,10 @@ int main(void)
                records[8 * k + 4], records[8 * k + 5]);
 
     /* Make the changes, and take a groove out of the face at z = 4: radii 4 to 5, half a millimetre deep. */
-    number = turning_apply(BAR, cells, 4 * n, &generation, indices, BINS, records, 8 * BINS, changes);
+    number = turning_apply(BAR, cells, 4 * n, &generation, indices, BINS, records, 8 * BINS, changes, &position);
     if (refused("turning_apply", number))
         return 1;
-    number = turning_remove_ring(BAR, rings, 4 * 8, &stored, &generation, 3.5, 4.5, 4.0, 5.0);
+    number = turning_remove_ring(BAR, rings, 4 * 8, &stored, &generation, 3.5, 4.5, 4.0, 5.0, &position);
     if (refused("turning_remove_ring", number))
         return 1;
     printf("ring: z %g..%g, radius %g..%g; generation %u\n", rings[0], rings[1], rings[2], rings[3], (unsigned)generation);
@@ -59,8 +63,9 @@ int main(void)
     if (found)
         printf("at z 1.5 there may be material from radius %g to %g\n", bore, outer);
 
-    /* The same list again: the bins hold something else now. Nothing changes. */
-    number = turning_apply(BAR, cells, 4 * n, &generation, indices, BINS, records, 8 * BINS, changes);
-    printf("the same changes again: %u; generation %u\n", (unsigned)number, (unsigned)generation);
+    /* The same list again: the bins hold something else now, the first of the list too. Nothing changes. */
+    number = turning_apply(BAR, cells, 4 * n, &generation, indices, BINS, records, 8 * BINS, changes, &position);
+    printf("the same changes again: %u at change %u; generation %u\n", (unsigned)number, (unsigned)position,
+           (unsigned)generation);
     return 0;
 }

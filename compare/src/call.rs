@@ -146,5 +146,24 @@ pub enum Answer {
     Chords(Vec<[f64; 5]>),
 }
 
-/// An answer, or document 01's number of the refusal.
-pub type Outcome = Result<Answer, u32>;
+/// Why a call is refused: the number of document 01 or 02, and the position, from 0, of what offends in
+/// its list, where the number has one (Req 04 of 02).
+#[derive(Clone, Copy, Debug, PartialEq)]
+pub struct Reason {
+    pub number: u32,
+    pub place: Option<usize>,
+}
+
+impl Reason {
+    pub fn only(number: u32) -> Self {
+        let place = None;
+        Self { number, place }
+    }
+    pub fn at(number: u32, place: usize) -> Self {
+        let place = Some(place);
+        Self { number, place }
+    }
+}
+
+/// An answer, or why there is none.
+pub type Outcome = Result<Answer, Reason>;

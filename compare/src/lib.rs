@@ -16,6 +16,7 @@ pub mod library;
 pub mod limits;
 pub mod memory;
 pub mod oracle;
+pub mod positions;
 pub mod record;
 pub mod run;
 pub mod sequence;

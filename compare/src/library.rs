@@ -37,6 +37,7 @@ pub mod c {
     type Size = *mut usize;
 
     declare! {
+        turning_header();
         turning_root(x: f64, root: Out);
         turning_length(x: f64, y: f64, length: Out);
         turning_envelope_order(points: In, points_len: usize, order: *mut i32);
@@ -91,7 +92,7 @@ pub mod c {
         );
         turning_apply(
             cells: Out, cells_len: usize, generation: *mut u64, indices: Sizes, indices_len: usize,
-            records: In, records_len: usize, changes: usize
+            records: In, records_len: usize, changes: usize, position: Size
         );
         turning_changes_to(
             cells: In, cells_len: usize, after: In, after_len: usize, indices: Size, indices_len: usize,
@@ -99,16 +100,16 @@ pub mod c {
         );
         turning_remove_ring(
             rings: Out, rings_len: usize, rings_count: Size, generation: *mut u64, z0: f64, z1: f64,
-            r0: f64, r1: f64
+            r0: f64, r1: f64, position: Size
         );
         turning_apply_move(
             cells: Out, cells_len: usize, rings: Out, rings_len: usize, rings_count: Size,
             generation: *mut u64, indices: Sizes, indices_len: usize, records: In, records_len: usize,
-            changes: usize, removed: In, removed_len: usize
+            changes: usize, removed: In, removed_len: usize, position: Size
         );
         turning_from_parts(
             cells: In, cells_len: usize, given: In, given_len: usize, rings: Out, rings_len: usize,
-            rings_count: Size
+            rings_count: Size, position: Size
         );
         turning_volume(
             cells: In, cells_len: usize, rings: In, rings_len: usize, rings_count: usize, least: Out,
@@ -173,7 +174,7 @@ pub fn run(call: &Call, memory: &mut Memory) -> u32 {
             }
             Call::Apply { spec, list, .. } => spec_call!(
                 turning_apply, spec, m[0].start(), m[0].size(), m[1].start(),
-                m[2].start(), m[2].size(), m[3].start(), m[3].size(), list.changes
+                m[2].start(), m[2].size(), m[3].start(), m[3].size(), list.changes, m[4].start()
             ),
             Call::ChangesTo { spec, .. } => spec_call!(
                 turning_changes_to, spec, m[0].start(), m[0].size(), m[1].start(), m[1].size(),
@@ -181,17 +182,17 @@ pub fn run(call: &Call, memory: &mut Memory) -> u32 {
             ),
             Call::RemoveRing { spec, ring, .. } => spec_call!(
                 turning_remove_ring, spec, m[0].start(), m[0].size(), m[1].start(), m[2].start(),
-                ring[0], ring[1], ring[2], ring[3]
+                ring[0], ring[1], ring[2], ring[3], m[3].start()
             ),
             Call::ApplyMove { spec, list, .. } => spec_call!(
                 turning_apply_move, spec, m[0].start(), m[0].size(),
                 m[1].start(), m[1].size(), m[2].start(), m[3].start(),
                 m[4].start(), m[4].size(), m[5].start(), m[5].size(), list.changes,
-                m[6].start(), m[6].size()
+                m[6].start(), m[6].size(), m[7].start()
             ),
             Call::FromParts { spec, .. } => spec_call!(
                 turning_from_parts, spec, m[0].start(), m[0].size(), m[1].start(), m[1].size(),
-                m[2].start(), m[2].size(), m[3].start()
+                m[2].start(), m[2].size(), m[3].start(), m[4].start()
             ),
             Call::Volume { spec, store, .. } => spec_call!(
                 turning_volume, spec, m[0].start(), m[0].size(), m[1].start(), m[1].size(),

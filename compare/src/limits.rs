@@ -1,12 +1,15 @@
 //! Calls at document 01's limits and one beyond, each with the number that 01 gives; lengths at the
 //! corners of their rule; envelope queries at the corners where a look at a part of the points could
-//! miss a segment; and profiles at the corners of theirs.
-use crate::call::{Answer, Call, List, Outcome, Room, Simple, Spec, Store};
+//! miss a segment; and profiles at the corners of theirs. Those that say where they fail are in
+//! `positions`.
+use crate::call::{Answer, Call, List, Outcome, Reason, Room, Simple, Spec, Store};
 use crate::oracle::{
-    ARGUMENT, BEFORE, CELLS, CHORDS, COUNT, ENVELOPE, GENERATION, MILLION, MOST_CELLS,
-    MOST_ENVELOPE_POINTS, MOST_POINTS, MOST_PROFILE_POINTS, MOST_RINGS, MOST_SEGMENTS, PIECES,
-    PROFILE, ROOM, STORED,
+    ARGUMENT, CELLS, CHORDS, COUNT, ENVELOPE, GENERATION, MILLION, MOST_CELLS,
+    MOST_ENVELOPE_POINTS, MOST_POINTS, MOST_PROFILE_POINTS, MOST_RINGS, MOST_SEGMENTS, NO_BIN,
+    PIECES, PROFILE, ROOM, STORED,
 };
+use crate::positions;
+use crate::run::number;
 
 type Ring = [f64; 4];
 
@@ -67,7 +70,9 @@ fn specs() -> Vec<(Call, u32)> {
     }
     for (spec, i, number) in [
         (most, MOST_CELLS - 1, 0),
-        (most, MOST_CELLS, BEFORE),
+        (most, MOST_CELLS, NO_BIN),
+        (most, MOST_CELLS + 1, NO_BIN),
+        (most, usize::MAX, NO_BIN),
         (over, 0, COUNT),
     ] {
         calls.push((Call::Bin { spec, i }, number));
@@ -209,7 +214,6 @@ fn commits() -> Vec<(Call, u32)> {
         (0, 0, 0),
         (last, u64::MAX - 1, 0),
         (last, u64::MAX, GENERATION),
-        (last + 1, 0, BEFORE),
     ] {
         let (spec, cells) = (bar(MOST_CELLS), whole(MOST_CELLS));
         let list = change(i);
@@ -670,8 +674,12 @@ pub fn corners() -> Vec<(&'static str, Call, Outcome)> {
     for corner in CORNERS {
         let points = corner.points.as_flattened().to_vec();
         let [lo, hi] = corner.query;
-        let at = corner.at.map(|v| Answer::Found(v.map(|v| vec![v])));
-        let over = corner.over.map(|v| Answer::Found(v.map(|v| v.to_vec())));
+        let at = (corner.at)
+            .map_err(Reason::only)
+            .map(|v| Answer::Found(v.map(|v| vec![v])));
+        let over = (corner.over)
+            .map_err(Reason::only)
+            .map(|v| Answer::Found(v.map(|v| v.to_vec())));
         let again = points.clone();
         calls.push((corner.name, Call::RadiusAt { points, u: lo }, at));
         let points = again;
@@ -682,9 +690,8 @@ pub fn corners() -> Vec<(&'static str, Call, Outcome)> {
 
 fn at_corners() -> Vec<(Call, u32)> {
     let calls = corners().into_iter();
-    let number = |outcome: Outcome| outcome.err().unwrap_or(0);
     calls
-        .map(|(_, call, outcome)| (call, number(outcome)))
+        .map(|(_, call, outcome)| (call, number(&outcome)))
         .collect()
 }
 
@@ -955,9 +962,9 @@ fn arcs() -> Vec<(Call, u32)> {
         .collect()
 }
 
-/// Every call at a limit or a corner, with its number.
-pub fn calls() -> Vec<(Call, u32)> {
-    [
+/// Every call at a limit or a corner, with why it is refused.
+pub fn calls() -> Vec<(Call, Option<Reason>)> {
+    let numbered = [
         lengths(),
         specs(),
         listed(),
@@ -968,6 +975,13 @@ pub fn calls() -> Vec<(Call, u32)> {
         queries(),
         at_corners(),
         arcs(),
-    ]
-    .concat()
+    ];
+    let numbered = numbered.concat().into_iter();
+    let placed = [positions::commits(), positions::rings()].concat();
+    let placed = placed.into_iter().map(|(_, call, reason)| (call, reason));
+    let refused = |number: u32| (number > 0).then(|| Reason::only(number));
+    numbered
+        .map(|(call, number)| (call, refused(number)))
+        .chain(placed)
+        .collect()
 }

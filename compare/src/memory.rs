@@ -4,6 +4,9 @@ use crate::call::{Answer, Call, Change, List, Outcome, Room, Store};
 /// Words before and after each buffer that no call may touch.
 const GUARD: usize = 3;
 
+/// What a position holds before a call.
+const NO_POSITION: u64 = 7_777_777;
+
 /// One lent buffer between its guards.
 #[derive(Clone, Debug, PartialEq)]
 pub struct Lent {
@@ -110,6 +113,10 @@ fn store(lent: &mut Vec<Lent>, store: &Store, generation: u64) {
     lent.push(word("generation", generation));
 }
 
+fn position() -> Lent {
+    word("position", NO_POSITION)
+}
+
 impl Memory {
     /// What is lent to the call, before it.
     pub fn of(call: &Call) -> Self {
@@ -154,6 +161,7 @@ impl Memory {
                 m.push(word("generation", *generation));
                 m.push(indices(list));
                 m.push(Lent::holding("records", &list.records));
+                m.push(position());
             }
             Call::ChangesTo {
                 cells,
@@ -169,7 +177,10 @@ impl Memory {
                 store: s,
                 generation,
                 ..
-            } => store(&mut m, s, *generation),
+            } => {
+                store(&mut m, s, *generation);
+                m.push(position());
+            }
             Call::ApplyMove {
                 cells,
                 store: s,
@@ -183,6 +194,7 @@ impl Memory {
                 m.push(indices(list));
                 m.push(Lent::holding("records", &list.records));
                 m.push(Lent::holding("removed", removed));
+                m.push(position());
             }
             Call::FromParts {
                 cells,
@@ -194,6 +206,7 @@ impl Memory {
                 m.push(Lent::holding("given", given));
                 m.push(Lent::blank("rings", *rings_len));
                 m.push(Lent::blank("rings_count", 1));
+                m.push(position());
             }
             Call::Volume { cells, store, .. } => {
                 m.push(Lent::holding("cells", cells));
@@ -285,9 +298,18 @@ impl Memory {
         self.put_word("count", changes.len() as u64);
     }
 
-    /// Writes what the outcome writes: a refusal nothing, an answer its values.
+    /// Writes what the outcome writes: a refusal its position, where it has one, and an answer its values.
     pub fn write(&mut self, outcome: &Outcome) {
-        let Ok(answer) = outcome else { return };
+        match outcome {
+            Ok(answer) => self.write_answer(answer),
+            Err(reason) => {
+                let place = reason.place.into_iter();
+                place.for_each(|k| self.put_word("position", k as u64));
+            }
+        }
+    }
+
+    fn write_answer(&mut self, answer: &Answer) {
         match answer {
             Answer::Number(x) => self.lent[0].put(0, &[*x]),
             Answer::Bins(n) => self.put_word("n", *n as u64),

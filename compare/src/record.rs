@@ -1,7 +1,9 @@
 //! Calls and answers as lines of text, for a replay that needs no Rust.
 //!
 //! A line is a call: its name, its inputs, `=`, and the number it answers, followed where that is 0
-//! by what it wrote. Fields are parted by single spaces. Every f64 is 16 hex digits in capitals,
+//! by what it wrote, and where it is a refusal that has a position (Req 04 of 02) by that position:
+//! `= NUMBER [POSITION]`. A refusal without one ends with its number, and `*position` is then as it was;
+//! so it is where a call is accepted. Fields are parted by single spaces. Every f64 is 16 hex digits in capitals,
 //! everything else is decimal, and the replay tells the two apart by that length. `N*M` says M fields,
 //! each the one N places before it.
 //!
@@ -42,6 +44,7 @@
 //! lent beyond the count is the reader's to fill.
 use crate::call::{Answer, Call, Change, List, Outcome, Room, Simple, Spec, Store};
 use crate::generate::{self, Rng};
+use crate::run::number;
 use crate::{limits, oracle};
 use std::collections::BTreeMap;
 
@@ -311,7 +314,12 @@ fn fields(call: &Call, outcome: &Outcome) -> Line {
     line.field("=".into());
     match outcome {
         Ok(answer) => written(line.size(0), call, answer),
-        Err(number) => drop(line.size(number)),
+        Err(reason) => {
+            line.size(reason.number);
+            if let Some(k) = reason.place {
+                line.size(k);
+            }
+        }
     }
     line
 }
@@ -330,12 +338,18 @@ fn replayed(call: &Call, outcome: &Outcome, longest: usize) -> Option<String> {
     Some(fields.short()).filter(|text| text.len() < longest)
 }
 
-/// Every call at a limit, a line each.
+/// Every call at a limit, a line each, but for lists of 4,096 changes, which the replay has no room for.
 pub fn at_the_limits() -> Vec<String> {
     let mut lines = vec![];
     for (call, _) in limits::calls() {
-        let line = replayed(&call, &oracle::answer(&call), LINE);
-        lines.push(line.expect("the replay has room for the call"));
+        match replayed(&call, &oracle::answer(&call), LINE) {
+            Some(line) => lines.push(line),
+            None => assert!(
+                matches!(&call, Call::Apply { list, .. } | Call::ApplyMove { list, .. } if list.changes == 4096),
+                "the replay has no room for a call of {}",
+                call.name()
+            ),
+        }
     }
     lines
 }
@@ -352,7 +366,7 @@ pub fn sample(name: &str, count: usize, seed: u64) -> Option<Vec<String>> {
         tries += 1;
         let call = make(&mut rng);
         let outcome = oracle::answer(&call);
-        let number = outcome.as_ref().err().copied().unwrap_or(0);
+        let number = number(&outcome);
         let share = if number == 0 {
             count * 3 / 5
         } else {

@@ -77,7 +77,7 @@ impl Calls {
 
 /// The number that an outcome answers.
 pub fn number(outcome: &Outcome) -> u32 {
-    outcome.as_ref().err().copied().unwrap_or(0)
+    outcome.as_ref().err().map_or(0, |reason| reason.number)
 }
 
 /// What the library does otherwise than the outcome says, or than the full look.

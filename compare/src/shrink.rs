@@ -79,8 +79,16 @@ impl<'a> Items<'a> {
         match self {
             Items::Flat(list, size) => drop(list.drain(start * *size..end * *size)),
             Items::Store(store) => {
+                // The room of a stored ring stays, and is left out by itself.
+                let stored = store.count.min(end) - store.count.min(start);
+                let room = if store.count <= store.rings.len() / 4 {
+                    stored
+                } else {
+                    0
+                };
                 store.rings.drain(4 * start..4 * end);
-                store.count -= store.count.min(end) - store.count.min(start);
+                store.rings.extend(vec![0.; 4 * room]);
+                store.count -= stored;
             }
             Items::Changes(list) => {
                 list.indices.drain(start..end);

@@ -1,5 +1,5 @@
 //! Chords of arcs go to the nose: cells beside camlib's own arc preview, chords split over two cuts, and what a nose refuses.
-use compare::call::{Answer, Call, Outcome, Room, Spec};
+use compare::call::{Answer, Call, Outcome, Reason, Room, Spec};
 use compare::generate::{Rng, family};
 use compare::oracle::numbers::length;
 use compare::oracle::stock::{bar, camlib_stock, fresh};
@@ -215,7 +215,7 @@ fn chords_past_a_million() {
             records: 8 * N,
         },
     };
-    assert_eq!(here(call), Err(5));
+    assert_eq!(here(call), Err(Reason::only(5)));
 }
 
 /// camlib's `segments` accepts exactly where 17 does not refuse, but for what DIFFERENCES lists: over 256 points, a bulge over 1,
@@ -284,7 +284,7 @@ fn more_chords_than_a_nose_takes() {
             records: 8 * N,
         },
     };
-    assert_eq!(here(call), Err(5));
+    assert_eq!(here(call), Err(Reason::only(5)));
     let cells = cut(&fresh(&bar(&BAR).unwrap()), 1., &chords[..4096]);
     cut(&cells, 1., &chords[4096..]);
 }

@@ -25,7 +25,8 @@ fn longest() -> impl Iterator<Item = usize> {
 fn null_with_length_0() {
     let (cells, none, is, xs) = (CELL.as_ptr(), null(), null_mut(), null_mut());
     let (mut own, mut count, mut generation, mut first, mut order) = (CELL, 7, 0, 7, 7);
-    let (mut found, mut x, mut y) = (7, 7., 7.);
+    let (mut found, mut x, mut y, mut position) = (7, 7., 7., 7_usize);
+    let at = &mut position as *mut usize;
     assert_eq!(bar!(turning_new, xs, 0), 3);
     assert_eq!(bar!(turning_preview, none, 0, 0, 1., none, 0, is, 0, xs, 0, &mut count), 3);
     assert_eq!((count, found, order), (7, 7, 7));
@@ -37,15 +38,15 @@ fn null_with_length_0() {
     assert_eq!(bar!(turning_thread_cut_inner, cells, 4, 2., 3., 5., is, 0, xs, 0, &mut count), 0);
     assert_eq!(bar!(turning_drill, cells, 4, 2., 5., 0., is, 0, xs, 0, &mut count), 0);
     assert_eq!(bar!(turning_changes_to, cells, 4, cells, 4, is, 0, xs, 0, &mut count), 0);
-    assert_eq!(bar!(turning_apply, own.as_mut_ptr(), 4, &mut generation, null(), 0, none, 0, 0), 0);
+    assert_eq!(bar!(turning_apply, own.as_mut_ptr(), 4, &mut generation, null(), 0, none, 0, 0, at), 0);
     assert_eq!((own, generation, count), (CELL, 1, 0));
-    assert_eq!(bar!(turning_remove_ring, xs, 0, &mut count, &mut generation, 2., 3., 0., 1.), 0);
+    assert_eq!(bar!(turning_remove_ring, xs, 0, &mut count, &mut generation, 2., 3., 0., 1., at), 0);
     assert_eq!((count, generation), (0, 1));
-    assert_eq!(bar!(turning_remove_ring, xs, 0, &mut count, &mut generation, 0., 1., 0., 1.), 11);
+    assert_eq!(bar!(turning_remove_ring, xs, 0, &mut count, &mut generation, 0., 1., 0., 1., at), 11);
     let stored = &mut count;
-    assert_eq!(bar!(turning_apply_move, own.as_mut_ptr(), 4, xs, 0, stored, &mut generation, null(), 0, none, 0, 0, none, 0), 0);
+    assert_eq!(bar!(turning_apply_move, own.as_mut_ptr(), 4, xs, 0, stored, &mut generation, null(), 0, none, 0, 0, none, 0, at), 0);
     assert_eq!((count, generation), (0, 2));
-    assert_eq!(bar!(turning_from_parts, cells, 4, none, 0, xs, 0, &mut count), 0);
+    assert_eq!(bar!(turning_from_parts, cells, 4, none, 0, xs, 0, &mut count, at), 0);
     assert_eq!(bar!(turning_volume, cells, 4, none, 0, 0, &mut x, &mut y), 0);
     assert_eq!((x, y), (100. * PI, 100. * PI));
     assert_eq!(bar!(turning_envelope_at, none, 0, 0.5, &mut found, &mut x, &mut y), 3);
@@ -61,7 +62,7 @@ fn null_with_length_0() {
         assert_eq!(turning_penetration(none, 0, none, 0, 0., &mut found, &mut x), 0);
         assert_eq!(turning_eroded(none, 0, 0., 0., &mut found, &mut x), 0);
     }
-    assert_eq!(found, 0);
+    assert_eq!((found, position), (0, 7));
 }
 
 /// Cells, segments and points of such a length are refused before one is read: there is none.
@@ -70,7 +71,8 @@ fn null_with_length_0() {
 fn lengths_near_the_end_are_refused_unread() {
     let (cells, none, is, xs) = (CELL.as_ptr(), null(), null_mut(), null_mut());
     let (mut count, mut generation, mut first, mut order) = (7, 5, 7, 7);
-    let (mut found, mut x, mut y) = (7, 7., 7.);
+    let (mut found, mut x, mut y, mut position) = (7, 7., 7., 7_usize);
+    let at = &mut position as *mut usize;
     for len in longest() {
         assert_eq!(bar!(turning_new, xs, len), 3);
         assert_eq!(bar!(turning_preview, none, len, 0, 1., none, 0, is, 0, xs, 0, &mut count), 3);
@@ -78,8 +80,8 @@ fn lengths_near_the_end_are_refused_unread() {
         assert_eq!(bar!(turning_preview_polygon, cells, 4, 0, 1., none, len, is, 0, xs, 0, &mut count), 5);
         assert_eq!(bar!(turning_drill, none, len, 0., 1., 0., is, 0, xs, 0, &mut count), 3);
         assert_eq!(bar!(turning_changes_to, cells, 4, none, len, is, 0, xs, 0, &mut count), 3);
-        assert_eq!(bar!(turning_apply, xs, len, &mut generation, null(), 0, none, 0, 0), 3);
-        assert_eq!(bar!(turning_from_parts, none, len, none, 0, xs, 0, &mut count), 3);
+        assert_eq!(bar!(turning_apply, xs, len, &mut generation, null(), 0, none, 0, 0, at), 3);
+        assert_eq!(bar!(turning_from_parts, none, len, none, 0, xs, 0, &mut count, at), 3);
         assert_eq!(bar!(turning_volume, none, len, none, 0, 0, &mut x, &mut y), 3);
         assert_eq!(bar!(turning_envelope_at, none, len, 0., &mut found, &mut x, &mut y), 3);
         unsafe {
@@ -93,7 +95,7 @@ fn lengths_near_the_end_are_refused_unread() {
             assert_eq!(turning_eroded(none, len, 0., 0., &mut found, &mut x), 14);
         }
     }
-    assert_eq!((count, generation, first, order, found, x, y), (7, 5, 7, 7, 7, 7., 7.));
+    assert_eq!((count, generation, first, order, found, x, y, position), (7, 5, 7, 7, 7, 7., 7., 7));
 }
 
 /// Room of such a length is room: only the changes and rings in it are touched.
@@ -101,19 +103,24 @@ fn lengths_near_the_end_are_refused_unread() {
 #[rustfmt::skip]
 fn room_near_the_end_is_room() {
     for len in longest() {
-        let (mut cells, mut generation, mut count) = (CELL, 0, 0);
+        let (mut cells, mut generation, mut count, mut position) = (CELL, 0, 0, 7_usize);
         let (mut indices, mut records, mut rings) = ([7_usize; 2], [7_f64; 16], [7_f64; 8]);
         let (is, xs) = (indices.as_mut_ptr(), records.as_mut_ptr());
         assert_eq!(bar!(turning_thread_cut, cells.as_ptr(), 4, 0., 1., 5., is, len, xs, len, &mut count), 0);
         assert_eq!((count, indices), (1, [0, 7]));
         assert_eq!(records[4..], [5., 10., 0., 0., 7., 7., 7., 7., 7., 7., 7., 7.]);
         let own = cells.as_mut_ptr();
-        assert_eq!(bar!(turning_apply, own, 4, &mut generation, is, len, xs, len, 1), 0);
+        let at = &mut position as *mut usize;
+        assert_eq!(bar!(turning_apply, own, 4, &mut generation, is, len, xs, len, 1, at), 0);
         assert_eq!((cells, generation), ([5., 10., 0., 0.], 1));
         count = 0;
         let room = rings.as_mut_ptr();
-        assert_eq!(bar!(turning_remove_ring, room, len, &mut count, &mut generation, 0., 1., 2., 3.), 0);
+        assert_eq!(bar!(turning_remove_ring, room, len, &mut count, &mut generation, 0., 1., 2., 3., at), 0);
         assert_eq!((count, generation, rings), (1, 2, [0., 1., 2., 3., 7., 7., 7., 7.]));
+        // the same list again: the bin holds something else
+        assert_eq!(position, 7);
+        assert_eq!(bar!(turning_apply, own, 4, &mut generation, is, len, xs, len, 1, at), 22);
+        assert_eq!((cells, generation, position), ([5., 10., 0., 0.], 2, 0));
     }
 }
 
@@ -123,11 +130,11 @@ fn read_only_buffers_may_be_the_same() {
     // four numbers that are a cell that fits, and a ring that is stored
     let both = [0., 1., 2., 3.];
     let (at, is, xs) = (both.as_ptr(), null_mut(), null_mut());
-    let (mut count, mut least, mut greatest, mut rings) = (7, 7., 7., [0.; 4]);
+    let (mut count, mut least, mut greatest, mut rings, mut position) = (7, 7., 7., [0.; 4], 7);
     assert_eq!(bar!(turning_changes_to, at, 4, at, 4, is, 0, xs, 0, &mut count), 0);
     assert_eq!(count, 0);
     assert_eq!(bar!(turning_volume, at, 4, at, 4, 1, &mut least, &mut greatest), 0);
     assert_eq!((least, greatest), (0., 0.));
-    assert_eq!(bar!(turning_from_parts, at, 4, at, 4, rings.as_mut_ptr(), 4, &mut count), 0);
-    assert_eq!((count, rings), (1, both));
+    assert_eq!(bar!(turning_from_parts, at, 4, at, 4, rings.as_mut_ptr(), 4, &mut count, &mut position), 0);
+    assert_eq!((count, rings, position), (1, both, 7));
 }

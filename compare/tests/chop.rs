@@ -104,7 +104,7 @@ fn chords(input: &[u8]) -> Result<(Profile, Vec<[f64; 5]>), (usize, u32)> {
     let (profile, lines) = read(input).map_err(|k| (k, 15))?;
     match segments(&profile.points, profile.tolerance, 5 * 4096) {
         Ok(chords) => Ok((profile, chords)),
-        Err(number) => Err((lines, number)),
+        Err(reason) => Err((lines, reason.number)),
     }
 }
 

@@ -1,6 +1,6 @@
 //! Each intended difference of docs/DIFFERENCES.md on the smallest input that shows it: what camlib
 //! does, and what the library does.
-use compare::call::{Answer, Call, Change, List, Outcome, Room, Simple, Spec, Store};
+use compare::call::{Answer, Call, Change, List, Room, Simple, Spec, Store};
 use compare::jobs;
 use compare::oracle::answer;
 use compare::oracle::stock::{camlib_spec, to_camlib};
@@ -26,13 +26,16 @@ const ROOM: Room = Room {
 };
 const MINUS: u64 = 1 << 63;
 
+/// An answer, or the number of a refusal; where it failed is in tests/positions.rs.
+type Outcome = Result<Answer, u32>;
+
 /// What the library does; it must be what the oracle says.
 fn here(call: Call) -> Outcome {
     let outcome = answer(&call);
     if let Some(text) = difference(&call, &outcome) {
         panic!("{text}");
     }
-    outcome
+    outcome.map_err(|reason| reason.number)
 }
 
 fn camlib(spec: Spec) -> TurnStock {
@@ -219,7 +222,7 @@ fn the_number_of_cells() {
 #[test]
 fn a_bin_past_the_last() {
     assert_eq!(camlib(BAR).bin(1), [1., 1.]);
-    assert_eq!(here(Call::Bin { spec: BAR, i: 1 }), Err(9));
+    assert_eq!(here(Call::Bin { spec: BAR, i: 1 }), Err(21));
 }
 
 /// camlib's stock has cells of its own; here any lent cells are checked by each call.

@@ -70,7 +70,8 @@ fn header() -> Calls {
         code = code.replace(name, value);
     }
     let calls = lists(&code).into_iter().map(|(returned, name, list, _)| {
-        let parameters = list.split(',').map(parameter).collect();
+        let parameters = list.split(',').map(parameter).filter(|p| p != "void");
+        let parameters = parameters.collect();
         (name.to_string(), (returned.to_string(), parameters))
     });
     calls.collect()
@@ -232,12 +233,27 @@ fn library() -> Calls {
     calls
 }
 
+/// It says for which header the archive was built, and is no call to compare or to time.
+const NO_CALL: &str = "turning_header";
+
 /// The calls that the header declares, `turning_` left off.
 fn declared() -> BTreeSet<String> {
-    let names = header().into_keys();
+    let names = header().into_keys().filter(|n| n != NO_CALL);
     names
         .map(|n| n.strip_prefix("turning_").unwrap().to_string())
         .collect()
+}
+
+/// A caller of another header finds out: the archive says the number that the header has.
+#[test]
+fn the_archive_is_of_this_header() {
+    let text = read("include/turning.h");
+    let number = text.split("#define TURNING_HEADER ").nth(1).unwrap();
+    let number: u32 = number.split_whitespace().next().unwrap().parse().unwrap();
+    // SAFETY: it takes nothing.
+    assert_eq!(unsafe { compare::library::c::turning_header() }, number);
+    assert_eq!(number, 2);
+    assert_eq!(header()[NO_CALL], ("uint32_t".to_string(), vec![]));
 }
 
 #[test]

@@ -1,15 +1,15 @@
-//! Each call at a limit of document 01 answers the number that 01 gives, by the oracle and by the
-//! library.
-use compare::call::{Answer, Call};
+//! Each call at a limit of document 01 answers the number that 01 gives, and the position that 02
+//! gives, by the oracle and by the library.
+use compare::call::{Answer, Call, Reason};
 use compare::limits::{calls, corners, edges, profiles};
 use compare::oracle::{answer, full_look};
-use compare::run::{difference, number};
+use compare::run::difference;
 
 #[test]
 fn limits_are_where_01_has_them() {
     for (call, expected) in calls() {
         let outcome = answer(&call);
-        assert_eq!(number(&outcome), expected, "{}", call.name());
+        assert_eq!(outcome.as_ref().err(), expected.as_ref(), "{}", call.name());
         if let Some(text) = difference(&call, &outcome) {
             panic!("{text}");
         }
@@ -96,7 +96,7 @@ fn profiles_have_their_chords() {
                 assert!(unsigned, "{name}");
                 Ok(chords.len())
             }
-            Err(number) => Err(number),
+            Err(Reason { number, .. }) => Err(number),
             other => panic!("{name}: {other:?}"),
         };
         assert_eq!(found, expected, "{name}");

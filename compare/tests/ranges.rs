@@ -1,5 +1,5 @@
 //! Ranges by 02's words (Req 09), beside camlib's `envelope_at` and beside the way over kept numbers.
-use compare::call::{Call, Spec};
+use compare::call::{Call, Reason, Spec};
 use compare::generate::{Rng, family};
 use compare::oracle::queries::{envelope_at, walk};
 use compare::oracle::ranges::{BLOCK, bins, blocks, kept, range, renew};
@@ -152,7 +152,10 @@ fn damaged_numbers_are_20_and_a_negative_zero_is_none() {
         damaged[6][i] = f64::INFINITY;
         damaged[7].pop();
         for lent_blocks in &damaged {
-            assert_eq!(range(&spec, &lent, lent_blocks, a, b), Err(20));
+            assert_eq!(
+                range(&spec, &lent, lent_blocks, a, b),
+                Err(Reason::only(20))
+            );
             refused += 1;
         }
         let signed: Vec<f64> = own

@@ -1,6 +1,6 @@
 //! The root at its corners, by name, and where its guess misses: the oracle's and the library's are
 //! the same to the bit.
-use compare::call::{Answer, Call};
+use compare::call::{Answer, Call, Reason};
 use compare::guess::{Guess, guess, missed};
 use compare::oracle::{ARGUMENT, answer};
 use compare::run::difference;
@@ -15,7 +15,8 @@ const THE_GUESS: f64 = f64::from_bits(0x3FE0_5834_2D4B_0204);
 fn root(x: f64, expected: Result<f64, u32>, name: &str) {
     let call = Call::Root { x };
     let outcome = answer(&call);
-    assert_eq!(outcome, expected.map(Answer::Number), "{name}");
+    let expected = expected.map(Answer::Number).map_err(Reason::only);
+    assert_eq!(outcome, expected, "{name}");
     if let Some(text) = difference(&call, &outcome) {
         panic!("{name}: {text}");
     }

@@ -1,5 +1,5 @@
 //! What generated sequences reach, and that a difference in one is found and made small.
-use compare::call::{Answer, Call, Outcome, Simple};
+use compare::call::{Answer, Call, List, Outcome, Reason, Simple};
 use compare::count::Counts;
 use compare::generate::Rng;
 use compare::generate::sequence::{MOST_STEPS, sequence};
@@ -37,21 +37,71 @@ fn no_sequence_differs_and_every_refusal_is_reached() {
     }
     let reached = |name: &str| -> Vec<u32> {
         let wanted = |n: &u32| counts.wanted(name, *n) > 0;
-        (0..16).filter(wanted).collect()
+        (0..24).filter(wanted).collect()
     };
     for name in ["thread_cut", "thread_cut_inner", "drill"] {
         assert_eq!(reached(name), [0, 1, 2, 3, 5, 6], "{name}");
     }
     assert_eq!(reached("preview"), [0, 1, 2, 3, 5, 6]);
     assert_eq!(reached("preview_polygon"), [0, 1, 2, 3, 5, 6]);
-    assert_eq!(reached("apply"), [0, 1, 2, 3, 6, 7, 8, 9, 12]);
+    assert_eq!(reached("apply"), [0, 1, 2, 3, 6, 7, 8, 12, 21, 22, 23]);
     assert_eq!(reached("changes_to"), [0, 1, 2, 3, 6]);
     assert_eq!(reached("remove_ring"), [0, 1, 2, 4, 10, 11, 12]);
-    let all = [0, 1, 2, 3, 4, 6, 7, 8, 9, 10, 11, 12];
+    let all = [0, 1, 2, 3, 4, 6, 7, 8, 10, 11, 12, 21, 22, 23];
     assert_eq!(reached("apply_move"), all);
     assert_eq!(reached("from_parts"), [0, 1, 2, 3, 10, 11]);
     assert_eq!(reached("volume"), [0, 1, 2, 3, 4]);
     assert_eq!(reached("envelope_at"), [0, 1, 2, 3]);
+}
+
+/// The position of the first change of the list whose bin holds something else.
+fn first_other(cells: &[f64], list: &List) -> Option<usize> {
+    let (cells, _) = cells.as_chunks::<4>();
+    let (records, _) = list.records.as_chunks::<8>();
+    let pairs = list.indices.iter().zip(records).take(list.changes);
+    let mut others = pairs.map(|(i, record)| cells[*i] != record[..4]);
+    others.position(|other| other)
+}
+
+/// Commits and moves of lists that nothing befell, on stocks that may have changed since: how many were refused with each
+/// number. With `differences` the lists of `changes_to` are among them.
+fn stale(seed: u64, differences: bool) -> BTreeMap<u32, usize> {
+    let refused = RefCell::new(BTreeMap::new());
+    let see = |call: &Call, outcome: Outcome| {
+        let (Call::Apply { cells, list, .. } | Call::ApplyMove { cells, list, .. }) = call else {
+            return outcome;
+        };
+        if let Err(reason) = outcome {
+            if reason.number == 22 {
+                assert_eq!(reason.place, first_other(cells, list), "{call:?}");
+            }
+            *refused.borrow_mut().entry(reason.number).or_default() += 1;
+        }
+        outcome
+    };
+    for mut s in sequences(seed) {
+        s.steps.iter_mut().for_each(|step| step.damage = None);
+        s.steps
+            .retain(|step| differences || !matches!(step.action, Action::Difference { .. }));
+        let end = run(&s, &see, &mut Counts::default());
+        assert!(end.is_ok(), "{end:?}");
+    }
+    refused.into_inner()
+}
+
+/// A list that a preview proposed is refused with 22 alone where its stock is another one, at the first
+/// bin listed that holds something else; beside it only what a list has no part in. One of a
+/// difference may add material.
+#[test]
+fn a_stale_list_is_22() {
+    let numbers = |refused: &BTreeMap<u32, usize>| refused.keys().copied().collect::<Vec<_>>();
+    let previews = stale(13, false);
+    println!("of previews: {previews:?}");
+    assert_eq!(numbers(&previews), [10, 11, 12, 22]);
+    assert!(previews[&22] > 100, "{previews:?}");
+    let all = stale(13, true);
+    println!("and of differences: {all:?}");
+    assert_eq!(numbers(&all), [10, 11, 12, 22, 23]);
 }
 
 /// A drill of more than 2 is refused by a wrong rule: one call shows it.
@@ -61,7 +111,7 @@ fn a_wrong_refusal_shrinks_to_one_call() {
         Call::Cut {
             cut: Simple::Drill { radius, .. },
             ..
-        } if *radius > 2. => outcome.and(Err(5)),
+        } if *radius > 2. => outcome.and(Err(Reason::only(5))),
         _ => outcome,
     };
     let least = least(&wrong);
@@ -95,6 +145,24 @@ fn a_wrong_commit_shrinks_to_a_preview_and_a_commit() {
     assert_eq!(least.steps.len(), 2, "{least:?}");
     assert!(matches!(least.steps[1].action, Action::Commit { .. }));
     assert_eq!(least.cells.len(), 8, "{least:?}");
+}
+
+/// A position that is one too many: a preview with its commit and that again show it, or a commit that is
+/// damaged.
+#[test]
+fn a_wrong_position_shrinks_to_a_list_that_is_stale() {
+    let wrong = |call: &Call, outcome: Outcome| match (call, &outcome) {
+        (Call::Apply { .. }, Err(Reason { number: 22, place })) => Err(Reason {
+            number: 22,
+            place: place.map(|k| k + 1),
+        }),
+        _ => outcome,
+    };
+    let least = least(&wrong);
+    assert!((2..=3).contains(&least.steps.len()), "{least:?}");
+    let last = &least.steps.last().unwrap().action;
+    assert!(matches!(last, Action::Commit { .. }), "{least:?}");
+    assert_eq!(least.cells.len(), 4, "{least:?}");
 }
 
 /// A wrong ring that is covered leaves the generation: the ring that covers it and the ring show it.
@@ -156,7 +224,7 @@ fn the_limits_of_rings_are_reached() {
             Ok(Answer::Stock(_, rings, _)) => {
                 *stored.borrow_mut().entry(rings.len()).or_default() += 1;
             }
-            Err(11) => {
+            Err(Reason { number: 11, .. }) => {
                 let why = without_limit(call);
                 why.into_iter().for_each(|why| {
                     *refused.borrow_mut().entry(why).or_default() += 1;

@@ -83,8 +83,9 @@ pub fn some_changes(rng: &mut Rng, base: &Bar, cells: &[[f64; 4]]) -> Vec<Change
 
 /// A change list as lent, now and then damaged.
 pub fn damaged_changes(rng: &mut Rng, base: &Bar, mut changes: Vec<Change>) -> List {
-    for _ in 0..rng.below(3) {
-        damage(rng, base, &mut changes);
+    match rng.below(10) {
+        0 => faults(rng, base, &mut changes),
+        _ => (0..rng.below(3)).for_each(|_| damage(rng, base, &mut changes)),
     }
     let mut list = List {
         indices: changes.iter().map(|c| c.index).collect(),
@@ -112,6 +113,57 @@ pub fn damaged_changes(rng: &mut Rng, base: &Bar, mut changes: Vec<Change>) -> L
     list
 }
 
+/// The next number up or down.
+fn ulp_beside(rng: &mut Rng, x: f64) -> f64 {
+    match rng.below(2) {
+        0 => x.next_up(),
+        _ => x.next_down(),
+    }
+}
+
+/// Two faults or three, in one change or in several: each of them alone would be refused with a
+/// position, so that number and position show which comes first.
+fn faults(rng: &mut Rng, base: &Bar, changes: &mut [Change]) {
+    let len = changes.len();
+    if len == 0 {
+        return;
+    }
+    let ends = [0, 1.min(len - 1), len - 1];
+    let at = match rng.below(2) {
+        0 => rng.pick(&ends),
+        _ => rng.below(len),
+    };
+    for _ in 0..2 + rng.below(2) {
+        let k = match rng.below(3) {
+            0 => rng.below(len),
+            1 => (at + 1).min(len - 1),
+            _ => at,
+        };
+        fault(rng, base, changes, k);
+    }
+}
+
+/// A fault of change k: 7, 8, 21, 22 or 23, where nothing else is wrong with it.
+fn fault(rng: &mut Rng, base: &Bar, changes: &mut [Change], k: usize) {
+    let bound = rng.below(4);
+    let index = changes[k.saturating_sub(1)].index;
+    let c = &mut changes[k];
+    match rng.below(8) {
+        0 => c.index = rng.pick(&[index, index.saturating_sub(1)]),
+        1 => c.after[bound] = rng.pick(&[f64::NAN, base.spec.outer.next_up(), -0.]),
+        2 => c.index = rng.pick(&[base.n, base.n + 1, usize::MAX]),
+        3 => c.index = c.index.saturating_add(base.n),
+        4 => c.before[bound] = ulp_beside(rng, c.before[bound]),
+        5 => c.before[bound] = rng.pick(&[f64::NAN, f64::INFINITY, f64::NEG_INFINITY]),
+        6 => (c.before, c.after) = (c.after, c.before),
+        _ => {
+            let more = [f64::next_up, f64::next_down][bound / 2];
+            c.after = c.before;
+            c.after[bound] = more(c.after[bound]);
+        }
+    }
+}
+
 fn damage(rng: &mut Rng, base: &Bar, changes: &mut [Change]) {
     let len = changes.len();
     if len == 0 {
@@ -125,7 +177,7 @@ fn damage(rng: &mut Rng, base: &Bar, changes: &mut [Change]) {
         2 => c.index = rng.pick(&[base.n, base.n + 1, usize::MAX]),
         3 => changes[len - 1].index = rng.pick(&[base.n, base.n + 7, usize::MAX]),
         4 => c.before[bound] = outside(rng),
-        5 => c.before[bound] = c.before[bound].next_up(),
+        5 => c.before[bound] = ulp_beside(rng, c.before[bound]),
         6 => c.after[bound] = outside(rng),
         7 => c.after[bound] = rng.pick(&[base.spec.outer.next_up(), base.spec.bore.next_down()]),
         8 => c.after.swap(bound & 2, bound | 1),

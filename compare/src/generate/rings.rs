@@ -248,10 +248,13 @@ pub fn remove_ring(rng: &mut Rng) -> Call {
 
 /// The rings of a move or of parts, now and then damaged.
 pub fn damaged_rings(rng: &mut Rng, mut rings: Vec<Ring>) -> Vec<f64> {
-    if !rings.is_empty() {
+    // now and then two are damaged, so that the first of them shows
+    let times = if rng.once_in(20) { 2 } else { 1 };
+    let often = if times == 2 { 5 } else { 40 };
+    for _ in 0..if rings.is_empty() { 0 } else { times } {
         let k = rng.below(rings.len());
         let ring = &mut rings[k];
-        match rng.below(40) {
+        match rng.below(often) {
             0 => ring[rng.below(4)] = rng.pick(&[f64::NAN, f64::INFINITY, f64::NEG_INFINITY]),
             1 => ring.swap(0, 1),
             2 => ring[3] = ring[2],
@@ -262,8 +265,8 @@ pub fn damaged_rings(rng: &mut Rng, mut rings: Vec<Ring>) -> Vec<f64> {
     }
     let mut flat = rings.as_flattened().to_vec();
     match rng.below(80) {
-        0 => flat.push(1.),
-        1 => drop(flat.pop()),
+        0 => flat.extend([1.; 3].iter().take(1 + rng.below(3))),
+        1 => flat.truncate(flat.len().saturating_sub(1 + rng.below(3))),
         _ => {}
     }
     flat

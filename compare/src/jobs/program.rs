@@ -58,7 +58,7 @@ fn new_job(fields: &[&[u8]]) -> Result<Job, u32> {
         cell,
         max_cells,
     };
-    stock::bar(&spec)?;
+    stock::bar(&spec).map_err(|reason| reason.number)?;
     let stock = TurnStock::new(TurnStockSpec {
         version: 1,
         units: "mm".into(),
@@ -137,7 +137,8 @@ impl Job {
             generation,
             ring,
         };
-        let Answer::Stock(_, rings, generation) = oracle::answer(&call)? else {
+        let outcome = oracle::answer(&call).map_err(|reason| reason.number);
+        let Answer::Stock(_, rings, generation) = outcome? else {
             unreachable!()
         };
         self.generation = generation;

@@ -2,11 +2,11 @@
 use super::stock::{
     Bar, bar, camlib_stock, cells, change_from_camlib, change_to_camlib, fits, from_camlib,
 };
-use super::{AFTER, BEFORE, GENERATION, RISING, ROOM, demand};
-use crate::call::{Answer, Change, List, Outcome, Room, Spec};
+use super::{ADDS, AFTER, GENERATION, HOLDS_OTHER, NO_BIN, RISING, ROOM, demand, demand_at};
+use crate::call::{Answer, Change, List, Outcome, Reason, Room, Spec};
 
 /// 6: no more changes than are lent.
-pub fn lent_changes(list: &List) -> Result<Vec<Change>, u32> {
+pub fn lent_changes(list: &List) -> Result<Vec<Change>, Reason> {
     let lent = list.indices.len().min(list.records.len() / 8);
     demand(list.changes <= lent, ROOM)?;
     let (records, _) = list.records.as_chunks::<8>();
@@ -19,25 +19,27 @@ pub fn lent_changes(list: &List) -> Result<Vec<Change>, u32> {
     Ok(pairs.map(change).collect())
 }
 
-/// 7 over the whole list, then change by change 8 before 9.
-pub fn acceptable(bar: &Bar, cells: &[[f64; 4]], changes: &[Change]) -> Result<(), u32> {
-    let rising = changes.windows(2).all(|w| w[0].index < w[1].index);
-    demand(rising, RISING)?;
-    for c in changes {
-        demand(fits(bar, &c.after), AFTER)?;
-        demand(c.index < bar.n, BEFORE)?;
+/// 7 over the whole list, at the later of the first pair that does not rise; then change by change 8,
+/// 21, 22, 23.
+pub fn acceptable(bar: &Bar, cells: &[[f64; 4]], changes: &[Change]) -> Result<(), Reason> {
+    for (k, w) in changes.windows(2).enumerate() {
+        demand_at(w[0].index < w[1].index, RISING, k + 1)?;
+    }
+    for (k, c) in changes.iter().enumerate() {
+        demand_at(fits(bar, &c.after), AFTER, k)?;
+        demand_at(c.index < bar.n, NO_BIN, k)?;
         // As numbers: -0.0 is 0.0, and nothing is equal to what is no number.
-        demand(cells[c.index] == c.before, BEFORE)?;
+        demand_at(cells[c.index] == c.before, HOLDS_OTHER, k)?;
         let removes = c.after[0] <= c.before[0]
             && c.after[1] <= c.before[1]
             && c.after[2] >= c.before[2]
             && c.after[3] >= c.before[3];
-        demand(removes, BEFORE)?;
+        demand_at(removes, ADDS, k)?;
     }
     Ok(())
 }
 
-/// 1, 2, 3, 6, 7, 8/9, 12.
+/// 1, 2, 3, 6, 7, 8/21/22/23, 12.
 pub fn apply(spec: &Spec, lent: &[f64], generation: u64, list: &List) -> Outcome {
     let bar = bar(spec)?;
     let cells = cells(&bar, lent)?;
@@ -61,7 +63,7 @@ pub fn changes_to(
     lent: &[f64],
     after: &[f64],
     room: Room,
-) -> Result<Vec<Change>, u32> {
+) -> Result<Vec<Change>, Reason> {
     let bar = bar(spec)?;
     let before = cells(&bar, lent)?;
     let after = cells(&bar, after)?;

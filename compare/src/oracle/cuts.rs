@@ -1,12 +1,12 @@
 //! Previews: 1, 2, 3, 5, 6. No call of turning.h takes an arc, so none answers 13.
 use super::stock::{Bar, bar, camlib_stock, cells, change_from_camlib};
 use super::{ARGUMENT, MOST_POINTS, MOST_SEGMENTS, ROOM, clean, demand, usable};
-use crate::call::{Change, Room, Simple, Spec};
+use crate::call::{Change, Reason, Room, Simple, Spec};
 use length::turning::stock as camlib_length;
 use plain::turning::stock as camlib;
 
 /// 6, and the changes as they are stored.
-fn within_room(changes: Vec<Change>, room: Room) -> Result<Vec<Change>, u32> {
+fn within_room(changes: Vec<Change>, room: Room) -> Result<Vec<Change>, Reason> {
     demand(changes.len() <= room.changes(), ROOM)?;
     Ok(changes)
 }
@@ -16,7 +16,7 @@ fn listed(changes: &[camlib::TurnChange]) -> Vec<Change> {
 }
 
 /// Threads and the drill.
-pub fn simple(spec: &Spec, lent: &[f64], cut: Simple, room: Room) -> Result<Vec<Change>, u32> {
+pub fn simple(spec: &Spec, lent: &[f64], cut: Simple, room: Room) -> Result<Vec<Change>, Reason> {
     let bar = bar(spec)?;
     let cells = cells(&bar, lent)?;
     let stock = camlib_stock(&bar, &cells, &[]);
@@ -42,7 +42,7 @@ pub fn simple(spec: &Spec, lent: &[f64], cut: Simple, room: Room) -> Result<Vec<
     within_room(listed(&changes), room)
 }
 
-fn thread(z0: f64, z1: f64, radius: f64) -> Result<[f64; 3], u32> {
+fn thread(z0: f64, z1: f64, radius: f64) -> Result<[f64; 3], Reason> {
     let numbers = [z0, z1, radius];
     demand(numbers.into_iter().all(usable), ARGUMENT)?;
     demand(radius >= 0., ARGUMENT)?;
@@ -57,7 +57,7 @@ pub fn polygon(
     excess: f64,
     points: &[f64],
     room: Room,
-) -> Result<Vec<Change>, u32> {
+) -> Result<Vec<Change>, Reason> {
     let bar = bar(spec)?;
     let cells = cells(&bar, lent)?;
     demand(points.len().is_multiple_of(2), ARGUMENT)?;
@@ -67,7 +67,7 @@ pub fn polygon(
     let side = match side {
         0 => camlib::TurnSide::Outer,
         1 => camlib::TurnSide::Inner,
-        _ => return Err(ARGUMENT),
+        _ => return Err(Reason::only(ARGUMENT)),
     };
     let (points, _) = points.as_chunks::<2>();
     let points: Vec<[f64; 2]> = points.iter().map(|p| p.map(clean)).collect();
@@ -84,7 +84,7 @@ pub fn nose(
     rn: f64,
     segments: &[f64],
     room: Room,
-) -> Result<Vec<Change>, u32> {
+) -> Result<Vec<Change>, Reason> {
     let bar = bar(spec)?;
     let cells = cells(&bar, lent)?;
     demand(segments.len().is_multiple_of(5), ARGUMENT)?;
@@ -96,7 +96,7 @@ pub fn nose(
     let side = match side {
         0 => camlib_length::TurnSide::Outer,
         1 => camlib_length::TurnSide::Inner,
-        _ => return Err(ARGUMENT),
+        _ => return Err(Reason::only(ARGUMENT)),
     };
     let segments: Vec<_> = segments.iter().map(segment).collect();
     let stock = stock_with_length(&bar, &cells);

@@ -2,6 +2,7 @@
 //! points and no order of them. Written from 001's text; nothing of camlib is called.
 use super::clean;
 use super::envelope::points;
+use crate::call::Reason;
 
 /// The v at u on the line from p to q.
 fn across([pu, pv]: [f64; 2], [qu, qv]: [f64; 2], u: f64) -> f64 {
@@ -18,7 +19,7 @@ fn greater(a: f64, b: f64) -> f64 {
 }
 
 /// The highest radius at u.
-pub fn radius_at(numbers: &[f64], u: f64) -> Result<Option<Vec<f64>>, u32> {
+pub fn radius_at(numbers: &[f64], u: f64) -> Result<Option<Vec<f64>>, Reason> {
     let points = points(numbers, &[u])?;
     let u = clean(u);
     let mut highest: Option<f64> = None;
@@ -37,7 +38,7 @@ pub fn radius_at(numbers: &[f64], u: f64) -> Result<Option<Vec<f64>>, u32> {
 }
 
 /// The lowest and the highest radius over lo..hi; none where lo > hi.
-pub fn radius_range(numbers: &[f64], lo: f64, hi: f64) -> Result<Option<Vec<f64>>, u32> {
+pub fn radius_range(numbers: &[f64], lo: f64, hi: f64) -> Result<Option<Vec<f64>>, Reason> {
     let points = points(numbers, &[lo, hi])?;
     let (lo, hi) = (clean(lo), clean(hi));
     let mut radii = vec![];

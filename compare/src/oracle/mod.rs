@@ -16,7 +16,7 @@ pub mod ranges;
 pub mod rings;
 pub mod stock;
 
-use crate::call::{Answer, Call, Outcome};
+use crate::call::{Answer, Call, Outcome, Reason};
 
 /// The refusal numbers of document 01, and of the requests after it.
 pub const SPEC: u32 = 1;
@@ -27,7 +27,6 @@ pub const ARGUMENT: u32 = 5;
 pub const ROOM: u32 = 6;
 pub const RISING: u32 = 7;
 pub const AFTER: u32 = 8;
-pub const BEFORE: u32 = 9;
 pub const RING: u32 = 10;
 pub const PIECES: u32 = 11;
 pub const GENERATION: u32 = 12;
@@ -35,6 +34,9 @@ pub const ENVELOPE: u32 = 14;
 pub const PROFILE: u32 = 17;
 pub const CHORDS: u32 = 18;
 pub const BLOCKS: u32 = 20;
+pub const NO_BIN: u32 = 21;
+pub const HOLDS_OTHER: u32 = 22;
+pub const ADDS: u32 = 23;
 
 /// Document 01's limits, and those of Req 07 of 02: a nose's segments and a profile's points.
 pub const MILLION: f64 = 1e6;
@@ -47,8 +49,13 @@ pub const MOST_RINGS: usize = 256;
 pub const MOST_PIECES: usize = 256;
 
 /// Refuses with the number unless the test holds.
-fn demand(test: bool, number: u32) -> Result<(), u32> {
-    if test { Ok(()) } else { Err(number) }
+fn demand(test: bool, number: u32) -> Result<(), Reason> {
+    test.then_some(()).ok_or(Reason::only(number))
+}
+
+/// Refuses with the number and the position unless the test holds.
+fn demand_at(test: bool, number: u32, place: usize) -> Result<(), Reason> {
+    test.then_some(()).ok_or(Reason::at(number, place))
 }
 
 /// An argument as it is read: -0.0 as +0.0.

@@ -1,6 +1,7 @@
 //! Arcs in a profile: Req 07 of 02 a second time, with the processor's root. camlib has no halving.
 use super::numbers::length;
 use super::{CHORDS, MOST_PROFILE_POINTS, PROFILE, clean, demand, usable};
+use crate::call::Reason;
 
 /// How often an arc is halved.
 const HALVINGS: u32 = 10;
@@ -9,7 +10,7 @@ const HALVINGS: u32 = 10;
 pub type Point = [f64; 3];
 
 /// The points of a profile that is not refused with 17, -0.0 read as +0.0.
-pub fn points(numbers: &[f64], tolerance: f64) -> Result<Vec<Point>, u32> {
+pub fn points(numbers: &[f64], tolerance: f64) -> Result<Vec<Point>, Reason> {
     demand(usable(tolerance) && tolerance >= 0., PROFILE)?;
     let (points, rest) = numbers.as_chunks::<3>();
     demand(rest.is_empty(), PROFILE)?;
@@ -38,7 +39,7 @@ fn chop(
     levels: u32,
     room: usize,
     chords: &mut Vec<[f64; 5]>,
-) -> Result<(), u32> {
+) -> Result<(), Reason> {
     let sag = sag(a, b, bulge);
     if sag <= tolerance {
         demand(chords.len() < room, CHORDS)?;
@@ -58,7 +59,7 @@ fn chop(
 }
 
 /// The chords of a profile: 17, then 18.
-pub fn segments(numbers: &[f64], tolerance: f64, lent: usize) -> Result<Vec<[f64; 5]>, u32> {
+pub fn segments(numbers: &[f64], tolerance: f64, lent: usize) -> Result<Vec<[f64; 5]>, Reason> {
     let points = points(numbers, tolerance)?;
     let mut chords = vec![];
     for w in points.windows(2) {

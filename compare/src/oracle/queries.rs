@@ -2,10 +2,10 @@
 use super::clean;
 use super::rings::stored;
 use super::stock::{bar, camlib_stock, cells};
-use crate::call::{Spec, Store};
+use crate::call::{Reason, Spec, Store};
 
 /// 1, 2, 3, 4: the least and the greatest remaining volume.
-pub fn volume(spec: &Spec, lent: &[f64], store: &Store) -> Result<[f64; 2], u32> {
+pub fn volume(spec: &Spec, lent: &[f64], store: &Store) -> Result<[f64; 2], Reason> {
     let bar = bar(spec)?;
     let cells = cells(&bar, lent)?;
     let rings = stored(&bar, store)?;
@@ -13,7 +13,7 @@ pub fn volume(spec: &Spec, lent: &[f64], store: &Store) -> Result<[f64; 2], u32>
 }
 
 /// 1, 2, 3; z may be anything.
-pub fn envelope_at(spec: &Spec, lent: &[f64], z: f64) -> Result<Option<Vec<f64>>, u32> {
+pub fn envelope_at(spec: &Spec, lent: &[f64], z: f64) -> Result<Option<Vec<f64>>, Reason> {
     let bar = bar(spec)?;
     let cells = cells(&bar, lent)?;
     let stock = camlib_stock(&bar, &cells, &[]);

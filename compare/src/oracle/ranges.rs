@@ -3,7 +3,7 @@
 use super::queries::{looked, walk};
 use super::stock::{Bar, bar, camlib_stock, cells};
 use super::{BLOCKS, clean, demand};
-use crate::call::Spec;
+use crate::call::{Reason, Spec};
 
 /// Bins a block.
 pub const BLOCK: usize = 64;
@@ -20,7 +20,7 @@ pub fn blocks(bar: &Bar, cells: &[[f64; 4]]) -> Vec<f64> {
 }
 
 /// 20 where lent numbers are not those of the cells, as numbers.
-pub fn kept(bar: &Bar, cells: &[[f64; 4]], lent: &[f64]) -> Result<(), u32> {
+pub fn kept(bar: &Bar, cells: &[[f64; 4]], lent: &[f64]) -> Result<(), Reason> {
     let own = blocks(bar, cells);
     demand(
         lent.len() == own.len() && lent.iter().zip(&own).all(|(a, b)| a == b),
@@ -29,7 +29,7 @@ pub fn kept(bar: &Bar, cells: &[[f64; 4]], lent: &[f64]) -> Result<(), u32> {
 }
 
 /// 1, 2, 3, and 20 for the count alone: all numbers afresh.
-pub fn renew(spec: &Spec, lent: &[f64], blocks_len: usize) -> Result<Vec<f64>, u32> {
+pub fn renew(spec: &Spec, lent: &[f64], blocks_len: usize) -> Result<Vec<f64>, Reason> {
     let bar = bar(spec)?;
     let cells = cells(&bar, lent)?;
     let own = blocks(&bar, &cells);
@@ -46,7 +46,7 @@ pub fn range(
     kept_numbers: &[f64],
     lo: f64,
     hi: f64,
-) -> Result<Option<Vec<f64>>, u32> {
+) -> Result<Option<Vec<f64>>, Reason> {
     let bar = bar(spec)?;
     let cells = cells(&bar, lent)?;
     kept(&bar, &cells, kept_numbers)?;

@@ -5,8 +5,8 @@
 use super::changes::{acceptable, lent_changes};
 use super::stock::{Bar, bar, camlib_stock, cells, change_to_camlib, fresh, from_camlib};
 use super::{GENERATION, MOST_PIECES, MOST_RINGS, PIECES, RING, STORED};
-use super::{clean, demand, storable};
-use crate::call::{Answer, List, Outcome, Spec, Store};
+use super::{clean, demand, demand_at, storable};
+use crate::call::{Answer, List, Outcome, Reason, Spec, Store};
 
 /// A ring is z0, z1, r0, r1.
 type Ring = [f64; 4];
@@ -31,7 +31,7 @@ fn common(a: &Ring, b: &Ring) -> Ring {
 }
 
 /// 4: the stored rings.
-pub fn stored(bar: &Bar, store: &Store) -> Result<Vec<Ring>, u32> {
+pub fn stored(bar: &Bar, store: &Store) -> Result<Vec<Ring>, Reason> {
     demand(store.count <= room(store.rings.len()), STORED)?;
     let (rings, _) = store.rings.as_chunks::<4>();
     let rings = &rings[..store.count];
@@ -49,14 +49,15 @@ pub fn stored(bar: &Bar, store: &Store) -> Result<Vec<Ring>, u32> {
     Ok(rings.to_vec())
 }
 
-/// 10 for a move or parts: finite and not empty as given.
-fn given_rings(numbers: &[f64]) -> Result<Vec<Ring>, u32> {
-    demand(numbers.len().is_multiple_of(4), RING)?;
-    let (rings, _) = numbers.as_chunks::<4>();
-    for ring in rings {
-        demand(ring.iter().all(|x| x.is_finite()), RING)?;
-        demand(!empty(ring), RING)?;
+/// 10 for a move or parts: finite and not empty as given, at the first that is not; after them at the
+/// one broken off, where the numbers end within a ring.
+fn given_rings(numbers: &[f64]) -> Result<Vec<Ring>, Reason> {
+    let (rings, broken_off) = numbers.as_chunks::<4>();
+    for (k, ring) in rings.iter().enumerate() {
+        demand_at(ring.iter().all(|x| x.is_finite()), RING, k)?;
+        demand_at(!empty(ring), RING, k)?;
     }
+    demand_at(broken_off.is_empty(), RING, rings.len())?;
     Ok(rings.iter().map(|r| r.map(clean)).collect())
 }
 
@@ -86,7 +87,7 @@ fn less(pieces: &[Ring], ring: &Ring) -> Vec<Ring> {
 }
 
 /// 11: stores what is left of the ring, where neither the pieces in hand nor the room run over.
-fn store_ring(rings: &mut Vec<Ring>, room: usize, bar: &Bar, ring: &Ring) -> Result<(), u32> {
+fn store_ring(rings: &mut Vec<Ring>, room: usize, bar: &Bar, ring: &Ring) -> Result<(), Reason> {
     let clipped = clip(bar, ring);
     if empty(&clipped) {
         return Ok(());
@@ -111,7 +112,7 @@ fn agreed(camlib: &[Ring], counted: &[Ring]) -> Vec<Ring> {
 pub fn remove_ring(spec: &Spec, store: &Store, generation: u64, ring: Ring) -> Outcome {
     let bar = bar(spec)?;
     let rings = stored(&bar, store)?;
-    demand(ring.iter().all(|x| x.is_finite()), RING)?;
+    demand_at(ring.iter().all(|x| x.is_finite()), RING, 0)?;
     let ring = ring.map(clean);
     if empty(&clip(&bar, &ring)) {
         return Ok(Answer::Stock(vec![], rings, generation));
@@ -129,7 +130,7 @@ pub fn remove_ring(spec: &Spec, store: &Store, generation: u64, ring: Ring) -> O
     ))
 }
 
-/// 1, 2, 3, 6 for changes beyond what is lent, 4, 10, 7, 8/9, 12, 11.
+/// 1, 2, 3, 6 for changes beyond what is lent, 4, 10, 7, 8/21/22/23, 12, 11.
 pub fn apply_move(
     spec: &Spec,
     lent: &[f64],

@@ -1,6 +1,6 @@
 //! Spec, bins, cells.
-use super::{CELLS, COUNT, MOST_CELLS, SPEC, clean, demand, storable, usable};
-use crate::call::{Change, Spec};
+use super::{CELLS, COUNT, MOST_CELLS, NO_BIN, SPEC, clean, demand, storable, usable};
+use crate::call::{Change, Reason, Spec};
 use plain::turning::stock as camlib;
 
 /// An accepted spec, its numbers as they are read, and its number of bins.
@@ -11,7 +11,7 @@ pub struct Bar {
 }
 
 /// 1, then 2.
-pub fn bar(spec: &Spec) -> Result<Bar, u32> {
+pub fn bar(spec: &Spec) -> Result<Bar, Reason> {
     let numbers = [spec.z_min, spec.z_max, spec.outer, spec.bore, spec.cell];
     demand(numbers.into_iter().all(usable), SPEC)?;
     let [z_min, z_max, outer, bore, cell] = numbers.map(clean);
@@ -35,16 +35,16 @@ pub fn bar(spec: &Spec) -> Result<Bar, u32> {
     Ok(Bar { spec, n })
 }
 
-/// 1, 2, then 9 for an index past the last bin.
-pub fn bin(spec: &Spec, i: usize) -> Result<[f64; 2], u32> {
+/// 1, 2, then 21 for an index past the last bin, with no position: there is no list.
+pub fn bin(spec: &Spec, i: usize) -> Result<[f64; 2], Reason> {
     let bar = bar(spec)?;
-    demand(i < bar.n, super::BEFORE)?;
+    demand(i < bar.n, NO_BIN)?;
     let stock = camlib::TurnStock::new(camlib_spec(&bar.spec)).unwrap();
     Ok(stock.bin(i).map(clean))
 }
 
 /// 1, 2, then 3 for the length alone.
-pub fn new(spec: &Spec, cells_len: usize) -> Result<Vec<[f64; 4]>, u32> {
+pub fn new(spec: &Spec, cells_len: usize) -> Result<Vec<[f64; 4]>, Reason> {
     let bar = bar(spec)?;
     demand(cells_len == 4 * bar.n, CELLS)?;
     Ok(fresh(&bar))
@@ -64,7 +64,7 @@ pub fn fits(bar: &Bar, cell: &[f64; 4]) -> bool {
 }
 
 /// 3: exactly n cells, and each fits.
-pub fn cells(bar: &Bar, lent: &[f64]) -> Result<Vec<[f64; 4]>, u32> {
+pub fn cells(bar: &Bar, lent: &[f64]) -> Result<Vec<[f64; 4]>, Reason> {
     demand(lent.len() == 4 * bar.n, CELLS)?;
     let (cells, _) = lent.as_chunks::<4>();
     demand(cells.iter().all(|c| fits(bar, c)), CELLS)?;

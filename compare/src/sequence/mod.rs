@@ -10,6 +10,7 @@ mod rust;
 mod shrink;
 
 pub use damage::Damage;
+pub use flat::list_of;
 pub use run::{AS_IT_IS, Bent, Difference, Sequences, run};
 
 use crate::call::{Simple, Spec, Store};

@@ -1,13 +1,14 @@
 -- Two outcomes that meet the promise of a call, of the same inputs, are the same. Assumes nothing.
-use mathlib.Core.Path.{_≡_, sym, ap, _∙_}
+use mathlib.Core.Path.{_≡_, sym, ap, ap₂, _∙_}
 use mathlib.Core.List.{List}
 use Prim.Native.Nat.{ℕ}
 use native.Mathlib.Omega.{arith}
 use lib.Ieee.{Float}
-use Rattle.refusals.specs.Number.{reasonOf}
+use Rattle.refusals.specs.declared.Refusal.{Refusal}
+use Rattle.refusals.specs.Number.{reasonOf, reasonAt}
 use Rattle.refusals.specs.Paper.{Paper}
 use Rattle.refusals.specs.Lent.{over}
-use Rattle.refusals.proofs.OneToOne.{one-reason}
+use Rattle.refusals.proofs.OneToOne.{one-reason, one-place, no-place}
 use Rattle.stock.specs.declared.TurnChange.{TurnChange}
 use Rattle.stock.proofs.Count.{same-answer}
 use Rattle.changes.specs.declared.Previewed.{Previewed}
@@ -25,6 +26,14 @@ same-applied (applied.Generation g) (applied.Generation g') h = let e : g ≡ g'
 same-applied (applied.Generation g) (applied.Refused c) h = let z : _≡_ {A = ℕ} 0 1 = cc in absurd (omega arith)
 same-applied (applied.Refused c) (applied.Generation g) h = let z : _≡_ {A = ℕ} 0 1 = cc in absurd (omega arith)
 same-applied (applied.Refused c) (applied.Refused c') h = let e : reasonOf c ≡ reasonOf c' = cc in ap (λ x. applied.Refused x) (one-reason c c' e)
+same-applied (applied.Generation g) (applied.RefusedAt c k) h = let z : _≡_ {A = ℕ} 0 1 = cc in absurd (omega arith)
+same-applied (applied.RefusedAt c k) (applied.Generation g) h = let z : _≡_ {A = ℕ} 0 1 = cc in absurd (omega arith)
+same-applied (applied.Refused c) (applied.RefusedAt c' k) h = let e : reasonOf c ≡ reasonAt c' k = cc in absurd (no-place c c' k e)
+same-applied (applied.RefusedAt c k) (applied.Refused c') h = let e : reasonOf c' ≡ reasonAt c k = cc in absurd (no-place c' c k e)
+same-applied (applied.RefusedAt c k) (applied.RefusedAt c' k') h =
+    let e : reasonAt c k ≡ reasonAt c' k' = cc in
+    let p = one-place c c' k k' e in
+    ap₂ (λ (x : Refusal) (j : ℕ). applied.RefusedAt x j) (p .0) (p .1)
 
 -- the answer and the cells
 pub applied-once : (p : Paper Committed) (r r' : Applied) (cs cs₁ cs₂ : List Float) → Applies p r cs cs₁ → Applies p r' cs cs₂ → (r ≡ r') × (cs₁ ≡ cs₂)

@@ -1,16 +1,17 @@
 -- The changes of the flat lists, written one by one over a list of records. Assumes nothing.
-use mathlib.Core.Path.{_≡_, refl, sym, _∙_, ap}
+use mathlib.Core.Path.{_≡_, sym, _∙_, ap}
 use mathlib.Core.List.{List, [], _∷_}
-use Prim.Native.Nat.{ℕ, zero, suc, _+_, _<_, _≤_}
+use Prim.Native.Nat.{ℕ, _+_, _<_, _≤_}
 use native.Mathlib.Omega.{arith}
 use borrow.Author.Tests.{lt-ltb}
-use lib.ListN.{length, set, length-append}
+use lib.ListN.{length, set}
 use lib.Ieee.{Float}
 use Rattle.refusals.specs.Lent.{over}
 use Rattle.refusals.proofs.Written.{over-none, over-more}
 use Rattle.floats.specs.Pick.{pick-true}
 use Rattle.stock.specs.declared.TurnChange.{TurnChange}
 use Rattle.changes.specs.Change.{roomOf, changeFrom, changeHeld, changesFrom}
+use Rattle.changes.proofs.Falls.{from-length}
 use Rattle.changes.proofs.Passed.{from-next}
 use Rattle.change_slices.specs.Read.{heldIn}
 
@@ -32,17 +33,12 @@ module _ (is : List ℕ) (xs : List Float) where
   pub change-held : (i : ℕ) → i < roomOf (length is) (length xs) → changeHeld is xs i ≡ changeFrom is xs i
   change-held i h = pick-true _ _ _ (lt-ltb _ _ h)
 
-  from-length : (k : ℕ) → length (changesFrom is xs k) ≡ k
-  unfolding changesFrom
-  from-length zero = refl
-  from-length (suc k) = let e = from-length k in simp (length-append, e) (omega arith)
-
   pub read-none : (ys : List TurnChange) → ys ≡ over (changesFrom is xs 0) ys
   unfolding changesFrom
   read-none ys = sym (over-none ys)
 
   pub read-next : (ys : List TurnChange) (i : ℕ) → i < length ys → set (over (changesFrom is xs i) ys) i (changeFrom is xs i) ≡ over (changesFrom is xs (i + 1)) ys
   read-next ys i h =
-      ap (λ (k : ℕ). set (over (changesFrom is xs i) ys) k (changeFrom is xs i)) (sym (from-length i))
-      ∙ over-more (changesFrom is xs i) (changeFrom is xs i ∷ []) ys (let e = from-length i in omega arith)
+      ap (λ (k : ℕ). set (over (changesFrom is xs i) ys) k (changeFrom is xs i)) (sym (from-length is xs i))
+      ∙ over-more (changesFrom is xs i) (changeFrom is xs i ∷ []) ys (let e = from-length is xs i in omega arith)
       ∙ ap (λ (l : List TurnChange). over l ys) (sym (from-next is xs i))

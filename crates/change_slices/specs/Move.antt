@@ -4,29 +4,29 @@ use mathlib.Core.Bool.{Bool, true, false}
 use mathlib.Core.List.{List}
 use Prim.Native.Nat.{ℕ}
 use lib.Ieee.{Float}
-use Rattle.refusals.specs.Paper.{Paper, Reason, refuses, demand, onward}
+use Rattle.refusals.specs.Paper.{Paper, demand, demandNone, onward}
 use Rattle.stock.specs.declared.TurnStockSpec.{TurnStockSpec}
 use Rattle.stock.specs.declared.TurnChange.{TurnChange}
 use Rattle.stock.specs.Spec.{cleanSpec}
 use Rattle.stock.specs.Cell.{stockOf}
-use Rattle.rings.specs.Store.{extentOf, countFits, ringsGood}
+use Rattle.rings.specs.Store.{extentOf, countFits, badRing}
 use Rattle.changes.specs.declared.Applied.{Applied}
 use Rattle.changes.specs.Commit.{appliedPaper, generationOf, commitOf}
 use Rattle.moves.specs.declared.Moved.{Moved}
-use Rattle.moves.specs.declared.Moved.the-variants.{Stored, Refused}
+use Rattle.moves.specs.declared.Moved.the-variants.{Stored, Refused, RefusedAt}
 use Rattle.moves.specs.Move.{Left, moveIn, movedPaper, countsOf, ringsAfter}
 
--- a move of a list of changes: 1, 2, 3, then 4, 10, 7, 8 or 9, 12, 11
+-- a move of a list of changes: 1, 2, 3, then 4, 10, 7, then 8, 21, 22, 23 change by change, 12, 11
 unfoldable pub moveListOf : TurnStockSpec → List Float → List Float → ℕ → ℕ → List TurnChange → List Float → Paper Left
 moveListOf spec cs xs count g l removed = onward (stockOf spec cs) (λ n. moveIn spec n cs xs count g l removed)
 
--- one whose changes are refused with k: 1, 2, 3, 4 and 10 come first
-unfoldable pub refusedOf : TurnStockSpec → List Float → List Float → ℕ → List Float → Reason → Paper Left
-refusedOf spec cs xs count removed k =
+-- what is asked before its changes: 1, 2, 3, 4 and 10, then p
+unfoldable pub askedFirst : {A : Type 0} → TurnStockSpec → List Float → List Float → ℕ → List Float → Paper A → Paper A
+askedFirst spec cs xs count removed p =
     onward (stockOf spec cs) (λ _.
     demand (countFits (extentOf (cleanSpec spec)) xs count) 4
-    (demand (ringsGood removed) 10
-    (refuses k)))
+    (demandNone (badRing removed) 10
+    p))
 
 -- the answer and the lent rings of a move, and the cells as they were
 pub record Storing (p : Paper Left) (r : Moved) (cs cs' xs xs' : List Float) : Type 0 where
@@ -43,3 +43,4 @@ StoresMove spec cs xs count g decided removed r cs' xs' =
 abbrev pub isStored : Moved → Bool
 isStored (Stored n g) = true
 isStored (Refused c) = false
+isStored (RefusedAt c k) = false

@@ -61,7 +61,7 @@ fn put_all(cells: &mut [f64], changes: &[TurnChange])
     }
 }
 
-// Commit the changes; 1, 2, 3, 7, then change by change 8 before 9, 12.
+// Commit the changes; 1, 2, 3, 7, then change by change 8, 21, 22, 23, then 12.
 pub fn apply(
     spec: TurnStockSpec,
     cells: &mut [f64],
@@ -79,7 +79,7 @@ pub fn apply(
 }
 
 // Commit the changes and take the rings `removed`: the count of rings and the generation afterwards;
-// 1, 2, 3, 4, 10, 7, then change by change 8 before 9, 12, 11.
+// 1, 2, 3, 4, 10, 7, then change by change 8, 21, 22, 23, then 12, 11.
 pub fn apply_move(
     spec: TurnStockSpec,
     cells: &mut [f64],

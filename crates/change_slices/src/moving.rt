@@ -1,36 +1,37 @@
 // The rings of a move whose changes are decided.
 ghost use mathlib.Core.Path.{_≡_};
-ghost use Rattle.refusals.specs.Number.{reasonOf};
-ghost use Rattle.refusals.specs.Paper.{refuses};
-ghost use Rattle.change_slices.specs.Move.{refusedOf, StoresMove, isStored};
+ghost use Rattle.moves.specs.Move.{movedPaper};
+ghost use Rattle.change_slices.specs.Move.{askedFirst, StoresMove, isStored};
 use changes::Applied;
 use moves::Moved;
 use refusals::Refusal;
+use rings::Judged;
 use stock::Counted;
 use stock::TurnStockSpec;
 
-// What refuses a move whose changes are refused with r: 1, 2, 3, 4 and 10 come first.
+// What refuses a move whose changes are refused with `own`: 1, 2, 3, 4 and 10 come first.
 fn first_of(
     spec: TurnStockSpec,
     cells: &[f64],
     rings: &[f64],
     count: usize,
     removed: &[f64],
-    r: Refusal,
-) -> Refusal
-    ensures { λ q. ⌜ refuses (reasonOf q) ≡ refusedOf spec (now (cells .entry)) (now (rings .entry)) count (now (removed .entry)) (reasonOf r) ⌝ }
+    own: Moved,
+) -> Moved
+    ensures { λ q. ⌜ movedPaper q ≡ askedFirst spec (now (cells .entry)) (now (rings .entry)) count (now (removed .entry)) (movedPaper own) ⌝ }
 {
     let counted = stock::cells_fit(spec, cells);
     if let Counted::Refused(q) = counted {
-        return q;
+        return Moved::Refused(q);
     }
     if !rings::rings_fit(spec, rings, count) {
-        return Refusal::StoredRings;
+        return Moved::Refused(Refusal::StoredRings);
     }
-    if !rings::rings_good(removed) {
-        return Refusal::RingOutside;
+    let judged = rings::first_bad_ring(removed);
+    if let Judged::Bad(at) = judged {
+        return Moved::RefusedAt(Refusal::RingOutside, at);
     }
-    r
+    own
 }
 
 // The rings, taken where everything passes: those of a move with no changes, if its own pass. The
@@ -47,9 +48,9 @@ pub fn store(
     ensures { λ r. ⌜ StoresMove spec (now (cells .entry)) (now (rings .entry)) count generation decided (now (removed .entry)) r (now (cells .exit)) (now (rings .exit)) ⌝ }
 {
     match decided {
-        Applied::Refused(r) => {
-            let first = first_of(spec, cells, rings, count, removed, r);
-            Moved::Refused(first)
+        Applied::Refused(r) => { first_of(spec, cells, rings, count, removed, Moved::Refused(r)) }
+        Applied::RefusedAt(r, at) => {
+            first_of(spec, cells, rings, count, removed, Moved::RefusedAt(r, at))
         }
         Applied::Generation(_) => {
             moves::apply_move(spec, cells, rings, count, generation, &[], &[], 0, removed)
@@ -64,5 +65,6 @@ pub fn is_stored(answer: Moved) -> bool
     match answer {
         Moved::Stored(_, _) => true,
         Moved::Refused(_) => false,
+        Moved::RefusedAt(_, _) => false,
     }
 }

@@ -12,7 +12,7 @@ use lib.ListN.{length}
 use lib.Ieee.{Float, le}
 use lib.Ieee.Bits.{is-true}
 use lib.Ieee.Fits.{and-i, and-l, and-r}
-use Rattle.refusals.specs.Paper.{answers, demand, demand-true, onward-answers, papers}
+use Rattle.refusals.specs.Paper.{answers, demand, demand-true, demandNone-none, placed-answers, onward-answers, papers}
 use Rattle.refusals.specs.Limits.{lastGeneration}
 use Rattle.floats.specs.Pick.{pick}
 use Rattle.floats.specs.Each.{Each}
@@ -27,7 +27,9 @@ use Rattle.reach.proofs.Fit.{CellFit, fit-test, same-test, same-cell}
 use Rattle.reach.proofs.Removes.{Removes, Cuts}
 use Rattle.changes.specs.Change.{changeOf, changeAt, changesTo, indicesOf}
 use Rattle.changes.proofs.Rising.{RisingTo, rising}
-use Rattle.changes.specs.Commit.{onlyRemoves, appliesTo, passes, eachPasses, risesAfter, rises, passAll, putAll, commitIn, commitOf}
+use Rattle.changes.specs.Commit.{onlyRemoves, appliesTo, passes, eachFrom, passAll, putAll, commitIn, commitOf}
+use Rattle.changes.specs.Decide.{risesAfter, rises}
+use Rattle.changes.proofs.Falls.{rises-none}
 use Rattle.changes.proofs.Passed.{put-length}
 use Rattle.changes.proofs.Stocks.{Good, good-stock}
 
@@ -67,7 +69,7 @@ rises-test lo hi (c ∷ l) h = rises-after (c .index) hi l (h .1)
 
 -- ---- the changes of a step f that leaves cells that fit and adds nothing
 module _ (s : TurnStockSpec) (n : ℕ) (f : ℕ → TurnCell → TurnCell) (cs : List Float) (len : length cs ≡ 4 * n) (fit : (i : ℕ) → i < n → CellFit s (cellAt cs i)) (cuts : (i : ℕ) → i < n → Cuts s (cellAt cs i) (f i (cellAt cs i))) where
-  -- ---- 8 and 9: each passes
+  -- ---- 8, 21, 22 and 23: each passes
   one-passes : (k : ℕ) → k < n → passes s n cs (changeOf f cs k) ≡ answers tt
   unfolding passes appliesTo
   one-passes k h =
@@ -85,15 +87,15 @@ module _ (s : TurnStockSpec) (n : ℕ) (f : ℕ → TurnCell → TurnCell) (cs :
   all-each zero h = tt
   all-each (suc k) h = each-append (λ (c : TurnChange). passes s n cs c ≡ answers tt) (changesTo f cs k) (changeAt f cs k) (all-each k (omega arith)) (one-each k h (sameCell (cellAt cs k) (f k (cellAt cs k))))
 
-  each-pass : (l : List TurnChange) → Each (λ (c : TurnChange). passes s n cs c ≡ answers tt) l → eachPasses s n cs l ≡ answers tt
-  unfolding eachPasses
-  each-pass [] ps = refl
-  each-pass (c ∷ l) ps = simp (ps .0, onward-answers) (each-pass l (ps .1))
+  each-pass : (k : ℕ) (l : List TurnChange) → Each (λ (c : TurnChange). passes s n cs c ≡ answers tt) l → eachFrom s n cs k l ≡ answers tt
+  unfolding eachFrom
+  each-pass k [] ps = refl
+  each-pass k (c ∷ l) ps = simp (ps .0, placed-answers, onward-answers) (each-pass (suc k) l (ps .1))
 
   -- the whole list passes
   pub all-pass : passAll s n cs (changesTo f cs n) ≡ answers tt
   unfolding passAll
-  all-pass = demand-true _ _ _ (rises-test 0 n (changesTo f cs n) (rising f cs n)) ∙ each-pass (changesTo f cs n) (all-each n (omega arith))
+  all-pass = demandNone-none _ _ _ (rises-none (changesTo f cs n) (rises-test 0 n (changesTo f cs n) (rising f cs n))) ∙ each-pass 0 (changesTo f cs n) (all-each n (omega arith))
 
   -- ---- the cells after the changes of the bins below k
   record Put (k : ℕ) (out : List Float) : Type 0 where

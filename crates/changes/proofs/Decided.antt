@@ -1,124 +1,197 @@
 -- How a list that is decided change by change comes out: as the rule of the whole list has it. Assumes nothing.
 use mathlib.Core.Path.{_≡_, refl, sym, _∙_, ap, ap₂}
 use mathlib.Core.Bool.{Bool, true, false, not, _&&_, _||_, false≢true}
-use mathlib.Core.List.{List, [], _∷_, _++_, foldl-append}
-use Prim.Native.Nat.{ℕ, _+_, _≤_, _<_}
+use mathlib.Core.List.{List, [], _∷_, _++_}
+use mathlib.Core.Option.{Option, none, some}
+use Prim.Native.Nat.{ℕ, suc, _+_, _≤_, _<_, min}
 use native.Mathlib.Omega.{arith}
 use borrow.Author.Tests.{lt-ltb, le-ltb}
 use lib.Dec.{ltb}
 use lib.ListN.{length}
 use lib.Ieee.{Float}
-use Rattle.refusals.specs.Paper.{Paper, Reason, answers, refuses, demand, onward, onward-refuses, only, papers}
-use Rattle.refusals.specs.Limits.{lastGeneration}
-use Rattle.floats.specs.Pick.{pick-true}
+use Rattle.refusals.specs.Paper.{Paper, Reason, answers, refuses, demand, demandAt, demandNone, placed, onward, onward-refuses, only, demand-true, demand-false, demandNone-none, papers}
+use Rattle.refusals.specs.Limits.{lastGeneration, lastPlace}
+use Rattle.floats.specs.Pick.{pick, pick-true}
 use Rattle.stock.specs.declared.TurnStockSpec.{TurnStockSpec}
 use Rattle.stock.specs.declared.TurnChange.{TurnChange}
 use Rattle.stock.specs.Spec.{cleanSpec}
-use Rattle.stock.specs.Cell.{stockOf}
+use Rattle.stock.specs.Cell.{cellAt, sameCell, stockOf}
 use Rattle.changes.specs.declared.Applied.{Applied}
 use Rattle.changes.specs.declared.Applied.the-variants as applied
 use Rattle.changes.specs.Change.{roomOf, changeFrom, changeHeld, changesFrom}
-use Rattle.changes.specs.Commit.{passes, eachPasses, rises, risesAfter, passAll, putAll, commitIn, commitOf, Committed, appliedPaper, generationOf, cellsAfter, Applies}
-use Rattle.changes.specs.Decide.{Decides, onCells, onStock, beginOf, stepOf, stepsOf, outcomeOf, raisedOf, concludeOf, isAccepted}
+use Rattle.changes.specs.Commit.{onlyRemoves, appliesTo, passes, eachFrom, fallAfter, firstFall, passAll, putAll, commitIn, commitOf, Committed, appliedPaper, generationOf, cellsAfter, Applies}
+use Rattle.changes.specs.Decide.{applies, rises, Decides, onCells, onStock, beginOf, stepOf, stepsOf, outcomeOf, raisedOf, concludeOf, isAccepted}
 use Rattle.changes.proofs.Passed.{from-next, further}
+use Rattle.changes.proofs.Falls.{rises-none, from-length}
+use Rattle.stock.proofs.Count.{and-both}
 
 -- ---- how the changes that are left decide it
 
--- the indices rise, behind the last one if there is any
-unfoldable risesFrom : Bool → ℕ → List TurnChange → Bool
-risesFrom true i l = risesAfter i l
-risesFrom false i l = rises l
+-- the place of the first fall of those, behind the last one if there is any, the first of them at the place k
+unfoldable fallFrom : Bool → ℕ → ℕ → List TurnChange → Option ℕ
+fallFrom true k i l = fallAfter k i l
+fallFrom false k i [] = none
+fallFrom false k i (c ∷ l) = fallAfter (suc k) (c .index) l
 
 -- a list that is decided so far, with the changes that are left
 unfoldable withRest : List Float → Decides → List TurnChange → Paper (Unit {0})
 withRest cs d l =
     onward (d .stock) (λ _.
-    demand (d .rises && risesFrom (d .any) (d .last) l) 7
-    (onward (d .found) (λ _. eachPasses (d .spec) (d .n) cs l)))
+    demandNone (pick (d .rises) (fallFrom (d .any) (d .count) (d .last) l) (some (d .fall))) 7
+    (onward (d .found) (λ _. eachFrom (d .spec) (d .n) cs (d .count) l)))
 
-and-true : (t : Bool) → (t && true) ≡ t
-and-true true = refl
-and-true false = refl
-
-risen : (r any : Bool) (i : ℕ) → (r && risesFrom any i []) ≡ r
-unfolding risesFrom rises risesAfter
-risen r true i = and-true r
-risen r false i = and-true r
+-- no more changes: the fall that is found, if any
+fall-end : (r any : Bool) (k i f : ℕ) (q : Paper (Unit {0})) → demandAt r 7 f q ≡ demandNone (pick r (fallFrom any k i []) (some f)) 7 q
+unfolding demandAt demandNone pick fallFrom fallAfter
+fall-end true true k i f q = refl
+fall-end true false k i f q = refl
+fall-end false any k i f q = refl
 
 -- the next index is above the last one, if there is any
-rises-on : (r any : Bool) (i : ℕ) (c : TurnChange) (l : List TurnChange) → ((r && (not any || ltb i (c .index))) && risesFrom true (c .index) l) ≡ (r && risesFrom any i (c ∷ l))
-unfolding risesFrom rises risesAfter
-rises-on true true i c l = refl
-rises-on true false i c l = refl
-rises-on false any i c l = refl
+fall-on : (r any : Bool) (k k' i f : ℕ) (c : TurnChange) (l : List TurnChange) → k' ≡ suc k
+    → pick (r && (not any || ltb i (c .index))) (fallFrom true k' (c .index) l) (some (pick r k f)) ≡ pick r (fallFrom any k i (c ∷ l)) (some f)
+unfolding pick fallFrom fallAfter
+fall-on true true k k' i f c l e = ap (λ (m : ℕ). pick (ltb i (c .index)) (fallAfter m (c .index) l) (some k)) e
+fall-on true false k k' i f c l e = ap (λ (m : ℕ). fallAfter m (c .index) l) e
+fall-on false any k k' i f c l e = refl
+
+first-is : (l : List TurnChange) → fallFrom false 0 0 l ≡ firstFall l
+unfolding fallFrom firstFall
+first-is [] = refl
+first-is (c ∷ l) = refl
+
+-- a place that is not the last has one behind it
+next-place : (k m : ℕ) → k + suc m ≤ lastPlace → min (k + 1) lastPlace ≡ suc k
+next-place k m h = omega arith
+
+next-room : (k m : ℕ) → k + suc m ≤ lastPlace → min (k + 1) lastPlace + m ≤ lastPlace
+next-room k m h = omega arith
+
+from-first : (l : List TurnChange) → length l ≤ lastPlace → 0 + length l ≤ lastPlace
+from-first l h = omega arith
 
 module _ (cs : List Float) where
-  found-end : (s : TurnStockSpec) (n : ℕ) (q : Paper (Unit {0})) → onward q (λ _. eachPasses s n cs []) ≡ q
-  unfolding onward eachPasses
-  found-end s n (answers tt) = refl
-  found-end s n (refuses r) = refl
+  found-end : (s : TurnStockSpec) (n k : ℕ) (q : Paper (Unit {0})) → onward q (λ _. eachFrom s n cs k []) ≡ q
+  unfolding onward eachFrom
+  found-end s n k (answers tt) = refl
+  found-end s n k (refuses r) = refl
 
-  found-on : (s : TurnStockSpec) (n : ℕ) (c : TurnChange) (l : List TurnChange) (q : Paper (Unit {0})) → onward (onward q (λ _. passes s n cs c)) (λ _. eachPasses s n cs l) ≡ onward q (λ _. eachPasses s n cs (c ∷ l))
-  unfolding onward eachPasses
-  found-on s n c l (answers a) = refl
-  found-on s n c l (refuses r) = refl
+  found-on : (s : TurnStockSpec) (n k k' : ℕ) (c : TurnChange) (l : List TurnChange) (q : Paper (Unit {0})) → k' ≡ suc k
+      → onward (onward q (λ _. placed k (passes s n cs c))) (λ _. eachFrom s n cs k' l) ≡ onward q (λ _. eachFrom s n cs k (c ∷ l))
+  unfolding onward eachFrom
+  found-on s n k k' c l (answers a) e = ap (λ (m : ℕ). onward (placed k (passes s n cs c)) (λ _. eachFrom s n cs m l)) e
+  found-on s n k k' c l (refuses r) e = refl
 
   -- after the last change, and one change on
   comes-end : (d : Decides) → outcomeOf d ≡ withRest cs d []
   unfolding outcomeOf withRest
   comes-end d =
-      ap (λ (t : Bool). onward (d .stock) (λ _. demand t 7 (d .found))) (sym (risen (d .rises) (d .any) (d .last)))
-      ∙ ap (λ (q : Paper (Unit {0})). onward (d .stock) (λ _. demand (d .rises && risesFrom (d .any) (d .last) []) 7 q)) (sym (found-end (d .spec) (d .n) (d .found)))
+      ap (λ (q : Paper (Unit {0})). onward (d .stock) (λ _. q)) (fall-end (d .rises) (d .any) (d .count) (d .last) (d .fall) (d .found))
+      ∙ ap (λ (q : Paper (Unit {0})). onward (d .stock) (λ _. demandNone (pick (d .rises) (fallFrom (d .any) (d .count) (d .last) []) (some (d .fall))) 7 q)) (sym (found-end (d .spec) (d .n) (d .count) (d .found)))
 
-  comes-on : (d : Decides) (c : TurnChange) (l : List TurnChange) → withRest cs (stepOf cs d c) l ≡ withRest cs d (c ∷ l)
+  comes-on : (d : Decides) (c : TurnChange) (l : List TurnChange) → d .count + suc (length l) ≤ lastPlace → withRest cs (stepOf cs d c) l ≡ withRest cs d (c ∷ l)
   unfolding withRest
-  comes-on d c l =
-      ap (λ (t : Bool). onward (d .stock) (λ _. demand t 7 (onward (onward (d .found) (λ _. passes (d .spec) (d .n) cs c)) (λ _. eachPasses (d .spec) (d .n) cs l)))) (rises-on (d .rises) (d .any) (d .last) c l)
-      ∙ ap (λ (q : Paper (Unit {0})). onward (d .stock) (λ _. demand (d .rises && risesFrom (d .any) (d .last) (c ∷ l)) 7 q)) (found-on (d .spec) (d .n) c l (d .found))
+  comes-on d c l h =
+      let e = next-place (d .count) (length l) h in
+      ap (λ (o : Option ℕ). onward (d .stock) (λ _. demandNone o 7 (onward (onward (d .found) (λ _. placed (d .count) (passes (d .spec) (d .n) cs c))) (λ _. eachFrom (d .spec) (d .n) cs (min (d .count + 1) lastPlace) l))))
+      (fall-on (d .rises) (d .any) (d .count) (min (d .count + 1) lastPlace) (d .last) (d .fall) c l e)
+      ∙ ap (λ (q : Paper (Unit {0})). onward (d .stock) (λ _. demandNone (pick (d .rises) (fallFrom (d .any) (d .count) (d .last) (c ∷ l)) (some (d .fall))) 7 q))
+      (found-on (d .spec) (d .n) (d .count) (min (d .count + 1) lastPlace) c l (d .found) e)
 
-  comes : (d : Decides) (l : List TurnChange) → outcomeOf (stepsOf cs d l) ≡ withRest cs d l
-  comes d [] = comes-end d
-  comes d (c ∷ l) = comes (stepOf cs d c) l ∙ comes-on d c l
+  comes : (d : Decides) (l : List TurnChange) → d .count + length l ≤ lastPlace → outcomeOf (stepsOf cs d l) ≡ withRest cs d l
+  comes d [] h = comes-end d
+  comes d (c ∷ l) h = comes (stepOf cs d c) l (next-room (d .count) (length l) h) ∙ comes-on d c l h
 
-  -- ---- from the first change on
+  -- ---- from the first change on, of a list that a machine can hold
 
   -- on n cells that are not asked
-  pub on-cells : (s : TurnStockSpec) (n : ℕ) (l : List TurnChange) → outcomeOf (stepsOf cs (onCells s n) l) ≡ passAll s n cs l
-  unfolding withRest onward risesFrom passAll
-  on-cells s n l = comes (onCells s n) l
+  pub on-cells : (s : TurnStockSpec) (n : ℕ) (l : List TurnChange) → length l ≤ lastPlace → outcomeOf (stepsOf cs (onCells s n) l) ≡ passAll s n cs l
+  unfolding withRest onward passAll
+  on-cells s n l h = comes (onCells s n) l (from-first l h) ∙ ap (λ (o : Option ℕ). demandNone o 7 (eachFrom s n cs 0 l)) (pick-true true (fallFrom false 0 0 l) (some 0) refl ∙ first-is l)
 
-  -- of a stock that is asked: 1, 2, 3, then 7, 8 or 9
-  pub from-begin : (spec : TurnStockSpec) (l : List TurnChange) → outcomeOf (stepsOf cs (beginOf spec cs) l) ≡ onward (stockOf spec cs) (λ n. passAll (cleanSpec spec) n cs l)
+  -- of a stock that is asked: 1, 2, 3, then 7, then change by change
+  pub from-begin : (spec : TurnStockSpec) (l : List TurnChange) → length l ≤ lastPlace → outcomeOf (stepsOf cs (beginOf spec cs) l) ≡ onward (stockOf spec cs) (λ n. passAll (cleanSpec spec) n cs l)
   unfolding beginOf onward withRest
-  from-begin spec l = at-stock (stockOf spec cs)
+  from-begin spec l h = at-stock (stockOf spec cs)
     where
       at-stock : (p : Paper ℕ) → outcomeOf (stepsOf cs (onStock (cleanSpec spec) p) l) ≡ onward p (λ n. passAll (cleanSpec spec) n cs l)
-      at-stock (answers n) = on-cells (cleanSpec spec) n l
-      at-stock (refuses r) = comes (onStock (cleanSpec spec) (refuses r)) l
+      at-stock (answers n) = on-cells (cleanSpec spec) n l h
+      at-stock (refuses r) = comes (onStock (cleanSpec spec) (refuses r)) l (from-first l h)
 
-  -- the first change that does not pass
-  pub steps-found : (d : Decides) (l : List TurnChange) → stepsOf cs d l .found ≡ onward (d .found) (λ _. eachPasses (d .spec) (d .n) cs l)
-  steps-found d [] = sym (found-end (d .spec) (d .n) (d .found))
-  steps-found d (c ∷ l) = steps-found (stepOf cs d c) l ∙ found-on (d .spec) (d .n) c l (d .found)
+  -- ---- the lent lists, change by change
+  sides : (p q r m : Paper (Unit {0})) → q ≡ onward r (λ _. m) → onward p (λ _. q) ≡ onward (onward p (λ _. r)) (λ _. m)
+  unfolding onward
+  sides (answers a) q r m e = e
+  sides (refuses k) q r m e = refl
 
-  module _ (d : Decides) (is : List ℕ) (xs : List Float) where
-    -- one change more of the lent lists
-    pub steps-next : (i : ℕ) (e e' : Decides) (c : TurnChange) → e ≡ stepsOf cs d (changesFrom is xs i) → i < roomOf (length is) (length xs) → c ≡ changeHeld is xs i → e' ≡ stepOf cs e c → e' ≡ stepsOf cs d (changesFrom is xs (i + 1))
-    steps-next i e e' c at h held on =
+  each-more : (s : TurnStockSpec) (n k : ℕ) (l m : List TurnChange) → eachFrom s n cs k (l ++ m) ≡ onward (eachFrom s n cs k l) (λ _. eachFrom s n cs (k + length l) m)
+  unfolding onward eachFrom
+  each-more s n k [] m =
+      let e : k ≡ k + 0 = omega arith in
+      ap (λ (j : ℕ). eachFrom s n cs j m) e
+  each-more s n k (c ∷ l) m =
+      let e : suc k + length l ≡ k + length (c ∷ l) = omega arith in
+      sides (placed k (passes s n cs c)) (eachFrom s n cs (suc k) (l ++ m)) (eachFrom s n cs (suc k) l) (eachFrom s n cs (k + length (c ∷ l)) m) (each-more s n (suc k) l m ∙ ap (λ (j : ℕ). onward (eachFrom s n cs (suc k) l) (λ _. eachFrom s n cs j m)) e)
+
+  module _ (s : TurnStockSpec) (n : ℕ) (is : List ℕ) (xs : List Float) where
+    each-one : (i : ℕ) → eachFrom s n cs 0 (changesFrom is xs (i + 1)) ≡ onward (eachFrom s n cs 0 (changesFrom is xs i)) (λ _. placed i (passes s n cs (changeFrom is xs i)))
+    unfolding eachFrom
+    each-one i =
+        let p = eachFrom s n cs 0 (changesFrom is xs i) in
+        let e : 0 + length (changesFrom is xs i) ≡ i = omega (arith, from-length is xs i) in
+        ap (eachFrom s n cs 0) (from-next is xs i)
+        ∙ each-more s n 0 (changesFrom is xs i) (changeFrom is xs i ∷ [])
+        ∙ ap (λ (j : ℕ). onward p (λ _. eachFrom s n cs j (changeFrom is xs i ∷ []))) e
+        ∙ ap (λ (q : Paper (Unit {0})). onward p (λ _. q)) (found-end s n (suc i) (placed i (passes s n cs (changeFrom is xs i))))
+
+    -- one change more
+    pub each-next : (i : ℕ) (p p' : Paper (Unit {0})) (c : TurnChange) → p ≡ eachFrom s n cs 0 (changesFrom is xs i) → i < roomOf (length is) (length xs) → c ≡ changeHeld is xs i → p' ≡ onward p (λ _. placed i (passes s n cs c)) → p' ≡ eachFrom s n cs 0 (changesFrom is xs (i + 1))
+    each-next i p p' c at h held on =
         on
-        ∙ ap₂ (stepOf cs) at (held ∙ pick-true _ _ _ (lt-ltb _ _ h))
-        ∙ sym (ap (stepsOf cs d) (from-next is xs i) ∙ foldl-append (stepOf cs) d (changesFrom is xs i) (changeFrom is xs i ∷ []))
+        ∙ ap₂ (λ (q : Paper (Unit {0})) (x : TurnChange). onward q (λ _. placed i (passes s n cs x))) at (held ∙ pick-true _ _ _ (lt-ltb _ _ h))
+        ∙ sym (each-one i)
 
     -- one that does not pass is the first of any longer list
-    pub steps-stops : (j k : ℕ) (r : Reason) → j ≤ k → stepsOf cs d (changesFrom is xs j) .found ≡ refuses r → stepsOf cs d (changesFrom is xs k) .found ≡ refuses r
-    steps-stops j k r h e =
+    pub each-stops : (j k : ℕ) (r : Reason) → j ≤ k → eachFrom s n cs 0 (changesFrom is xs j) ≡ refuses r → eachFrom s n cs 0 (changesFrom is xs k) ≡ refuses r
+    each-stops j k r h e =
         let o = further is xs j k h in
-        let w = stepsOf cs d (changesFrom is xs j) in
-        ap (λ (l : List TurnChange). stepsOf cs d l .found) (o .is-more)
-        ∙ ap (λ (x : Decides). x .found) (foldl-append (stepOf cs) d (changesFrom is xs j) (o .rest))
-        ∙ steps-found w (o .rest)
-        ∙ ap (λ (q : Paper (Unit {0})). onward q (λ _. eachPasses (w .spec) (w .n) cs (o .rest))) e
-        ∙ onward-refuses r (λ (_ : Unit {0}). eachPasses (w .spec) (w .n) cs (o .rest))
+        ap (eachFrom s n cs 0) (o .is-more)
+        ∙ each-more s n 0 (changesFrom is xs j) (o .rest)
+        ∙ ap (λ (q : Paper (Unit {0})). onward q (λ _. eachFrom s n cs (0 + length (changesFrom is xs j)) (o .rest))) e
+        ∙ onward-refuses r _
+
+-- where the indices rise, the list is decided by the first change that does not pass
+pub rising-is : (s : TurnStockSpec) (n : ℕ) (cs : List Float) (l : List TurnChange) → rises l ≡ true → eachFrom s n cs 0 l ≡ passAll s n cs l
+unfolding passAll
+rising-is s n cs l r = sym (demandNone-none (firstFall l) 7 (eachFrom s n cs 0 l) (rises-none l r))
+
+-- ---- 21, 22, 23
+module _ (n : ℕ) (cs : List Float) (c : TurnChange) where
+  pub no-bin : n ≤ c .index → refuses (only 21) ≡ appliesTo n cs c
+  unfolding appliesTo
+  no-bin h = sym (demand-false _ _ _ (le-ltb _ _ h))
+
+  module _ (h : c .index < n) where
+    pub holds-other : sameCell (cellAt cs (c .index)) (c .before) ≡ false → refuses (only 22) ≡ appliesTo n cs c
+    unfolding appliesTo
+    holds-other s = sym (demand-true _ _ _ (lt-ltb _ _ h) ∙ demand-false _ _ _ s)
+
+    module _ (s : sameCell (cellAt cs (c .index)) (c .before) ≡ true) where
+      pub adds : onlyRemoves (c .before) (c .after) ≡ false → refuses (only 23) ≡ appliesTo n cs c
+      unfolding appliesTo
+      adds r = sym (demand-true _ _ _ (lt-ltb _ _ h) ∙ demand-true _ _ _ s ∙ demand-false _ _ _ r)
+
+      pub asked-all : onlyRemoves (c .before) (c .after) ≡ true → answers tt ≡ appliesTo n cs c
+      unfolding appliesTo
+      asked-all r = sym (demand-true _ _ _ (lt-ltb _ _ h) ∙ demand-true _ _ _ s ∙ demand-true _ _ _ r)
+
+-- three tests that hold at once are each met
+pub at-once : (n : ℕ) (cs : List Float) (c : TurnChange) → applies n cs c ≡ true → appliesTo n cs c ≡ answers tt
+unfolding applies appliesTo
+at-once n cs c e =
+    let b = and-both (ltb (c .index) n && sameCell (cellAt cs (c .index)) (c .before)) (onlyRemoves (c .before) (c .after)) e in
+    let a = and-both (ltb (c .index) n) (sameCell (cellAt cs (c .index)) (c .before)) (b .0) in
+    demand-true _ _ _ (a .0) ∙ demand-true _ _ _ (a .1) ∙ demand-true _ _ _ (b .1)
 
 -- ---- the generation after changes that pass
 pub raised-stops : (r : Reason) (gen : ℕ) → raisedOf (refuses r) gen ≡ refuses r
@@ -147,9 +220,9 @@ raised-in s n cs gen l = at-pass (passAll s n cs l)
     at-pass (answers a) = at-test (ltb gen lastGeneration)
     at-pass (refuses r) = refl
 
-pub conclude-is : (spec : TurnStockSpec) (cs : List Float) (gen : ℕ) (l : List TurnChange) → concludeOf (stepsOf cs (beginOf spec cs) l) gen ≡ generationOf (commitOf spec cs gen l)
+pub conclude-is : (spec : TurnStockSpec) (cs : List Float) (gen : ℕ) (l : List TurnChange) → length l ≤ lastPlace → concludeOf (stepsOf cs (beginOf spec cs) l) gen ≡ generationOf (commitOf spec cs gen l)
 unfolding commitOf onward raisedOf
-conclude-is spec cs gen l = ap (λ (p : Paper (Unit {0})). raisedOf p gen) (from-begin cs spec l) ∙ at-stock (stockOf spec cs)
+conclude-is spec cs gen l h = ap (λ (p : Paper (Unit {0})). raisedOf p gen) (from-begin cs spec l h) ∙ at-stock (stockOf spec cs)
   where
     at-stock : (p : Paper ℕ) → raisedOf (onward p (λ n. passAll (cleanSpec spec) n cs l)) gen ≡ generationOf (onward p (λ n. commitIn (cleanSpec spec) n cs gen l))
     at-stock (answers n) = raised-in (cleanSpec spec) n cs gen l
@@ -165,6 +238,7 @@ answering (refuses r) = false
 accepted-is : (r : Applied) → isAccepted r ≡ answering (appliedPaper r)
 accepted-is (applied.Generation g) = refl
 accepted-is (applied.Refused c) = refl
+accepted-is (applied.RefusedAt c k) = refl
 
 answering-is : (p : Paper Committed) → answering (generationOf p) ≡ answering p
 answering-is (answers k) = refl

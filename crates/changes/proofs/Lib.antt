@@ -3,6 +3,7 @@ pub mod Rising
 pub mod ReadBack
 pub mod Proposals
 pub mod Passed
+pub mod Falls
 pub mod Decided
 pub mod Written
 pub mod Differences

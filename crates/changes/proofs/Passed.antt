@@ -15,7 +15,8 @@ use Rattle.floats.specs.Pick.{pick, pick-true, pick-false}
 use Rattle.stock.specs.declared.TurnCell.{TurnCell}
 use Rattle.stock.specs.Cell.{fourOf, putCell}
 use Rattle.changes.specs.Change.{changeFrom, changesFrom}
-use Rattle.changes.specs.Commit.{risesAfter, rises, putAll}
+use Rattle.changes.specs.Commit.{putAll}
+use Rattle.changes.specs.Decide.{risesAfter, rises}
 
 -- ---- the first changes of the lent lists
 module _ (is : List ℕ) (xs : List Float) where

@@ -1,16 +1,18 @@
 -- A commit: when changes pass, and what they leave. Assumes nothing.
 use mathlib.Core.Path.{_≡_}
-use mathlib.Core.Bool.{Bool, true, _&&_}
+use mathlib.Core.Bool.{Bool, _&&_}
 use mathlib.Core.List.{List, [], _∷_, foldl}
-use Prim.Native.Nat.{ℕ, _+_, min}
+use mathlib.Core.Option.{Option, none, some}
+use Prim.Native.Nat.{ℕ, suc, _+_, min}
 use lib.Dec.{leb, ltb}
 use lib.ListN.{length}
 use lib.Ieee.{Float, le}
 use denote.Ref.{now}
-use Rattle.refusals.specs.Number.{reasonOf}
-use Rattle.refusals.specs.Paper.{Paper, answers, refuses, demand, onward}
+use Rattle.refusals.specs.Number.{reasonOf, reasonAt}
+use Rattle.refusals.specs.Paper.{Paper, answers, refuses, demand, demandNone, placed, onward}
 use Rattle.refusals.specs.Limits.{lastGeneration}
 use Rattle.refusals.specs.Lent.{Lent}
+use Rattle.floats.specs.Pick.{pick}
 use Rattle.stock.specs.declared.TurnStockSpec.{TurnStockSpec}
 use Rattle.stock.specs.declared.TurnCell.{TurnCell}
 use Rattle.stock.specs.declared.TurnChange.{TurnChange}
@@ -30,31 +32,36 @@ onlyRemoves before after =
     le (after .outer .«upper_mm») (before .outer .«upper_mm») && le (after .outer .«lower_mm») (before .outer .«lower_mm»)
     && le (before .inner .«lower_mm») (after .inner .«lower_mm») && le (before .inner .«upper_mm») (after .inner .«upper_mm»)
 
--- there is such a bin among n, it holds the before-cell, and the change adds no material
-unfoldable pub appliesTo : ℕ → List Float → TurnChange → Bool
-appliesTo n cs c = ltb (c .index) n && sameCell (cellAt cs (c .index)) (c .before) && onlyRemoves (c .before) (c .after)
+-- 21 unless there is such a bin among n, 22 unless it holds the before-cell, 23 if the change adds material
+unfoldable pub appliesTo : ℕ → List Float → TurnChange → Paper (Unit {0})
+appliesTo n cs c =
+    demand (ltb (c .index) n) 21
+    (demand (sameCell (cellAt cs (c .index)) (c .before)) 22
+    (demand (onlyRemoves (c .before) (c .after)) 23
+    (answers tt)))
 
--- 8 unless the after-cell fits, then 9 unless the change applies
+-- 8 unless the after-cell fits, then 21, 22, 23
 unfoldable pub passes : TurnStockSpec → ℕ → List Float → TurnChange → Paper (Unit {0})
-passes s n cs c = demand (cellFits s (c .after)) 8 (demand (appliesTo n cs c) 9 (answers tt))
+passes s n cs c = demand (cellFits s (c .after)) 8 (appliesTo n cs c)
 
--- change by change
-unfoldable pub eachPasses : TurnStockSpec → ℕ → List Float → List TurnChange → Paper (Unit {0})
-eachPasses s n cs [] = answers tt
-eachPasses s n cs (c ∷ l) = onward (passes s n cs c) (λ _. eachPasses s n cs l)
+-- change by change, the first of them at the place k
+unfoldable pub eachFrom : TurnStockSpec → ℕ → List Float → ℕ → List TurnChange → Paper (Unit {0})
+eachFrom s n cs k [] = answers tt
+eachFrom s n cs k (c ∷ l) = onward (placed k (passes s n cs c)) (λ _. eachFrom s n cs (suc k) l)
 
--- each index is above the one before it
-unfoldable pub risesAfter : ℕ → List TurnChange → Bool
-risesAfter i [] = true
-risesAfter i (c ∷ l) = ltb i (c .index) && risesAfter (c .index) l
+-- the place of the first index that is not above the one before it: behind the index i, the first of them at the place k
+unfoldable pub fallAfter : ℕ → ℕ → List TurnChange → Option ℕ
+fallAfter k i [] = none
+fallAfter k i (c ∷ l) = pick (ltb i (c .index)) (fallAfter (suc k) (c .index) l) (some k)
 
-unfoldable pub rises : List TurnChange → Bool
-rises [] = true
-rises (c ∷ l) = risesAfter (c .index) l
+-- the later of the first pair that does not rise
+unfoldable pub firstFall : List TurnChange → Option ℕ
+firstFall [] = none
+firstFall (c ∷ l) = fallAfter 1 (c .index) l
 
 -- 7 over the whole list first, then change by change
 unfoldable pub passAll : TurnStockSpec → ℕ → List Float → List TurnChange → Paper (Unit {0})
-passAll s n cs l = demand (rises l) 7 (eachPasses s n cs l)
+passAll s n cs l = demandNone (firstFall l) 7 (eachFrom s n cs 0 l)
 
 -- the same of the first k changes of the lent lists, as many as they hold
 abbrev pub firstRefusal : TurnStockSpec → ℕ → List Float → List ℕ → List Float → ℕ → Paper (Unit {0})
@@ -64,6 +71,7 @@ firstRefusal s n cs is xs k = passAll s n cs (changesFrom is xs (min k (roomOf (
 unfoldable pub passingPaper : Passing → Paper (Unit {0})
 passingPaper passing.Pass = answers tt
 passingPaper (passing.Refused c) = refuses (reasonOf c)
+passingPaper (passing.RefusedAt c k) = refuses (reasonAt c k)
 
 -- ---- what a commit leaves
 
@@ -79,7 +87,7 @@ pub record Committed : Type 0 where
   pub cells : List Float
   pub generation : ℕ
 
--- 7, 8 or 9, then 12; the generation rises by 1, also with no changes
+-- 7, then 8, 21, 22, 23 change by change, then 12; the generation rises by 1, also with no changes
 unfoldable pub commitIn : TurnStockSpec → ℕ → List Float → ℕ → List TurnChange → Paper Committed
 commitIn s n cs gen l =
     onward (passAll s n cs l) (λ _.
@@ -90,7 +98,7 @@ commitIn s n cs gen l =
 abbrev pub commitHeld : TurnStockSpec → ℕ → List Float → ℕ → List ℕ → List Float → ℕ → Paper Committed
 commitHeld s n cs gen is xs k = commitIn s n cs gen (changesFrom is xs (min k (roomOf (length is) (length xs))))
 
--- a commit of a list of changes: 1, 2, 3, then 7, 8 or 9, 12
+-- a commit of a list of changes: 1, 2, 3, 7, then 8, 21, 22, 23 change by change, 12
 unfoldable pub commitOf : TurnStockSpec → List Float → ℕ → List TurnChange → Paper Committed
 commitOf spec cs gen l = onward (stockOf spec cs) (λ n. commitIn (cleanSpec spec) n cs gen l)
 
@@ -105,6 +113,7 @@ applyOf spec cs gen is xs k =
 abbrev pub appliedPaper : Applied → Paper ℕ
 appliedPaper (applied.Generation g) = answers g
 appliedPaper (applied.Refused c) = refuses (reasonOf c)
+appliedPaper (applied.RefusedAt c k) = refuses (reasonAt c k)
 
 abbrev pub generationOf : Paper Committed → Paper ℕ
 generationOf (answers k) = answers (k .generation)

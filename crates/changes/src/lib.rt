@@ -11,12 +11,15 @@
 ghost use mathlib.Core.Path.{_≡_};
 ghost use Prim.Native.Nat.{_+_, _*_, _≤_, _<_, min};
 ghost use lib.ListN.{length};
-ghost use Rattle.refusals.specs.Paper.{onward};
+ghost use Rattle.refusals.specs.Limits.{lastPlace};
+ghost use Rattle.refusals.specs.Paper.{placeOr, placed, onward};
+ghost use Rattle.floats.specs.Pick.{pick};
 ghost use Rattle.changes.specs.Change.{roomOf, changeHeld, changesFrom, changesTo, settled, PutsChange, ListsChange, ListsBelow, RoomFor, Proposes};
-ghost use Rattle.changes.specs.Commit.{onlyRemoves, appliesTo, passes, passingPaper, rises, firstRefusal, putHeld, commitHeld, applyOf, appliedPaper, Commits};
-ghost use Rattle.changes.specs.Decide.{decidingPaper, onCells, beginOf, stepOf, stepsOf, outcomeOf, raisedOf, concludeOf, isAccepted};
+ghost use Rattle.changes.specs.Commit.{onlyRemoves, appliesTo, passes, passingPaper, eachFrom, firstFall, firstRefusal, putHeld, commitHeld, applyOf, appliedPaper, Commits};
+ghost use Rattle.changes.specs.Decide.{applies, rises, decidingPaper, onCells, beginOf, stepOf, outcomeOf, raisedOf, concludeOf, isAccepted};
 ghost use Rattle.changes.specs.Difference.{otherCell, differenceOf};
 use refusals::LAST_GENERATION;
+use refusals::LAST_PLACE;
 use refusals::Refusal;
 use stock::Counted;
 use stock::TurnCell;
@@ -76,12 +79,16 @@ pub fn list_change(
 pub enum Passing {
     Pass,
     Refused(Refusal),
+    // at the place of the change in its list
+    RefusedAt(Refusal, usize),
 }
 
 // The generation after a commit.
 pub enum Applied {
     Generation(u64),
     Refused(Refusal),
+    // at the place of the change in its list
+    RefusedAt(Refusal, usize),
 }
 
 // No bound moves the wrong way.
@@ -94,9 +101,10 @@ fn only_removes(before: TurnCell, after: TurnCell) -> bool
         & (before.inner.upper_mm <= after.inner.upper_mm)
 }
 
-// There is such a bin among n, it holds the before-cell, and the change adds no material.
-fn applies(n: usize, cells: &[f64], change: TurnChange) -> bool
-    ensures { λ r. ⌜ r ≡ appliesTo n (now (cells .entry)) change ⌝ }
+// There is such a bin among n, it holds the before-cell, and the change adds no material. This has no
+// branch; which of the three it is that does not hold is asked only where one does not.
+fn applies_to(n: usize, cells: &[f64], change: TurnChange) -> bool
+    ensures { λ r. ⌜ r ≡ applies n (now (cells .entry)) change ⌝ }
 {
     let before = change.before;
     let after = change.after;
@@ -105,7 +113,27 @@ fn applies(n: usize, cells: &[f64], change: TurnChange) -> bool
     (index < n) & stock::same_cell(held, before) & only_removes(before, after)
 }
 
-// One change, against n cells: 8 before 9.
+// 21, 22, 23, one after the other.
+fn asked(n: usize, cells: &[f64], change: TurnChange) -> Passing
+    ensures { λ r. ⌜ passingPaper r ≡ appliesTo n (now (cells .entry)) change ⌝ }
+{
+    let before = change.before;
+    let after = change.after;
+    let index = change.index;
+    if n <= index {
+        return Passing::Refused(Refusal::NoSuchBin);
+    }
+    let held = stock::cell_at(cells, index);
+    if !stock::same_cell(held, before) {
+        return Passing::Refused(Refusal::BinHoldsOther);
+    }
+    if !only_removes(before, after) {
+        return Passing::Refused(Refusal::MaterialAdded);
+    }
+    Passing::Pass
+}
+
+// One change, against n cells: 8, 21, 22, 23.
 fn change_passes(s: TurnStockSpec, n: usize, cells: &[f64], change: TurnChange) -> Passing
     ensures { λ r. ⌜ passingPaper r ≡ passes s n (now (cells .entry)) change ⌝ }
 {
@@ -113,10 +141,10 @@ fn change_passes(s: TurnStockSpec, n: usize, cells: &[f64], change: TurnChange) 
     if !stock::cell_fits(s, after) {
         return Passing::Refused(Refusal::AfterDoesNotFit);
     }
-    if applies(n, cells, change) {
+    if applies_to(n, cells, change) {
         return Passing::Pass;
     }
-    Passing::Refused(Refusal::ChangeDoesNotApply)
+    asked(n, cells, change)
 }
 
 // How far a list of changes is decided: against n cells of a clean spec, with the last index seen,
@@ -129,6 +157,9 @@ pub struct Deciding {
     any: bool,
     last: usize,
     rises: bool,
+    // the place of the next change, and where the indices do not rise, of the first that does not
+    count: usize,
+    fall: usize,
     // the first change that does not pass
     found: Passing,
 }
@@ -144,6 +175,8 @@ fn on_cells(s: TurnStockSpec, n: usize) -> Deciding
         any: false,
         last: 0,
         rises: true,
+        count: 0,
+        fall: 0,
         found: Passing::Pass,
     }
 }
@@ -162,29 +195,64 @@ pub fn begin(spec: TurnStockSpec, cells: &[f64]) -> Deciding
             any: false,
             last: 0,
             rises: true,
+            count: 0,
+            fall: 0,
             found: Passing::Pass,
         },
         Counted::Cells(n) => on_cells(s, n),
     }
 }
 
-// The first refusal, one change on.
+// The same, a refusal of it at the place k.
+fn placed_at(passing: Passing, k: usize) -> Passing
+    ensures { λ r. ⌜ passingPaper r ≡ placed k (passingPaper passing) ⌝ }
+{
+    match passing {
+        Passing::Pass => Passing::Pass,
+        Passing::Refused(r) => Passing::RefusedAt(r, k),
+        Passing::RefusedAt(r, _) => Passing::RefusedAt(r, k),
+    }
+}
+
+// The first refusal, one change on, which is at the place k.
 fn found_next(
     s: TurnStockSpec,
     n: usize,
     cells: &[f64],
     found: Passing,
+    k: usize,
     change: TurnChange,
 ) -> Passing
-    ensures { λ r. ⌜ passingPaper r ≡ onward (passingPaper found) (λ _. passes s n (now (cells .entry)) change) ⌝ }
+    ensures { λ r. ⌜ passingPaper r ≡ onward (passingPaper found) (λ _. placed k (passes s n (now (cells .entry)) change)) ⌝ }
 {
     match found {
         Passing::Refused(r) => Passing::Refused(r),
-        Passing::Pass => change_passes(s, n, cells, change),
+        Passing::RefusedAt(r, j) => Passing::RefusedAt(r, j),
+        Passing::Pass => placed_at(change_passes(s, n, cells, change), k),
     }
 }
 
-// One change on; 7, 8 and 9 are kept for the end.
+// The place behind k, up to the last that there is.
+fn place_after(k: usize) -> usize
+    ensures { λ r. ⌜ r ≡ min (k + 1) lastPlace ⌝ }
+{
+    if k < LAST_PLACE {
+        return k + 1;
+    }
+    LAST_PLACE
+}
+
+// The place of the first fall: that of the change asked now while none is found.
+fn fall_at(rises: bool, k: usize, fall: usize) -> usize
+    ensures { λ r. ⌜ r ≡ pick rises k fall ⌝ }
+{
+    if rises {
+        return k;
+    }
+    fall
+}
+
+// One change on; 7, 8, 21, 22 and 23 are kept for the end.
 pub fn step(st: Deciding, cells: &[f64], change: TurnChange) -> Deciding
     ensures { λ r. ⌜ decidingPaper r ≡ stepOf (now (cells .entry)) (decidingPaper st) change ⌝ }
 {
@@ -193,7 +261,10 @@ pub fn step(st: Deciding, cells: &[f64], change: TurnChange) -> Deciding
     let stock = st.stock;
     let before = st.found;
     let index = change.index;
-    let found = found_next(s, n, cells, before, change);
+    let k = st.count;
+    let found = found_next(s, n, cells, before, k, change);
+    let count = place_after(k);
+    let fall = fall_at(st.rises, k, st.fall);
     let rises = st.rises & (!st.any | (st.last < index));
     Deciding {
         s,
@@ -202,6 +273,8 @@ pub fn step(st: Deciding, cells: &[f64], change: TurnChange) -> Deciding
         any: true,
         last: index,
         rises,
+        count,
+        fall,
         found,
     }
 }
@@ -212,26 +285,32 @@ fn outcome(st: Deciding) -> Passing
 {
     let stock = st.stock;
     let found = st.found;
-    if let Passing::Refused(r) = stock {
-        return Passing::Refused(r);
+    match stock {
+        Passing::Refused(r) => Passing::Refused(r),
+        Passing::RefusedAt(r, k) => Passing::RefusedAt(r, k),
+        Passing::Pass => {
+            if !st.rises {
+                return Passing::RefusedAt(Refusal::IndicesDoNotRise, st.fall);
+            }
+            found
+        }
     }
-    if !st.rises {
-        return Passing::Refused(Refusal::IndicesDoNotRise);
-    }
-    found
 }
 
 // The generation after changes that pass; 12.
 fn raised(found: Passing, generation: u64) -> Applied
     ensures { λ r. ⌜ appliedPaper r ≡ raisedOf (passingPaper found) generation ⌝ }
 {
-    if let Passing::Refused(r) = found {
-        return Applied::Refused(r);
+    match found {
+        Passing::Refused(r) => Applied::Refused(r),
+        Passing::RefusedAt(r, k) => Applied::RefusedAt(r, k),
+        Passing::Pass => {
+            if generation == LAST_GENERATION {
+                return Applied::Refused(Refusal::GenerationsSpent);
+            }
+            Applied::Generation(generation + 1)
+        }
     }
-    if generation == LAST_GENERATION {
-        return Applied::Refused(Refusal::GenerationsSpent);
-    }
-    Applied::Generation(generation + 1)
 }
 
 // After the last change: the stock's refusal, 7, then the first change that does not pass, 12.
@@ -281,6 +360,24 @@ fn indices_rise(indices: &[usize], records: &[f64], k: usize) -> bool
     ok
 }
 
+// The place of the first of k indices that is not above the one before it; k where there is none.
+fn first_fall(indices: &[usize], records: &[f64], k: usize) -> usize
+    requires { ⌜ k ≤ roomOf (length (now indices)) (length (now records)) ⌝ }
+    ensures { λ r. ⌜ r ≡ placeOr k (firstFall (changesFrom (now (indices .entry)) (now (records .entry)) k)) ⌝ }
+{
+    if k < 2 {
+        return k;
+    }
+    let mut i: usize = 1;
+    while i < k {
+        if indices[i] <= indices[i - 1] {
+            return i;
+        }
+        i += 1;
+    }
+    k
+}
+
 // The first of k changes that does not pass, step by step.
 fn first_found(
     s: TurnStockSpec,
@@ -291,20 +388,19 @@ fn first_found(
     k: usize,
 ) -> Passing
     requires { ⌜ k ≤ roomOf (length (now indices)) (length (now records)) ⌝ }
-    ensures { λ r. ⌜ passingPaper r ≡ stepsOf (now (cells .entry)) (onCells s n) (changesFrom (now (indices .entry)) (now (records .entry)) k) .found ⌝ }
+    ensures { λ r. ⌜ passingPaper r ≡ eachFrom s n (now (cells .entry)) 0 (changesFrom (now (indices .entry)) (now (records .entry)) k) ⌝ }
 {
-    let mut st = on_cells(s, n);
+    let mut found = Passing::Pass;
     let mut i: usize = 0;
     while i < k {
         let change = change_at(indices, records, i);
-        st = step(st, cells, change);
-        let found = st.found;
-        if let Passing::Refused(r) = found {
-            return Passing::Refused(r);
+        found = found_next(s, n, cells, found, i, change);
+        if let Passing::RefusedAt(r, at) = found {
+            return Passing::RefusedAt(r, at);
         }
         i += 1;
     }
-    Passing::Pass
+    found
 }
 
 // Of k changes, as many as lists of these lengths hold.
@@ -315,7 +411,7 @@ pub fn held_of(indices: usize, records: usize, k: usize) -> usize
     if k < room { k } else { room }
 }
 
-// 7, then change by change 8 before 9, for the first changes that the lists hold, k at most.
+// 7, then change by change 8, 21, 22, 23, for the first changes that the lists hold, k at most.
 pub fn first_refusal(
     s: TurnStockSpec,
     n: usize,
@@ -328,7 +424,8 @@ pub fn first_refusal(
 {
     let held = held_of(indices.len(), records.len(), k);
     if !indices_rise(indices, records, held) {
-        return Passing::Refused(Refusal::IndicesDoNotRise);
+        let at = first_fall(indices, records, held);
+        return Passing::RefusedAt(Refusal::IndicesDoNotRise, at);
     }
     first_found(s, n, cells, indices, records, held)
 }
@@ -354,6 +451,7 @@ pub fn is_accepted(answer: Applied) -> bool
     match answer {
         Applied::Generation(_) => true,
         Applied::Refused(_) => false,
+        Applied::RefusedAt(_, _) => false,
     }
 }
 
@@ -379,7 +477,8 @@ pub fn commit_unasked(
     answer
 }
 
-// Commit k changes; 1, 2, 3, 6 where the lists hold fewer, 7, then change by change 8 before 9, 12.
+// Commit k changes; 1, 2, 3, 6 where the lists hold fewer, 7, then change by change 8,
+// 21, 22, 23, then 12.
 pub fn apply(
     spec: TurnStockSpec,
     cells: &mut [f64],

@@ -1,11 +1,12 @@
 -- One law for every rule: a rule that asks tests one after the other is refused exactly as the list of those tests says. Assumes nothing.
 use mathlib.Core.Path.{_≡_, refl, sym, ap, _∙_, subst}
 use mathlib.Core.Bool.{Bool, true, false}
-use mathlib.Core.List.{List, [], _∷_, _++_}
+use mathlib.Core.List.{List, [], _∷_, _++_, map}
 use Prim.Native.Nat.{ℕ}
-use Rattle.refusals.specs.Paper.{Paper, Reason, answers, refuses, only, demand, onward}
+use mathlib.Core.Option.{Option, none, some}
+use Rattle.refusals.specs.Paper.{Paper, Reason, answers, refuses, only, demand, demandAt, demandNone, placed, onward}
 use Rattle.stock.proofs.Count.{no-answer}
-use Rattle.demands.specs.Refused.{Asked, ask, AllHold, Stops, Exactly, ofAnswer}
+use Rattle.demands.specs.Refused.{Asked, ask, askAt, askNone, numberAlone, AllHold, Stops, Exactly, ofAnswer}
 
 same-refusal : {A : Type 0} {m n : Reason} → _≡_ {A = Paper A} (refuses m) (refuses n) → m ≡ n
 same-refusal h = cc
@@ -113,6 +114,36 @@ exactly-as {A} {B} {p} q h x = record {
   answered = λ s. is-answered q (h ∙ ap refusalOf (x .answered s .1));
 }
 
+-- a rule that tells numbers alone
+unfoldable pub placeless : {A : Type 0} → Paper A → Paper A
+placeless (answers a) = answers a
+placeless (refuses n) = refuses (only (n .number))
+
+-- it has the same tests, each with its number alone
+asks-by : {A : Type 0} {p : Paper A} {l : List Asked} → Exactly p l → refusalOf p ≡ firstFailing l
+unfolding refusalOf
+asks-by {p = answers a} {l = l} x = sym (holds-first l (x .hold a refl))
+asks-by {p = refuses k} {l = l} x =
+    let s = x .stops k refl in
+    sym (ap firstFailing (s .order) ∙ stops-first k (s .before) (s .after) (s .hold))
+
+first-alone : (l : List Asked) → firstFailing (map numberAlone l) ≡ placeless (firstFailing l)
+unfolding firstFailing unless placeless
+first-alone [] = refl
+first-alone (q ∷ l) = go (q .holds) (q .why) (first-alone l)
+  where
+    go : (t : Bool) (n : Reason) → firstFailing (map numberAlone l) ≡ placeless (firstFailing l) → unless t (only (n .number)) (firstFailing (map numberAlone l)) ≡ placeless (unless t n (firstFailing l))
+    go true n e = e
+    go false n e = refl
+
+refusal-alone : {A : Type 0} (p : Paper A) → refusalOf (placeless p) ≡ placeless (refusalOf p)
+unfolding refusalOf placeless
+refusal-alone (answers a) = refl
+refusal-alone (refuses n) = refl
+
+pub exactly-placeless : {A : Type 0} {p : Paper A} {l : List Asked} → Exactly p l → Exactly (placeless p) (map numberAlone l)
+exactly-placeless {p = p} {l = l} x = exactly (record { same = refusal-alone p ∙ ap placeless (asks-by x) ∙ sym (first-alone l) })
+
 -- ---- how a rule's tests are read off it
 
 -- nothing is asked
@@ -130,6 +161,28 @@ asks-more false n h = record { same = refl }
 pub asks-of : {A B : Type 0} {p : Paper A} {l : List Asked} (q : Paper B) (b : B) → q ≡ answers b → (test : B → Bool) (n : ℕ) → Asks p l → Asks (demand (test b) n p) (ask (ofAnswer q test) n ∷ l)
 unfolding ofAnswer
 asks-of {p = p} {l = l} q b e test n h = subst (λ x. Asks (demand (test b) n p) (ask (ofAnswer x test) n ∷ l)) (sym e) (asks-more (test b) n (λ _. h))
+
+-- one more test of one of a list, at its place
+pub asks-at : {A : Type 0} {p : Paper A} {l : List Asked} (t : Bool) (n k : ℕ) → Asks p l → Asks (demandAt t n k p) (askAt t n k ∷ l)
+unfolding refusalOf firstFailing unless demandAt
+asks-at true n k h = record { same = h .same }
+asks-at false n k h = record { same = refl }
+
+pub asks-of-at : {A B : Type 0} {p : Paper A} {l : List Asked} (q : Paper B) (b : B) → q ≡ answers b → (test : B → Bool) (n k : ℕ) → Asks p l → Asks (demandAt (test b) n k p) (askAt (ofAnswer q test) n k ∷ l)
+unfolding ofAnswer
+asks-of-at {p = p} {l = l} q b e test n k h = subst (λ x. Asks (demandAt (test b) n k p) (askAt (ofAnswer x test) n k ∷ l)) (sym e) (asks-at (test b) n k h)
+
+-- and of a place that is found or not
+pub asks-found : {A : Type 0} {p : Paper A} {l : List Asked} (o : Option ℕ) (n : ℕ) → Asks p l → Asks (demandNone o n p) (askNone o n ∷ l)
+unfolding refusalOf firstFailing unless demandNone
+asks-found none n h = record { same = h .same }
+asks-found (some k) n h = record { same = refl }
+
+-- a test that is placed
+pub placed-demand : {A : Type 0} (t : Bool) (n k : ℕ) (p : Paper A) → placed k (demand t n p) ≡ demandAt t n k (placed k p)
+unfolding placed demand demandAt
+placed-demand true n k p = refl
+placed-demand false n k p = refl
 
 -- a rule that goes on with what another answers
 pub asks-on : {A B : Type 0} (p : Paper A) (f : A → Paper B) {l m : List Asked} → Asks p l → ((a : A) → p ≡ answers a → Asks (f a) m) → Asks (onward p f) (l ++ m)

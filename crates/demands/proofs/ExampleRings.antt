@@ -4,7 +4,7 @@ use mathlib.Core.List.{List, [], _∷_, _++_}
 use Prim.Native.Nat.{ℕ}
 use lib.Ieee
 use lib.Ieee.{Float, binary64, ofBits}
-use Rattle.refusals.specs.Paper.{only, demand, onward}
+use Rattle.refusals.specs.Paper.{only, demand, demandAt, demandNone, onward}
 use Rattle.refusals.specs.Lent.{over}
 use Rattle.floats.specs.Pick.{pick}
 use Rattle.floats.specs.Numbers.{zero64, leastOf, greatestOf, sizeOf, cleanOf, minusZero}
@@ -12,12 +12,12 @@ use Rattle.numbers.specs.Whole.{wholeUp}
 use Rattle.stock.specs.Spec.{cleanSpec, specGood, cellsOf}
 use Rattle.stock.specs.Cell.{cellFits, fitTo, cellsFit, stockOf, cellsLike}
 use Rattle.changes.specs.Change.{changesFrom}
-use Rattle.changes.specs.Commit.{eachPasses, rises, passAll}
+use Rattle.changes.specs.Commit.{eachFrom, firstFall, passAll}
 use Rattle.rings.specs.declared.Ring.{Ring}
 use Rattle.rings.specs.declared.StoredAs.the-variants as stored
 use Rattle.rings.specs.Ring as Ring
 use Rattle.rings.specs.Ring.{kept, around, split, subtract, subtractAll, inHand, clip, left}
-use Rattle.rings.specs.Store.{ringsOf, flatOf, storeAs, ringFits, apartAll, storeFits, countFits, allGood, ringsGood, raisedBy}
+use Rattle.rings.specs.Store.{ringsOf, flatOf, storeAs, ringFits, apartAll, storeFits, countFits, badFrom, badRing, raisedBy}
 use Rattle.rings.specs.Remove.{roomFor, added, addedAll, countOf, removeAllIn, removeRings, raised, removeIn, removeRing, countsOf, ringsAfter, StoresAs}
 use Rattle.moves.specs.Move.{generationAfter, moveIn, moveOf, partsOf}
 use Rattle.text.specs.Parts.{intoFirst, partedAt}
@@ -52,7 +52,7 @@ none-stored = record { numbers = empty; count = 0; generation = 0 }
 
 -- a ring taken by `remove_ring`
 pub ring-taken : RanRings bar none-stored (Ring.ring zero64 six two six ∷ []) (record { numbers = one; count = 1; generation = 1 })
-unfolding demand onward pick leastOf greatestOf sizeOf minusZero cleanOf over kept around split subtract subtractAll inHand clip left ringsOf flatOf storeAs ringFits apartAll storeFits countFits roomFor added raised removeIn removeRing countsOf ringsAfter cleanSpec specGood cellsOf wholeUp Ieee.ofBits Ieee.ofFields Ieee.odd Ieee.eq Ieee.ne Ieee.lt Ieee.le Ieee.div Ieee.sub Ieee.add Ieee.mul Ieee.neg Ieee.sum Ieee.round Ieee.units Ieee.ofInt Ieee.size Ieee.span Ieee.climb Ieee.toUnsigned
+unfolding demand demandAt onward pick leastOf greatestOf sizeOf minusZero cleanOf over kept around split subtract subtractAll inHand clip left ringsOf flatOf storeAs ringFits apartAll storeFits countFits roomFor added raised removeIn removeRing countsOf ringsAfter cleanSpec specGood cellsOf wholeUp Ieee.ofBits Ieee.ofFields Ieee.odd Ieee.eq Ieee.ne Ieee.lt Ieee.le Ieee.div Ieee.sub Ieee.add Ieee.mul Ieee.neg Ieee.sum Ieee.round Ieee.units Ieee.ofInt Ieee.size Ieee.span Ieee.climb Ieee.toUnsigned
 ring-taken = ring (record { answer = refl; store = refl }) done
 
 -- the same ring by a move of no changes
@@ -60,12 +60,12 @@ abbrev ringed : Move
 ringed = record { indices = []; numbers = []; count = 0; removed = zero64 ∷ six ∷ two ∷ six ∷ [] }
 
 pub move-made : RanMoves bar (record { cells = whole .cells; store = none-stored }) (ringed ∷ []) (record { cells = whole .cells; store = record { numbers = one; count = 1; generation = 2 } })
-unfolding demand onward pick leastOf greatestOf sizeOf minusZero cleanOf over kept around split subtract subtractAll inHand clip left ringsOf flatOf storeAs ringFits apartAll storeFits countFits allGood ringsGood raisedBy roomFor added addedAll removeAllIn removeRings generationAfter moveIn moveOf changesFrom eachPasses rises passAll cleanSpec specGood cellsOf wholeUp cellFits fitTo cellsFit stockOf Ieee.ofBits Ieee.ofFields Ieee.odd Ieee.eq Ieee.ne Ieee.lt Ieee.le Ieee.div Ieee.sub Ieee.add Ieee.mul Ieee.neg Ieee.sum Ieee.round Ieee.units Ieee.ofInt Ieee.size Ieee.span Ieee.climb Ieee.toUnsigned
+unfolding demand demandNone onward pick leastOf greatestOf sizeOf minusZero cleanOf over kept around split subtract subtractAll inHand clip left ringsOf flatOf storeAs ringFits apartAll storeFits countFits badFrom badRing raisedBy roomFor added addedAll removeAllIn removeRings generationAfter moveIn moveOf changesFrom eachFrom firstFall passAll cleanSpec specGood cellsOf wholeUp cellFits fitTo cellsFit stockOf Ieee.ofBits Ieee.ofFields Ieee.odd Ieee.eq Ieee.ne Ieee.lt Ieee.le Ieee.div Ieee.sub Ieee.add Ieee.mul Ieee.neg Ieee.sum Ieee.round Ieee.units Ieee.ofInt Ieee.size Ieee.span Ieee.climb Ieee.toUnsigned
 move-made = made-move (record { answer = refl; cells = refl; rings = refl }) no-moves
 
 -- and by `from_parts`
 pub parts-rebuilt : StoresAs empty (partsOf bar (whole .cells) (zero64 ∷ six ∷ two ∷ six ∷ []) empty) (stored.Rings 1) one
-unfolding demand onward pick leastOf greatestOf sizeOf minusZero cleanOf over kept around split subtract subtractAll inHand clip left ringsOf flatOf storeAs ringFits apartAll storeFits countFits allGood ringsGood roomFor added addedAll removeAllIn removeRings countOf partsOf cleanSpec specGood cellsOf wholeUp cellFits fitTo cellsFit stockOf Ieee.ofBits Ieee.ofFields Ieee.odd Ieee.eq Ieee.ne Ieee.lt Ieee.le Ieee.div Ieee.sub Ieee.add Ieee.mul Ieee.neg Ieee.sum Ieee.round Ieee.units Ieee.ofInt Ieee.size Ieee.span Ieee.climb Ieee.toUnsigned
+unfolding demand demandNone onward pick leastOf greatestOf sizeOf minusZero cleanOf over kept around split subtract subtractAll inHand clip left ringsOf flatOf storeAs ringFits apartAll storeFits countFits badFrom badRing roomFor added addedAll removeAllIn removeRings countOf partsOf cleanSpec specGood cellsOf wholeUp cellFits fitTo cellsFit stockOf Ieee.ofBits Ieee.ofFields Ieee.odd Ieee.eq Ieee.ne Ieee.lt Ieee.le Ieee.div Ieee.sub Ieee.add Ieee.mul Ieee.neg Ieee.sum Ieee.round Ieee.units Ieee.ofInt Ieee.size Ieee.span Ieee.climb Ieee.toUnsigned
 parts-rebuilt = record { answer = refl; store = refl }
 
 -- ---- a job: the empty one offends at line 1, with 15

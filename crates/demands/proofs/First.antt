@@ -9,7 +9,7 @@ use mathlib.Core.Logic.{inl, inr}
 use mathlib.Core.Bool.{Bool, true, false, not, _&&_, _||_, false≢true}
 use mathlib.Core.List.{List, [], _∷_, _++_}
 use mathlib.Core.Option.{Option, none, some}
-use Prim.Native.Nat.{ℕ, zero, suc, _*_, _<_, min}
+use Prim.Native.Nat.{ℕ, zero, suc, _*_, _≤_, _<_, min}
 use native.Mathlib.Nat.{mul-pos, zero-lt-suc}
 use native.Mathlib.Omega.{arith}
 use borrow.Author.Tests.{le-leb}
@@ -18,8 +18,8 @@ use lib.ListN.{length}
 use lib.Ieee.{Float, nan, inf, fin, up, down, level, le, lt, eq, ofBits}
 use lib.Ieee.Bits.{is-true}
 use lib.Ieee.Fits.{up-pos}
-use Rattle.refusals.specs.Paper.{Paper, answers, refuses, demand, onward, demand-true}
-use Rattle.refusals.specs.Limits.{cellLimit, lastGeneration}
+use Rattle.refusals.specs.Paper.{Paper, answers, refuses, demand, demandAt, placed, onward, demand-true, placed-answers}
+use Rattle.refusals.specs.Limits.{cellLimit, lastGeneration, lastPlace}
 use Rattle.floats.specs.Pick.{pick}
 use Rattle.floats.specs.Numbers.{_+₆₄_, _*₆₄_, zero64, usable}
 use Rattle.numbers.specs.Root.{rootOf}
@@ -32,7 +32,7 @@ use Rattle.stock.specs.declared.TurnChange.{TurnChange}
 use Rattle.stock.specs.declared.TurnSide.{TurnSide}
 use Rattle.stock.specs.Spec.{cleanSpec, specGood, quotient, counted, cellsOf}
 use Rattle.stock.specs.Bin.{binFor}
-use Rattle.stock.specs.Cell.{cellFits, cellsFit, stockOf, newOf}
+use Rattle.stock.specs.Cell.{cellAt, cellFits, cellsFit, sameCell, stockOf, newOf}
 use Rattle.stock.proofs.Count.{and-both}
 use Rattle.reach.specs.Reach.{Act, actCell}
 use Rattle.nose.specs.Nose.{segmentsGood, noseAct}
@@ -45,13 +45,13 @@ use Rattle.cuts.specs.Preview.{previewOf, previewNose, previewPolygon, previewC
 use Rattle.cuts.specs.declared.Tool.{Tool}
 use Rattle.cuts.specs.declared.Tool.the-variants.{Single, Nose, Polygon}
 use Rattle.cuts.specs.Tool.{previewTool}
-use Rattle.changes.specs.Commit.{appliesTo, rises, passes, eachPasses, passAll, Committed, commitIn, commitHeld, commitOf, applyOf, generationOf}
+use Rattle.changes.specs.Commit.{onlyRemoves, appliesTo, firstFall, passes, eachFrom, passAll, Committed, commitIn, commitHeld, commitOf, applyOf, generationOf}
 use Rattle.changes.specs.Decide.{beginOf, stepsOf, concludeOf}
 use Rattle.changes.proofs.Decided.{conclude-is}
 use Rattle.changes.specs.Difference.{otherCell, differenceOf}
 use Rattle.rings.specs.declared.Ring.{Ring}
 use Rattle.rings.specs.Ring.{filled, clip, left}
-use Rattle.rings.specs.Store.{extentOf, ringsOf, roomOf, countFits, storeFits, finiteRing, ringsGood}
+use Rattle.rings.specs.Store.{extentOf, ringsOf, roomOf, countFits, storeFits, finiteRing, badRing}
 use Rattle.rings.specs.Remove.{roomFor, added, addedAll, raised, removeAllIn, removeRings, removeIn, removeRing}
 use Rattle.moves.specs.Move.{generationAfter, moveIn, moveOf, partsOf}
 use Rattle.change_slices.specs.Move.{moveListOf}
@@ -72,7 +72,7 @@ use Rattle.job_words.specs.Kind.{lineOf}
 use Rattle.job_run.specs.declared.line.Job.{Job}
 use Rattle.job_run.specs.Job.{lineLimit, cellsOfJob, barLine, madeCut, cutLine, removingLine, firstLine, laterLine, jobLine}
 use Rattle.demands.specs.Refused.{Asked, ask, Exactly, rootAsks, lengthAsks, countGood, specAsks, binAsks, newAsks, stockAsks, roomGood, previewCutAsks, previewAsks, previewNoseAsks, previewPolygonAsks, previewToolAsks, eachAsks, changeAsks, passAsks, commitInAsks, commitAsks, applyAsks, differenceAsks, removeAsks, roomForAll, allStored, removeRingsAsks, partsAsks, moveInAsks, moveListAsks, moveAsks, volumeAsks, keptAsks, renewAsks, pointsAsks, radiusAsks, withinAsks, barAsks, cutLineAsks, firstLineAsks, laterLineAsks, lineAsks, chordsFit, segmentsAsks, insertAsks, erodingAsks}
-use Rattle.demands.proofs.Asking.{refusalOf, Asks, exactly, exactly-as, asks-none, asks-more, asks-of, asks-on, asks-then, asks-as, asks-holds, asks-fails, onward-demand}
+use Rattle.demands.proofs.Asking.{refusalOf, Asks, exactly, exactly-as, asks-none, asks-more, asks-of, asks-at, asks-of-at, asks-found, placed-demand, asks-on, asks-then, asks-as, asks-holds, asks-fails, onward-demand}
 
 -- ---- the root and the length
 
@@ -150,10 +150,10 @@ stock-asks spec cs = asks-on (cellsOf spec) _ (spec-asks spec) (λ n e. asks-of 
 pub validate-exactly : (spec : TurnStockSpec) → Exactly (cellsOf spec) (specAsks spec)
 validate-exactly spec = exactly (spec-asks spec)
 
--- `bin`: 1, 2, 9
+-- `bin`: 1, 2, 21, of no place
 pub bin-exactly : (spec : TurnStockSpec) (i : ℕ) → Exactly (binFor spec i) (binAsks spec i)
 unfolding binFor
-bin-exactly spec i = exactly (asks-on (cellsOf spec) _ (spec-asks spec) (λ n e. asks-of (cellsOf spec) n e (λ n. ltb i n) 9 (asks-none _)))
+bin-exactly spec i = exactly (asks-on (cellsOf spec) _ (spec-asks spec) (λ n e. asks-of (cellsOf spec) n e (λ n. ltb i n) 21 (asks-none _)))
 
 -- `fill`, a new stock: 1, 2, 3
 pub fill-exactly : (spec : TurnStockSpec) (len : ℕ) → Exactly (newOf spec len) (newAsks spec len)
@@ -214,32 +214,53 @@ difference-exactly spec cs ds room =
 -- ---- commits
 
 -- change by change, where p answers how many cells there are
-each-asks : (s : TurnStockSpec) (p : Paper ℕ) (n : ℕ) → p ≡ answers n → (cs : List Float) (l : List TurnChange) → Asks (eachPasses s n cs l) (eachAsks s p cs l)
-unfolding eachPasses eachAsks passes
-each-asks s p n e cs [] = asks-none tt
-each-asks s p n e cs (c ∷ l) =
-    asks-on (passes s n cs c) _
-    (asks-more (cellFits s (c .after)) 8 (λ _. asks-of p n e (λ n. appliesTo n cs c) 9 (asks-none tt)))
-    (λ _ _. each-asks s p n e cs l)
+-- one change, at its place
+placed-is : (s : TurnStockSpec) (n : ℕ) (cs : List Float) (c : TurnChange) (k : ℕ) → placed k (passes s n cs c)
+    ≡ demandAt (cellFits s (c .after)) 8 k (demandAt (ltb (c .index) n) 21 k (demandAt (sameCell (cellAt cs (c .index)) (c .before)) 22 k (demandAt (onlyRemoves (c .before) (c .after)) 23 k (answers tt))))
+unfolding passes appliesTo
+placed-is s n cs c k =
+    let T₁ = cellFits s (c .after) in
+    let T₂ = ltb (c .index) n in
+    let T₃ = sameCell (cellAt cs (c .index)) (c .before) in
+    let T₄ = onlyRemoves (c .before) (c .after) in
+    placed-demand T₁ 8 k _ ∙ ap (demandAt T₁ 8 k) (placed-demand T₂ 21 k _ ∙ ap (demandAt T₂ 21 k) (placed-demand T₃ 22 k _ ∙ ap (demandAt T₃ 22 k) (placed-demand T₄ 23 k _ ∙ ap (demandAt T₄ 23 k) (placed-answers k tt))))
+
+each-asks : (s : TurnStockSpec) (p : Paper ℕ) (n : ℕ) → p ≡ answers n → (cs : List Float) (k : ℕ) (l : List TurnChange) → Asks (eachFrom s n cs k l) (eachAsks s p cs k l)
+unfolding eachFrom eachAsks
+each-asks s p n e cs k [] = asks-none tt
+each-asks s p n e cs k (c ∷ l) =
+    asks-on (placed k (passes s n cs c)) _
+    (asks-as (placed-is s n cs c k)
+    (asks-at (cellFits s (c .after)) 8 k
+    (asks-of-at p n e (λ n. ltb (c .index) n) 21 k
+    (asks-at (sameCell (cellAt cs (c .index)) (c .before)) 22 k
+    (asks-at (onlyRemoves (c .before) (c .after)) 23 k
+    (asks-none tt))))))
+    (λ _ _. each-asks s p n e cs (suc k) l)
 
 pass-asks : (s : TurnStockSpec) (p : Paper ℕ) (n : ℕ) → p ≡ answers n → (cs : List Float) (l : List TurnChange) → Asks (passAll s n cs l) (passAsks s p cs l)
 unfolding passAll
-pass-asks s p n e cs l = asks-more (rises l) 7 (λ _. each-asks s p n e cs l)
+pass-asks s p n e cs l = asks-found (firstFall l) 7 (each-asks s p n e cs 0 l)
 
 commit-asks : (s : TurnStockSpec) (p : Paper ℕ) (n : ℕ) → p ≡ answers n → (cs : List Float) (gen : ℕ) (l : List TurnChange) → Asks (commitIn s n cs gen l) (commitInAsks s p cs gen l)
 unfolding commitIn
 commit-asks s p n e cs gen l = asks-on (passAll s n cs l) _ (pass-asks s p n e cs l) (λ _ _. asks-more (ltb gen lastGeneration) 12 (λ _. asks-none _))
 
--- one change, against n cells: 8, then 9
+-- one change, against n cells: 8, 21, 22, 23, of no place
 pub change-exactly : (s : TurnStockSpec) (n : ℕ) (cs : List Float) (c : TurnChange) → Exactly (passes s n cs c) (changeAsks s n cs c)
-unfolding passes
-change-exactly s n cs c = exactly (asks-more (cellFits s (c .after)) 8 (λ _. asks-more (appliesTo n cs c) 9 (λ _. asks-none tt)))
+unfolding passes appliesTo
+change-exactly s n cs c =
+    exactly (asks-more (cellFits s (c .after)) 8 (λ _.
+    asks-more (ltb (c .index) n) 21 (λ _.
+    asks-more (sameCell (cellAt cs (c .index)) (c .before)) 22 (λ _.
+    asks-more (onlyRemoves (c .before) (c .after)) 23 (λ _.
+    asks-none tt)))))
 
--- `first_refusal`, of changes on n cells: 7, 8 or 9
+-- `first_refusal`, of changes on n cells: 7, then change by change 8, 21, 22, 23, each at its place
 pub pass-exactly : (s : TurnStockSpec) (n : ℕ) (cs : List Float) (l : List TurnChange) → Exactly (passAll s n cs l) (passAsks s (answers n) cs l)
 pass-exactly s n cs l = exactly (pass-asks s (answers n) n refl cs l)
 
--- `commit_unasked`, of changes on n cells that are not asked again: 7, 8 or 9, 12
+-- `commit_unasked`, of changes on n cells that are not asked again: 7, then change by change 8, 21, 22, 23, then 12
 pub commit-unasked-exactly : (s : TurnStockSpec) (n : ℕ) (cs : List Float) (gen : ℕ) (is : List ℕ) (xs : List Float) (k : ℕ)
     → Exactly (commitHeld s n cs gen is xs k) (commitInAsks s (answers n) cs gen (changesFrom is xs (min k (change.roomOf (length is) (length xs)))))
 commit-unasked-exactly s n cs gen is xs k = exactly (commit-asks s (answers n) n refl cs gen _)
@@ -248,14 +269,14 @@ whole-asks : (spec : TurnStockSpec) (cs : List Float) (gen : ℕ) (l : List Turn
 unfolding commitOf
 whole-asks spec cs gen l = asks-on (stockOf spec cs) _ (stock-asks spec cs) (λ n e. commit-asks (cleanSpec spec) (stockOf spec cs) n e cs gen l)
 
--- `change_slices::apply`, a commit of a list of changes: 1, 2, 3, 7, 8 or 9, 12
+-- `change_slices::apply`, a commit of a list of changes: 1, 2, 3, 7, then change by change 8, 21, 22, 23, then 12
 pub commit-exactly : (spec : TurnStockSpec) (cs : List Float) (gen : ℕ) (l : List TurnChange) → Exactly (commitOf spec cs gen l) (commitAsks spec cs gen l)
 commit-exactly spec cs gen l = exactly (whole-asks spec cs gen l)
 
--- `conclude`, after `begin` and a `step` for each change: the same
-pub conclude-exactly : (spec : TurnStockSpec) (cs : List Float) (gen : ℕ) (l : List TurnChange) → Exactly (concludeOf (stepsOf cs (beginOf spec cs) l) gen) (commitAsks spec cs gen l)
+-- `conclude`, after `begin` and a `step` for each change: the same, of a list that a machine can hold
+pub conclude-exactly : (spec : TurnStockSpec) (cs : List Float) (gen : ℕ) (l : List TurnChange) → length l ≤ lastPlace → Exactly (concludeOf (stepsOf cs (beginOf spec cs) l) gen) (commitAsks spec cs gen l)
 unfolding refusalOf
-conclude-exactly spec cs gen l = exactly-as (concludeOf (stepsOf cs (beginOf spec cs) l) gen) (ap refusalOf (conclude-is spec cs gen l) ∙ same (commitOf spec cs gen l)) (commit-exactly spec cs gen l)
+conclude-exactly spec cs gen l h = exactly-as (concludeOf (stepsOf cs (beginOf spec cs) l) gen) (ap refusalOf (conclude-is spec cs gen l h) ∙ same (commitOf spec cs gen l)) (commit-exactly spec cs gen l)
   where
     same : (p : Paper Committed) → refusalOf (generationOf p) ≡ refusalOf p
     same (answers k) = refl
@@ -287,8 +308,8 @@ remove-ring-asks spec xs n g q =
     let e = extentOf (cleanSpec spec) in
     asks-on (cellsOf spec) _ (spec-asks spec) (λ _ _.
     asks-more (countFits e xs n) 4 (λ _.
-    asks-more (finiteRing q) 10 (λ _.
-    skips (filled (clip e q)) (raised-asks (roomOf (length xs)) (ringsOf n xs) g (clip e q)) _)))
+    asks-at (finiteRing q) 10 0
+    (skips (filled (clip e q)) (raised-asks (roomOf (length xs)) (ringsOf n xs) g (clip e q)) _)))
 
 -- `remove_ring`: 1, 2, 4, 10, 12, 11; a ring that is empty after clipping skips 12 and 11
 pub remove-ring-exactly : (spec : TurnStockSpec) (xs : List Float) (n g : ℕ) (q : Ring) → Exactly (removeRing spec xs n g q) (removeAsks spec xs n g q)
@@ -329,8 +350,8 @@ pub parts-exactly : (spec : TurnStockSpec) (cs given xs : List Float) → Exactl
 unfolding partsOf
 parts-exactly spec cs given xs =
     exactly (asks-on (stockOf spec cs) _ (stock-asks spec cs) (λ _ _.
-    asks-more (ringsGood given) 10 (λ _.
-    rings-room spec xs 0 given (le-leb 0 (roomOf (length xs)) (omega arith)))))
+    asks-found (badRing given) 10
+    (rings-room spec xs 0 given (le-leb 0 (roomOf (length xs)) (omega arith)))))
 
 -- rings that pass refusal 4's test are no more than the room
 fits-room : (e : Ring) (xs : List Float) (n : ℕ) → countFits e xs n ≡ true → leb n (roomOf (length xs)) ≡ true
@@ -341,12 +362,12 @@ move-asks : (spec : TurnStockSpec) (n : ℕ) (cs xs : List Float) (count g : ℕ
 unfolding moveIn
 move-asks spec n cs xs count g l removed e =
     asks-more (countFits (extentOf (cleanSpec spec)) xs count) 4 (λ f.
-    asks-more (ringsGood removed) 10 (λ _.
-    asks-on (passAll (cleanSpec spec) n cs l) _ (pass-asks (cleanSpec spec) (stockOf spec cs) n e cs l) (λ _ _.
+    asks-found (badRing removed) 10
+    (asks-on (passAll (cleanSpec spec) n cs l) _ (pass-asks (cleanSpec spec) (stockOf spec cs) n e cs l) (λ _ _.
     asks-more (leb (generationAfter spec g removed) lastGeneration) 12 (λ _.
     asks-then (removeRings spec xs count removed) _ (rings-room spec xs count removed (fits-room (extentOf (cleanSpec spec)) xs count f)) (λ _ _. asks-none _)))))
 
--- `change_slices::apply_move`, of a list of changes: 1, 2, 3, 4, 10, 7, 8 or 9, 12, 11
+-- `change_slices::apply_move`, of a list of changes: 1, 2, 3, 4, 10, 7, then change by change 8, 21, 22, 23, then 12, 11
 pub move-list-exactly : (spec : TurnStockSpec) (cs xs : List Float) (count g : ℕ) (l : List TurnChange) (removed : List Float) → Exactly (moveListOf spec cs xs count g l removed) (moveListAsks spec cs xs count g l removed)
 unfolding moveListOf
 move-list-exactly spec cs xs count g l removed = exactly (asks-on (stockOf spec cs) _ (stock-asks spec cs) (λ n e. move-asks spec n cs xs count g l removed e))

@@ -3,6 +3,8 @@ use mathlib.Core.Path.{_≡_, refl, sym, ap, _∙_, subst}
 use mathlib.Core.Logic.{inl, inr, _⊎_}
 use mathlib.Core.Bool.{Bool, true, false, not, false≢true}
 use mathlib.Core.List.{List, [], _∷_, _++_}
+use mathlib.Core.Option.{Option}
+use mathlib.Core.Option as option
 use Prim.Native.Nat.{ℕ, suc, _+_, _%_, _^_, _<_}
 use native.Mathlib.Nat.{add-zero, zero-lt-suc}
 use native.Mathlib.Omega.{arith}
@@ -22,7 +24,7 @@ use Rattle.stock.proofs.Count.{no-answer, same-answer}
 use Rattle.text.proofs.Parting.{some}
 use Rattle.stock.proofs.Bins.{HeldSpec, HeldList}
 use Rattle.reach.specs.Reach.{actCell}
-use Rattle.changes.specs.Commit.{commitOf}
+use Rattle.changes.specs.Commit.{commitOf, firstFall}
 use Rattle.changes.proofs.Stocks.{stock-good}
 use Rattle.changes.proofs.Accepted.{commit-is}
 use Rattle.changes.proofs.Proposal.{act-cuts}
@@ -38,7 +40,8 @@ use Rattle.job_run.specs.Job.{Stand, lineLimit, fullRoom, cellsOfJob, madeCut, 
 use Rattle.job_run.proofs.Carrying.{same-number}
 use Rattle.lines.specs.File.{piecesOf, ended, lineOn, overPieces}
 use Rattle.job_run.specs.Run.{State, state, next, refusedWith, answered, onLine, onLong, onEnd, stopped, jobOf}
-use Rattle.demands.specs.Refused.{Asked, ask, Stops, Exactly, previewCutAsks, eachAsks, firstLineAsks, laterLineAsks, lineAsks}
+use Rattle.changes.specs.Change.{writtenOf}
+use Rattle.demands.specs.Refused.{Asked, ask, askNone, Stops, Exactly, previewCutAsks, eachAsks, firstLineAsks, laterLineAsks, lineAsks}
 use Rattle.demands.specs.Tool.{single, cutterAct}
 use Rattle.demands.specs.Offending.{lineIn, linesOn, wrongWith, Offends, NoneOffends}
 use Rattle.demands.proofs.Asking.{exactly, asks-none, asks-more, asks-on, asks-then, asks-as}
@@ -60,10 +63,14 @@ numbered-stop : (k : Reason) (b a : List Asked) → Numbered (b ++ (record { hol
 numbered-stop k [] a h = h .0
 numbered-stop k (q ∷ b) a h = numbered-stop k b a (h .1)
 
-each-numbered : (s : TurnStockSpec) (p : Paper ℕ) (cs : List Float) (l : List TurnChange) → Numbered (eachAsks s p cs l)
+each-numbered : (s : TurnStockSpec) (p : Paper ℕ) (cs : List Float) (k : ℕ) (l : List TurnChange) → Numbered (eachAsks s p cs k l)
 unfolding eachAsks
-each-numbered s p cs [] = tt
-each-numbered s p cs (c ∷ l) = (zero-lt-suc 7, (zero-lt-suc 8, each-numbered s p cs l))
+each-numbered s p cs k [] = tt
+each-numbered s p cs k (c ∷ l) = (zero-lt-suc 7, (zero-lt-suc 20, (zero-lt-suc 21, (zero-lt-suc 22, each-numbered s p cs (suc k) l))))
+
+found-numbered : (o : Option ℕ) (n : ℕ) → 0 < n → 0 < askNone o n .why .number
+found-numbered option.none n h = h
+found-numbered (option.some k) n h = h
 
 first-numbered : (l : Line) (cs : List Float) → Numbered (firstLineAsks l cs)
 unfolding firstLineAsks
@@ -88,7 +95,7 @@ later-numbered j (Cutting cut) room cs rs = (
           zero-lt-suc 4,
           (
             zero-lt-suc 5,
-            (zero-lt-suc 0, (zero-lt-suc 1, (zero-lt-suc 2, (zero-lt-suc 6, numbered-append (eachAsks _ _ _ _) _ (each-numbered _ _ _ _) (zero-lt-suc 11, tt))))),
+            (zero-lt-suc 0, (zero-lt-suc 1, (zero-lt-suc 2, (found-numbered (firstFall (writtenOf (previewCut (j .spec) (cellsOfJob j cs) cut room))) 7 (zero-lt-suc 6), numbered-append (eachAsks _ _ _ _ _) _ (each-numbered _ _ _ _ _) (zero-lt-suc 11, tt))))),
           ),
         ),
       ),

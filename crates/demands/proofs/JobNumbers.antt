@@ -1,4 +1,4 @@
--- Which numbers a job refuses with. After every line that is accepted its cells and its rings fit, so that neither 3 nor 4 arises; there is room for a change of every cell (6); and what the preview of a line proposes its commit accepts (7, 8, 9). Assumes nothing.
+-- Which numbers a job refuses with. After every line that is accepted its cells and its rings fit, so that neither 3 nor 4 arises; there is room for a change of every cell (6); and what the preview of a line proposes its commit accepts (7, 8, 21, 22, 23). Assumes nothing.
 use mathlib.Core.Path.{_≡_, refl, sym, ap, _∙_, subst}
 use mathlib.Core.Bool.{Bool, true, false, not}
 use mathlib.Core.List.{List, [], _∷_, _++_}
@@ -57,6 +57,7 @@ use Rattle.changes.proofs.Stocks.{Good, good-stock}
 use Rattle.changes.proofs.Accepted.{commit-is, put-good}
 use Rattle.changes.proofs.Proposal.{act-cuts}
 use Rattle.job_run.specs.declared.line.Job.{Job}
+use Rattle.demands.specs.Refused.{hasPlace}
 use Rattle.job_run.specs.Job.{fullRoom, Stand, stand, barLine, madeCut, cutLine, removingLine, firstLine, laterLine, jobLine}
 use Rattle.job_run.specs.Run.{State, state, freshRun, refusedWith, answered, onLine, onLong, onEnd, stopped, jobOf}
 use Rattle.lines.specs.File.{piecesOf}
@@ -364,6 +365,32 @@ goes-line j s cs rs h long = goes-demand (j .generation) _ 15 _ malformed (by (e
     by true e k = simp (e, yes) (goes-first (j .generation) (lineOf s) cs rs (line-says s) long)
     by false e (barless z) = absurd (eqb-false _ _ e z)
     by false e (running r) = simp (e, no) (goes-later j (lineOf s) cs rs (line-says s) r long)
+
+-- A JOB HAS NO PLACE: what refuses a line of a job has none, and none of the numbers that have one.
+pub record NoPlace (k : Reason) : Type 0 where
+  pub place : k .place ≡ none
+  pub number : hasPlace (k .number) ≡ false
+
+number-alone : {g n : ℕ} → JobNumber g n → hasPlace n ≡ false
+number-alone bar-outside = refl
+number-alone cells-over = refl
+number-alone cut-outside = refl
+number-alone rings-over = refl
+number-alone (spent h) = refl
+number-alone an-arc = refl
+number-alone malformed = refl
+
+goes-reason : {g : ℕ} {p : Paper Stand} (k : Reason) → Goes g p → p ≡ refuses k → JobReason g k
+goes-reason k (on f l) e = absurd (no-answer k _ (sym e))
+goes-reason {g} k (off r) e = subst (JobReason g) (same e) r
+  where
+    same : {m n : Reason} → _≡_ {A = Paper Stand} (refuses m) (refuses n) → m ≡ n
+    same h = cc
+
+pub job-has-no-place : (j : Job) (s : List ℕ) (cs rs : List Float) → Fitting j cs rs → length cs ≡ 4 * maxCells → (k : Reason) → jobLine j s fullRoom cs rs ≡ refuses k → NoPlace k
+job-has-no-place j s cs rs h long k e =
+    let r = goes-reason k (goes-line j s cs rs h long) e in
+    record { place = r .placeless; number = number-alone (r .number) }
 
 -- ---- a file of them
 

@@ -1,15 +1,15 @@
 -- The first demand over the calls themselves, by their promises: a call is refused exactly as its rule is, a refusal returns its number only, and every lent buffer keeps its contents, but for the two lists that a line of a job is lent as scratch.
 -- A buffer that a call is lent to read alone it cannot write: that is its type. Here are those that it is lent to write; at the C boundary they are in proofs/LeftAlone of turning. Assumes nothing.
 use mathlib.Core.Path.{_≡_, refl, sym, ap, _∙_, subst}
-use mathlib.Core.List.{List}
+use mathlib.Core.List.{List, map}
 use Prim.Native.Nat.{ℕ, _/_}
 use lib.IntN.{ℤ}
 use lib.ListN.{length}
 use lib.Ieee.{Float}
 use Rattle.refusals.specs.declared.Refusal.{Refusal}
-use Rattle.refusals.specs.Number.{reasonOf}
+use Rattle.refusals.specs.Number.{numberOf, reasonOf}
 use Rattle.refusals.specs.Lent.{over}
-use Rattle.refusals.specs.Paper.{Paper, answers, refuses, onward}
+use Rattle.refusals.specs.Paper.{Paper, Reason, answers, refuses, onward}
 use Rattle.stock.specs.declared.TurnStockSpec.{TurnStockSpec}
 use Rattle.stock.specs.declared.TurnChange.{TurnChange}
 use Rattle.stock.specs.declared.Counted.the-variants as counted
@@ -20,30 +20,27 @@ use Rattle.changes.specs.declared.Previewed.{Previewed}
 use Rattle.changes.specs.declared.Previewed.the-variants as previewed
 use Rattle.changes.specs.Change.{previewedPaper, countOf, numbersOf, Proposed}
 use Rattle.changes.specs.declared.Applied.{Applied}
-use Rattle.changes.specs.declared.Applied.the-variants as applied
 use Rattle.changes.specs.Commit.{Committed, appliedPaper, generationOf, Applies}
 use Rattle.rings.specs.declared.Ring.{Ring}
 use Rattle.rings.specs.declared.StoredAs.{StoredAs}
-use Rattle.rings.specs.declared.StoredAs.the-variants as stored
 use Rattle.rings.specs.declared.Removed.{Removed}
-use Rattle.rings.specs.declared.Removed.the-variants as removed
 use Rattle.rings.specs.Remove as rings
 use Rattle.rings.specs.Remove.{RingStore, storedPaper, StoresAs, removedPaper, countsOf, ringsAfter, Removes}
 use Rattle.moves.specs.declared.Moved.{Moved}
-use Rattle.moves.specs.declared.Moved.the-variants as moved
 use Rattle.moves.specs.Move as moves
 use Rattle.moves.specs.Move.{Left, movedPaper, Moves}
 use Rattle.envelope.specs.Halving.{keptOf, Kept}
 use Rattle.change_slices.specs.Proposal.{Written}
 use Rattle.job_run.specs.declared.line.Carried.{Carried}
+use Rattle.job_run.specs.declared.line.Job.{Job}
 use Rattle.profile.specs.declared.Chopped.{Chopped}
 use Rattle.profile.specs.declared.Chopped.the-variants as chopped
 use Rattle.profile.specs.Chords.{Chord, flatOf, segmentsOf, writtenOf, choppedPaper, Segmented}
 use Rattle.profile.specs.Chords as chords
 use Rattle.job_run.specs.declared.line.Carried.the-variants as carried
 use Rattle.job_run.specs.Job.{Stand, carriedPaper, jobAfter, Carries}
-use Rattle.demands.specs.Refused.{Asked, Exactly}
-use Rattle.demands.proofs.Asking.{refusalOf, same-number, exactly-as}
+use Rattle.demands.specs.Refused.{Asked, numberAlone, Exactly}
+use Rattle.demands.proofs.Asking.{refusalOf, placeless, same-number, exactly-as, exactly-placeless}
 
 -- ---- previews and the difference: the two lists that changes are written to
 
@@ -87,9 +84,9 @@ commit-call {p} {r} h x = exactly-as (appliedPaper r) (ap refusalOf (h .answer) 
     same (answers k) = refl
     same (refuses n) = refl
 
-pub commit-left : (p : Paper Committed) (c : Refusal) (cs cs' : List Float) → Applies p (applied.Refused c) cs cs' → (p ≡ refuses (reasonOf c)) × (cs' ≡ cs)
-commit-left (answers k) c cs cs' h = absurd (no-answer (reasonOf c) (k .generation) (h .answer))
-commit-left (refuses n) c cs cs' h = (same-number (h .answer), h .cells)
+pub commit-left : (p : Paper Committed) (r : Applied) (n : Reason) (cs cs' : List Float) → appliedPaper r ≡ refuses n → Applies p r cs cs' → (p ≡ refuses n) × (cs' ≡ cs)
+commit-left (answers k) r n cs cs' e h = absurd (no-answer n (k .generation) (sym e ∙ h .answer))
+commit-left (refuses m) r n cs cs' e h = (same-number (sym e ∙ h .answer), h .cells)
 
 -- ---- one ring: the rings
 
@@ -101,10 +98,10 @@ ring-call {p} {r} h x = exactly-as (removedPaper r) (ap refusalOf (h .answer) �
     same (answers k) = refl
     same (refuses n) = refl
 
-pub ring-left : (p : Paper RingStore) (c : Refusal) (xs ys : List Float) → Removes xs p (removed.Refused c) ys → (p ≡ refuses (reasonOf c)) × (ys ≡ xs)
+pub ring-left : (p : Paper RingStore) (r : Removed) (n : Reason) (xs ys : List Float) → removedPaper r ≡ refuses n → Removes xs p r ys → (p ≡ refuses n) × (ys ≡ xs)
 unfolding countsOf ringsAfter onward
-ring-left (answers k) c xs ys h = absurd (no-answer (reasonOf c) _ (h .answer))
-ring-left (refuses n) c xs ys h = (same-number (h .answer), h .store)
+ring-left (answers k) r n xs ys e h = absurd (no-answer n _ (sym e ∙ h .answer))
+ring-left (refuses m) r n xs ys e h = (same-number (sym e ∙ h .answer), h .store)
 
 -- ---- a list of rings, and parts: the rings
 
@@ -116,10 +113,10 @@ rings-call {p} {r} h x = exactly-as (storedPaper r) (ap refusalOf (h .answer) �
     same (answers k) = refl
     same (refuses n) = refl
 
-pub rings-left : (p : Paper (List Ring)) (c : Refusal) (xs ys : List Float) → StoresAs xs p (stored.Refused c) ys → (p ≡ refuses (reasonOf c)) × (ys ≡ xs)
+pub rings-left : (p : Paper (List Ring)) (r : StoredAs) (n : Reason) (xs ys : List Float) → storedPaper r ≡ refuses n → StoresAs xs p r ys → (p ≡ refuses n) × (ys ≡ xs)
 unfolding rings.countOf onward
-rings-left (answers k) c xs ys h = absurd (no-answer (reasonOf c) (length k) (h .answer))
-rings-left (refuses n) c xs ys h = (same-number (h .answer), h .store)
+rings-left (answers k) r n xs ys e h = absurd (no-answer n (length k) (sym e ∙ h .answer))
+rings-left (refuses m) r n xs ys e h = (same-number (sym e ∙ h .answer), h .store)
 
 -- ---- a move: the cells and the rings, nothing of either written before all is decided
 
@@ -131,23 +128,28 @@ move-call {p} {r} h x = exactly-as (movedPaper r) (ap refusalOf (h .answer) ∙ 
     same (answers k) = refl
     same (refuses n) = refl
 
-pub move-left : (p : Paper Left) (c : Refusal) (cs cs' xs xs' : List Float) → Moves p (moved.Refused c) cs cs' xs xs' → (p ≡ refuses (reasonOf c)) × (cs' ≡ cs) × (xs' ≡ xs)
-move-left (answers k) c cs cs' xs xs' h = absurd (no-answer (reasonOf c) _ (h .answer))
-move-left (refuses n) c cs cs' xs xs' h = (same-number (h .answer), h .cells, h .rings)
+pub move-left : (p : Paper Left) (r : Moved) (n : Reason) (cs cs' xs xs' : List Float) → movedPaper r ≡ refuses n → Moves p r cs cs' xs xs' → (p ≡ refuses n) × (cs' ≡ cs) × (xs' ≡ xs)
+move-left (answers k) r n cs cs' xs xs' e h = absurd (no-answer n _ (sym e ∙ h .answer))
+move-left (refuses m) r n cs cs' xs xs' e h = (same-number (sym e ∙ h .answer), h .cells, h .rings)
 
 -- ---- a line of a job: the cells and the rings. The two lists are scratch of the call: at the last generation a cut has written its changes there when its commit answers 12
 
-pub line-call : {p : Paper Stand} {r : Carried} {cs cs' xs xs' : List Float} {l : List Asked} → Carries p r cs cs' xs xs' → Exactly p l → Exactly (carriedPaper r) l
-unfolding refusalOf
-line-call {p} {r} h x = exactly-as (carriedPaper r) (ap refusalOf (h .answer) ∙ same p) x
+-- the numbers are the rule's; a place is not told
+pub line-call : {p : Paper Stand} {r : Carried} {cs cs' xs xs' : List Float} {l : List Asked} → Carries p r cs cs' xs xs' → Exactly p l → Exactly (carriedPaper r) (map numberAlone l)
+unfolding refusalOf placeless
+line-call {p} {r} h x = exactly-as (carriedPaper r) (ap refusalOf (h .answer) ∙ same p) (exactly-placeless x)
   where
-    same : (p : Paper Stand) → refusalOf (jobAfter p) ≡ refusalOf p
+    same : (p : Paper Stand) → refusalOf (jobAfter p) ≡ refusalOf (placeless p)
     same (answers s) = refl
     same (refuses n) = refl
 
-pub line-left : (p : Paper Stand) (c : Refusal) (cs cs' xs xs' : List Float) → Carries p (carried.Refused c) cs cs' xs xs' → (p ≡ refuses (reasonOf c)) × (cs' ≡ cs) × (xs' ≡ xs)
+pub line-left : (p : Paper Stand) (c : Refusal) (cs cs' xs xs' : List Float) → Carries p (carried.Refused c) cs cs' xs xs' → (n : Reason) × (p ≡ refuses n) × (n .number ≡ numberOf c) × (cs' ≡ cs) × (xs' ≡ xs)
 line-left (answers s) c cs cs' xs xs' h = absurd (no-answer (reasonOf c) (s .job) (h .answer))
-line-left (refuses n) c cs cs' xs xs' h = (same-number (h .answer), h .cells, h .rings)
+line-left (refuses n) c cs cs' xs xs' h = (n, refl, ap numberIn (sym (h .answer)), h .cells, h .rings)
+  where
+    numberIn : Paper Job → ℕ
+    numberIn (answers j) = 0
+    numberIn (refuses m) = m .number
 
 -- ---- a new stock: the numbers that it is to fill
 

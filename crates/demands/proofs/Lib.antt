@@ -10,6 +10,7 @@ pub mod First
 pub mod JobLines
 pub mod LeftAlone
 pub mod Rings
+pub mod Rising
 pub mod Written
 pub mod Second
 pub mod Runs
@@ -28,3 +29,4 @@ pub mod Arcs
 pub mod Inserts
 pub mod InsertFinite
 pub mod InsertExample
+pub mod Which

@@ -11,7 +11,7 @@
 --   nose      segment_at, segments_good, track_of, alike
 --   polygon   polygon_good, index_range
 --   changes   room, change_at, held_of, is_accepted, put_after
---   rings     rings_fit, rings_good, raised_by
+--   rings     rings_fit, raised_by; first_bad_ring (`same-judged`)
 --   queries   bins_at
 --   blocks    blocks_in, matches, renew_all, clear, renew_block, renew_changed
 --   envelope  within, of the numbers of the part that is lent back; number_of
@@ -62,7 +62,7 @@ use Rattle.refusals.specs.declared.Refusal.{Refusal}
 use Rattle.refusals.specs.Number.{reasonOf}
 use Rattle.refusals.specs.Paper.{Paper, Reason, answers, refuses}
 use Rattle.refusals.specs.Lent.{Lent}
-use Rattle.refusals.proofs.OneToOne.{one-reason}
+use Rattle.refusals.proofs.OneToOne.{one-reason, one-place, no-place}
 use Rattle.numbers.specs.declared.Rooted.{Rooted}
 use Rattle.numbers.specs.declared.Rooted.the-variants as rooted
 use Rattle.numbers.specs.declared.Whole.{Whole}
@@ -127,6 +127,9 @@ use Rattle.changes.specs.Commit.{passingPaper, Committed, appliedPaper, Applies
 use Rattle.changes.specs.Decide.{Decides, decidingPaper}
 use Rattle.rings.specs.declared.Removed.{Removed}
 use Rattle.rings.specs.declared.Removed.the-variants as removed
+use Rattle.rings.specs.declared.Judged.{Judged}
+use Rattle.rings.specs.declared.Judged.the-variants as judged
+use Rattle.rings.specs.Store.{judgedPlace}
 use Rattle.rings.specs.Remove.{RingStore, RingCount, removedPaper, Removes}
 use Rattle.text.specs.Wrote.{Wrote, Put}
 use Rattle.job_run.specs.declared.Run.{Run}
@@ -231,19 +234,29 @@ same-passing passing.Pass passing.Pass h = refl
 same-passing passing.Pass (passing.Refused d) h = absurd (no-answer _ _ (sym h))
 same-passing (passing.Refused c) passing.Pass h = absurd (no-answer _ _ h)
 same-passing (passing.Refused c) (passing.Refused d) h = ap passing.Refused (same-refusal c d h)
+same-passing passing.Pass (passing.RefusedAt d k) h = absurd (no-answer _ _ (sym h))
+same-passing (passing.RefusedAt c j) passing.Pass h = absurd (no-answer _ _ h)
+same-passing (passing.Refused c) (passing.RefusedAt d k) h = absurd (no-place c d k (same-number h))
+same-passing (passing.RefusedAt c j) (passing.Refused d) h = absurd (no-place d c j (same-number (sym h)))
+same-passing (passing.RefusedAt c j) (passing.RefusedAt d k) h = let e = one-place c d j k (same-number h) in ap₂ passing.RefusedAt (e .0) (e .1)
 
 -- how far a list is decided
 pub same-deciding : (r r' : Deciding) → decidingPaper r ≡ decidingPaper r' → r ≡ r'
 same-deciding r r' h =
     let stock = same-passing (r .stock) (r' .stock) (ap (λ (d : Decides). d .stock) h) in
     let found = same-passing (r .found) (r' .found) (ap (λ (d : Decides). d .found) h) in
-    λ i. record { s = h i .spec; n = h i .n; stock = stock i; any = h i .any; last = h i .last; rises = h i .rises; found = found i }
+    λ i. record { s = h i .spec; n = h i .n; stock = stock i; any = h i .any; last = h i .last; rises = h i .rises; count = h i .count; fall = h i .fall; found = found i }
 
 pub same-applied : (r r' : Applied) → appliedPaper r ≡ appliedPaper r' → r ≡ r'
 same-applied (applied.Generation g) (applied.Generation k) h = ap applied.Generation (same-answer h)
 same-applied (applied.Generation g) (applied.Refused d) h = absurd (no-answer _ _ (sym h))
 same-applied (applied.Refused c) (applied.Generation k) h = absurd (no-answer _ _ h)
 same-applied (applied.Refused c) (applied.Refused d) h = ap applied.Refused (same-refusal c d h)
+same-applied (applied.Generation g) (applied.RefusedAt d k) h = absurd (no-answer _ _ (sym h))
+same-applied (applied.RefusedAt c j) (applied.Generation g) h = absurd (no-answer _ _ h)
+same-applied (applied.Refused c) (applied.RefusedAt d k) h = absurd (no-place c d k (same-number h))
+same-applied (applied.RefusedAt c j) (applied.Refused d) h = absurd (no-place d c j (same-number (sym h)))
+same-applied (applied.RefusedAt c j) (applied.RefusedAt d k) h = let e = one-place c d j k (same-number h) in ap₂ applied.RefusedAt (e .0) (e .1)
 
 pub same-removed : (r r' : Removed) → removedPaper r ≡ removedPaper r' → r ≡ r'
 same-removed (removed.Stored n g) (removed.Stored n' g') h =
@@ -252,6 +265,18 @@ same-removed (removed.Stored n g) (removed.Stored n' g') h =
 same-removed (removed.Stored n g) (removed.Refused d) h = absurd (no-answer _ _ (sym h))
 same-removed (removed.Refused c) (removed.Stored n g) h = absurd (no-answer _ _ h)
 same-removed (removed.Refused c) (removed.Refused d) h = ap removed.Refused (same-refusal c d h)
+same-removed (removed.Stored n g) (removed.RefusedAt d k) h = absurd (no-answer _ _ (sym h))
+same-removed (removed.RefusedAt c j) (removed.Stored n g) h = absurd (no-answer _ _ h)
+same-removed (removed.Refused c) (removed.RefusedAt d k) h = absurd (no-place c d k (same-number h))
+same-removed (removed.RefusedAt c j) (removed.Refused d) h = absurd (no-place d c j (same-number (sym h)))
+same-removed (removed.RefusedAt c j) (removed.RefusedAt d k) h = let e = one-place c d j k (same-number h) in ap₂ removed.RefusedAt (e .0) (e .1)
+
+-- rings that are judged
+pub same-judged : (r r' : Judged) → judgedPlace r ≡ judgedPlace r' → r ≡ r'
+same-judged judged.Good judged.Good h = refl
+same-judged judged.Good (judged.Bad k) h = absurd (none-some k h)
+same-judged (judged.Bad j) judged.Good h = absurd (none-some j (sym h))
+same-judged (judged.Bad j) (judged.Bad k) h = ap judged.Bad (same-some h)
 
 -- ---- papers of an envelope, each one to one
 

@@ -187,8 +187,8 @@ pub tried-accepted : {spec : TurnStockSpec} {n : ℕ} {k : Committed} {l : List 
 tried-accepted {k = k} hs b ht gs h all-made = (k, refl, start)
 tried-accepted {spec} {n} hs b ht gs h (not-previewed {t} {l} {cs} {gen} {r} {is} {is'} {xs} {xs'} room p) =
     absurd (no-answer _ _ (preview-call-accepted spec n t cs _ is is' xs xs' (good-stock b) room (gs .0) p))
-tried-accepted {spec} {n} hs b ht gs h (not-committed {t} {l} {cs} {cs'} {gen} {c} {r} {is} {is'} {xs} {xs'} room p a) =
-    absurd (no-answer _ _ (commit-call-accepted spec n t hs (ht .0) cs cs' b gen c _ is is' xs xs' (omega arith) p a))
+tried-accepted {spec} {n} hs b ht gs h (not-committed {t} {l} {cs} {cs'} {gen} {c} {a} {r} {is} {is'} {xs} {xs'} room p w e) =
+    absurd (no-answer _ _ (sym e ∙ commit-call-accepted spec n t hs (ht .0) cs cs' b gen c a is is' xs xs' (omega arith) p w))
 tried-accepted {spec} {n} hs b ht gs h (made {t} {l} {cs} {cs'} {gen} {g} {c} {is} {is'} {xs} {xs'} room p a r) =
     let w = called hs t (ht .0) b gen g c is is' xs xs' p a in
     let e = w .generation in

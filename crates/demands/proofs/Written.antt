@@ -10,7 +10,7 @@ use borrow.Author.Tests.{ltb-true, ltb-false}
 use lib.Dec.{ltb}
 use lib.ListN.{length}
 use lib.Ieee.{Float}
-use Rattle.refusals.specs.Paper.{answers}
+use Rattle.refusals.specs.Paper.{answers, placed}
 use Rattle.floats.specs.Each.{Each}
 use Rattle.floats.specs.Pick.{pick}
 use Rattle.stock.specs.declared.TurnStockSpec.{TurnStockSpec}
@@ -18,13 +18,15 @@ use Rattle.stock.specs.declared.TurnCell.{TurnCell}
 use Rattle.stock.specs.declared.TurnChange.{TurnChange}
 use Rattle.stock.specs.Spec.{cleanSpec}
 use Rattle.stock.specs.Cell.{cellAt, sameCell, stockOf, putCell}
-use Rattle.stock.proofs.Count.{demanded, and-both, stock-length}
+use Rattle.stock.proofs.Count.{none-demanded, and-both, stock-length}
 use Rattle.stock.proofs.Stored.{stored-same, stored-other}
 use Rattle.changes.specs.Change.{changeOf, changeAt, changesTo}
 use Rattle.changes.proofs.Rising.{rising}
-use Rattle.changes.specs.Commit.{passes, eachPasses, risesAfter, rises, passAll, putAll}
+use Rattle.changes.specs.Commit.{passes, eachFrom, firstFall, passAll, putAll}
+use Rattle.changes.specs.Decide.{risesAfter, rises}
+use Rattle.demands.proofs.Rising.{none-rises}
 use Rattle.changes.proofs.Passed.{put-length}
-use Rattle.moves.proofs.Answered.{answered}
+use Rattle.moves.proofs.Answered.{answered, unplaced}
 use Rattle.moves.proofs.Cells.{one-fits}
 use Rattle.demands.specs.Wrote.{Lists, Writes}
 
@@ -126,12 +128,12 @@ module _ (n : ℕ) where
       go (inr q) r = r q
 
 -- changes that pass name bins that there are
-pass-indices : (s : TurnStockSpec) (n : ℕ) (cs : List Float) (l : List TurnChange) → eachPasses s n cs l ≡ answers tt → Each (λ (c : TurnChange). c .index < n) l
-unfolding eachPasses
-pass-indices s n cs [] h = tt
-pass-indices s n cs (c ∷ l) h =
-    let a = answered (passes s n cs c) (λ _. eachPasses s n cs l) tt h in
-    (one-fits s n cs c (a .first) .1, pass-indices s n cs l (a .then))
+pass-indices : (s : TurnStockSpec) (n : ℕ) (cs : List Float) (k : ℕ) (l : List TurnChange) → eachFrom s n cs k l ≡ answers tt → Each (λ (c : TurnChange). c .index < n) l
+unfolding eachFrom
+pass-indices s n cs k [] h = tt
+pass-indices s n cs k (c ∷ l) h =
+    let a = answered (placed k (passes s n cs c)) (λ _. eachFrom s n cs (suc k) l) tt h in
+    (one-fits s n cs c (unplaced k (passes s n cs c) tt (a .first)) .1, pass-indices s n cs (suc k) l (a .then))
 
 named-apart : (i : ℕ) (l : List TurnChange) → ((c : TurnChange) → List·Memᴰ c l → c .index ≡ i → ⊥) → Each (λ (c : TurnChange). c .index ≡ i → ⊥) l
 named-apart i [] h = tt
@@ -141,11 +143,11 @@ named-apart i (c ∷ l) h = (h c (List·Memᴰ·head refl), named-apart i l (λ 
 pub changes-written : (spec : TurnStockSpec) (cs : List Float) (n : ℕ) (l : List TurnChange) → stockOf spec cs ≡ answers n → passAll (cleanSpec spec) n cs l ≡ answers tt → Writes l cs (putAll cs l)
 unfolding passAll
 changes-written spec cs n l e h =
-    let d = demanded (rises l) 7 (eachPasses (cleanSpec spec) n cs l) tt h in
+    let d = none-demanded (firstFall l) 7 (eachFrom (cleanSpec spec) n cs 0 l) tt h in
     let len = stock-length spec cs n e in
-    let hs = pass-indices (cleanSpec spec) n cs l (d .1) in
+    let hs = pass-indices (cleanSpec spec) n cs 0 l (d .1) in
     record {
       long = put-length l cs;
-      each = put-each n l cs len hs (d .0);
+      each = put-each n l cs len hs (none-rises l (d .0));
       others = λ i a. put-others n l cs len hs i (named-apart i l a);
     }

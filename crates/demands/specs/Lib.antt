@@ -4,3 +4,4 @@ pub mod Run
 pub mod Refused
 pub mod Wrote
 pub mod Offending
+pub mod Which

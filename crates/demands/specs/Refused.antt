@@ -3,12 +3,12 @@ use mathlib.Core.Path.{_≡_}
 use mathlib.Core.Bool.{Bool, true, false, not, _&&_, _||_}
 use mathlib.Core.List.{List, [], _∷_, _++_}
 use mathlib.Core.Option.{Option, none, some}
-use Prim.Native.Nat.{ℕ, _*_, _/_}
+use Prim.Native.Nat.{ℕ, suc, _*_, _/_}
 use lib.Dec.{eqb, leb, ltb}
 use lib.ListN.{length}
 use lib.Ieee.{Float, le}
 use lib.Ieee.Scale.{finite}
-use Rattle.refusals.specs.Paper.{Paper, Reason, answers, refuses, only}
+use Rattle.refusals.specs.Paper.{Paper, Reason, answers, refuses, only, at}
 use Rattle.refusals.specs.Limits.{cellLimit, lastGeneration}
 use Rattle.floats.specs.Each.{Each}
 use Rattle.floats.specs.Pick.{pick}
@@ -19,7 +19,7 @@ use Rattle.stock.specs.declared.TurnCell.{TurnCell}
 use Rattle.stock.specs.declared.TurnChange.{TurnChange}
 use Rattle.stock.specs.declared.TurnSide.{TurnSide}
 use Rattle.stock.specs.Spec.{cleanSpec, specGood, quotient, cellsOf}
-use Rattle.stock.specs.Cell.{cellFits, cellsFit, stockOf}
+use Rattle.stock.specs.Cell.{cellAt, cellFits, cellsFit, sameCell, stockOf}
 use Rattle.reach.specs.Reach.{Act, actCell}
 use Rattle.nose.specs.Nose.{segmentsGood, noseAct}
 use Rattle.polygon.specs.Polygon.{polygonGood, polygonAct}
@@ -30,11 +30,11 @@ use Rattle.cuts.specs.declared.Tool.{Tool}
 use Rattle.cuts.specs.declared.Tool.the-variants.{Single, Nose, Polygon}
 use Rattle.cuts.specs.Cut.{isArc, cleanCut, cutGood, cutAct}
 use Rattle.cuts.specs.Preview.{previewCut}
-use Rattle.changes.specs.Commit.{appliesTo, rises}
+use Rattle.changes.specs.Commit.{onlyRemoves, firstFall}
 use Rattle.changes.specs.Difference.{otherCell}
 use Rattle.rings.specs.declared.Ring.{Ring}
 use Rattle.rings.specs.Ring.{filled, clip, left}
-use Rattle.rings.specs.Store.{extentOf, ringsOf, roomOf, countFits, finiteRing, ringsGood}
+use Rattle.rings.specs.Store.{extentOf, ringsOf, roomOf, countFits, finiteRing, badRing}
 use Rattle.rings.specs.Remove.{roomFor}
 use Rattle.moves.specs.Move.{generationAfter}
 use Rattle.blocks.specs.Block.{blocksIn, matchesOf}
@@ -58,6 +58,23 @@ pub record Asked : Type 0 where
 -- a test whose refusal has the number n, and no place
 abbrev pub ask : Bool → ℕ → Asked
 ask t n = record { holds = t; why = only n }
+
+-- the same, with the place k
+abbrev pub askAt : Bool → ℕ → ℕ → Asked
+askAt t n k = record { holds = t; why = at n k }
+
+-- no place is found; else the refusal has the number n, and that place
+abbrev pub askNone : Option ℕ → ℕ → Asked
+askNone none n = ask true n
+askNone (some k) n = askAt false n k
+
+-- a test whose refusal tells its number alone
+abbrev pub numberAlone : Asked → Asked
+numberAlone q = ask (q .holds) (q .why .number)
+
+-- the numbers that have a place in the call that gives them out
+abbrev pub hasPlace : ℕ → Bool
+hasPlace n = eqb n 7 || eqb n 8 || eqb n 10 || eqb n 21 || eqb n 22 || eqb n 23
 
 -- all of them hold
 abbrev pub AllHold : List Asked → Type 0
@@ -103,9 +120,9 @@ countGood most (some n) = not (eqb n 0) && leb n most
 abbrev pub specAsks : TurnStockSpec → List Asked
 specAsks spec = ask (specGood (cleanSpec spec)) 1 ∷ ask (countGood (cleanSpec spec .«max_cells») (wholeUp (quotient (cleanSpec spec)) cellLimit)) 2 ∷ []
 
--- 1, 2, 9: bin i of n
+-- 1, 2, 21: bin i of n
 abbrev pub binAsks : TurnStockSpec → ℕ → List Asked
-binAsks spec i = specAsks spec ++ (ask (ofAnswer (cellsOf spec) (λ n. ltb i n)) 9 ∷ [])
+binAsks spec i = specAsks spec ++ (ask (ofAnswer (cellsOf spec) (λ n. ltb i n)) 21 ∷ [])
 
 -- 1, 2, 3: so many lent numbers are four for each of n cells
 abbrev pub newAsks : TurnStockSpec → ℕ → List Asked
@@ -146,28 +163,38 @@ previewToolAsks spec cs (Polygon side excess) ys room = previewPolygonAsks spec 
 
 -- ---- changes
 
--- change by change, 8 before 9; p is how many cells there are
-unfoldable pub eachAsks : TurnStockSpec → Paper ℕ → List Float → List TurnChange → List Asked
-eachAsks s p cs [] = []
-eachAsks s p cs (c ∷ l) = ask (cellFits s (c .after)) 8 ∷ ask (ofAnswer p (λ n. appliesTo n cs c)) 9 ∷ eachAsks s p cs l
+-- change by change 8, 21, 22, 23, the first change at the place k; p is how many cells there are
+unfoldable pub eachAsks : TurnStockSpec → Paper ℕ → List Float → ℕ → List TurnChange → List Asked
+eachAsks s p cs k [] = []
+eachAsks s p cs k (c ∷ l) =
+    askAt (cellFits s (c .after)) 8 k
+    ∷ askAt (ofAnswer p (λ n. ltb (c .index) n)) 21 k
+    ∷ askAt (sameCell (cellAt cs (c .index)) (c .before)) 22 k
+    ∷ askAt (onlyRemoves (c .before) (c .after)) 23 k
+    ∷ eachAsks s p cs (suc k) l
 
--- 8, then 9: one change, against n cells
+-- 8, 21, 22, 23: one change, against n cells, in no list
 abbrev pub changeAsks : TurnStockSpec → ℕ → List Float → TurnChange → List Asked
-changeAsks s n cs c = ask (cellFits s (c .after)) 8 ∷ ask (appliesTo n cs c) 9 ∷ []
+changeAsks s n cs c =
+    ask (cellFits s (c .after)) 8
+    ∷ ask (ltb (c .index) n) 21
+    ∷ ask (sameCell (cellAt cs (c .index)) (c .before)) 22
+    ∷ ask (onlyRemoves (c .before) (c .after)) 23
+    ∷ []
 
--- 7 over the whole list, then change by change
+-- 7 over the whole list, at the first fall, then change by change
 abbrev pub passAsks : TurnStockSpec → Paper ℕ → List Float → List TurnChange → List Asked
-passAsks s p cs l = ask (rises l) 7 ∷ eachAsks s p cs l
+passAsks s p cs l = askNone (firstFall l) 7 ∷ eachAsks s p cs 0 l
 
--- 7, 8 or 9, 12; p is how many cells there are
+-- 7, then 8, 21, 22, 23 change by change, 12; p is how many cells there are
 abbrev pub commitInAsks : TurnStockSpec → Paper ℕ → List Float → ℕ → List TurnChange → List Asked
 commitInAsks s p cs gen l = passAsks s p cs l ++ (ask (ltb gen lastGeneration) 12 ∷ [])
 
--- 1, 2, 3, 7, 8 or 9, 12
+-- 1, 2, 3, 7, then 8, 21, 22, 23 change by change, 12
 abbrev pub commitAsks : TurnStockSpec → List Float → ℕ → List TurnChange → List Asked
 commitAsks spec cs gen l = stockAsks spec cs ++ commitInAsks (cleanSpec spec) (stockOf spec cs) cs gen l
 
--- 1, 2, 3, 6, 7, 8 or 9, 12: k changes of the lent lists
+-- 1, 2, 3, 6, 7, then 8, 21, 22, 23 change by change, 12: k changes of the lent lists
 abbrev pub applyAsks : TurnStockSpec → List Float → ℕ → List ℕ → List Float → ℕ → List Asked
 applyAsks spec cs gen is xs k =
     stockAsks spec cs ++ (ask (leb k (change.roomOf (length is) (length xs))) 6 ∷ commitInAsks (cleanSpec spec) (stockOf spec cs) cs gen (changesFrom is xs k))
@@ -184,7 +211,7 @@ removeAsks spec xs n g q =
     let e = extentOf (cleanSpec spec) in
     specAsks spec
     ++ (ask (countFits e xs n) 4
-    ∷ ask (finiteRing q) 10
+    ∷ askAt (finiteRing q) 10 0
     ∷ ask (not (filled (clip e q)) || ltb g lastGeneration) 12
     ∷ ask (not (filled (clip e q)) || roomFor (roomOf (length xs)) (ringsOf n xs) (clip e q)) 11
     ∷ [])
@@ -204,21 +231,21 @@ removeRingsAsks spec xs n removed = ask (leb n (roomOf (length xs))) 4 ∷ ask (
 
 -- 1, 2, 3, 10, 11
 abbrev pub partsAsks : TurnStockSpec → List Float → List Float → List Float → List Asked
-partsAsks spec cs given xs = stockAsks spec cs ++ (ask (ringsGood given) 10 ∷ ask (allStored spec xs 0 given) 11 ∷ [])
+partsAsks spec cs given xs = stockAsks spec cs ++ (askNone (badRing given) 10 ∷ ask (allStored spec xs 0 given) 11 ∷ [])
 
--- 4, 10, 7, 8 or 9, 12, 11; behind the tests of a stock
+-- 4, 10, 7, then 8, 21, 22, 23 change by change, 12, 11; behind the tests of a stock
 abbrev pub moveInAsks : TurnStockSpec → List Float → List Float → ℕ → ℕ → List TurnChange → List Float → List Asked
 moveInAsks spec cs xs count g l removed =
     ask (countFits (extentOf (cleanSpec spec)) xs count) 4
-    ∷ ask (ringsGood removed) 10
+    ∷ askNone (badRing removed) 10
     ∷ passAsks (cleanSpec spec) (stockOf spec cs) cs l
     ++ (ask (leb (generationAfter spec g removed) lastGeneration) 12 ∷ ask (allStored spec xs count removed) 11 ∷ [])
 
--- 1, 2, 3, 4, 10, 7, 8 or 9, 12, 11: a list of changes, 01's order to the letter
+-- 1, 2, 3, 4, 10, 7, then 8, 21, 22, 23 change by change, 12, 11: a list of changes, 01's order with Req 04's three in the place of 9
 abbrev pub moveListAsks : TurnStockSpec → List Float → List Float → ℕ → ℕ → List TurnChange → List Float → List Asked
 moveListAsks spec cs xs count g l removed = stockAsks spec cs ++ moveInAsks spec cs xs count g l removed
 
--- 1, 2, 3, 6, 4, 10, 7, 8 or 9, 12, 11: k changes of the lent lists
+-- 1, 2, 3, 6, 4, 10, 7, then 8, 21, 22, 23 change by change, 12, 11: k changes of the lent lists
 abbrev pub moveAsks : TurnStockSpec → List Float → List Float → ℕ → ℕ → List ℕ → List Float → ℕ → List Float → List Asked
 moveAsks spec cs xs count g is ys k removed = stockAsks spec cs ++ (ask (leb k (change.roomOf (length is) (length ys))) 6 ∷ moveInAsks spec cs xs count g (changesFrom is ys k) removed)
 

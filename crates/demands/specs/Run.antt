@@ -1,20 +1,21 @@
 -- Runs of calls: for each cut a preview into lent lists and a commit from them; and single rings one after the other. Assumes nothing.
+use mathlib.Core.Path.{_≡_}
 use mathlib.Core.List.{List, [], _∷_, _++_}
 use Prim.Native.Nat.{ℕ, _/_, _≤_}
 use lib.ListN.{length, take}
 use lib.Ieee.{Float}
 use Rattle.refusals.specs.declared.Refusal.{Refusal}
 use Rattle.refusals.specs.Number.{reasonOf}
-use Rattle.refusals.specs.Paper.{Paper, answers, refuses}
+use Rattle.refusals.specs.Paper.{Paper, Reason, answers, refuses}
 use Rattle.stock.specs.declared.TurnStockSpec.{TurnStockSpec}
 use Rattle.stock.specs.declared.TurnChange.{TurnChange}
 use Rattle.stock.specs.Spec.{cleanSpec}
 use Rattle.changes.specs.declared.Previewed.the-variants as preview
 use Rattle.changes.specs.declared.Previewed.the-variants.{Changes}
 use Rattle.changes.specs.Change.{roomOf, Proposed}
-use Rattle.changes.specs.declared.Applied.the-variants as applied
+use Rattle.changes.specs.declared.Applied.{Applied}
 use Rattle.changes.specs.declared.Applied.the-variants.{Generation}
-use Rattle.changes.specs.Commit.{Committed, commitHeld, commitOf, applyOf, Applies}
+use Rattle.changes.specs.Commit.{Committed, commitHeld, commitOf, appliedPaper, applyOf, Applies}
 use Rattle.change_slices.specs.Proposal.{Written}
 use Rattle.rings.specs.declared.Ring.{Ring}
 use Rattle.rings.specs.declared.Removed.the-variants.{Stored}
@@ -50,9 +51,9 @@ pub data Tried (spec : TurnStockSpec) (n : ℕ) : Committed → List Cutter → 
   all-made : {k : Committed} → Tried spec n k [] (answers k)
   not-previewed : {t : Cutter} {l : List Cutter} {cs : List Float} {gen : ℕ} {r : Refusal} {is is' : List ℕ} {xs xs' : List Float} → n ≤ roomOf (length is) (length xs)
       → Proposed (cutterPreview spec t cs (roomOf (length is) (length xs))) (preview.Refused r) is is' xs xs' → Tried spec n (record { cells = cs; generation = gen }) (t ∷ l) (refuses (reasonOf r))
-  not-committed : {t : Cutter} {l : List Cutter} {cs cs' : List Float} {gen c : ℕ} {r : Refusal} {is is' : List ℕ} {xs xs' : List Float} → n ≤ roomOf (length is) (length xs)
-      → Proposed (cutterPreview spec t cs (roomOf (length is) (length xs))) (Changes c) is is' xs xs' → Applies (applyOf spec cs gen is' xs' c) (applied.Refused r) cs cs'
-      → Tried spec n (record { cells = cs; generation = gen }) (t ∷ l) (refuses (reasonOf r))
+  not-committed : {t : Cutter} {l : List Cutter} {cs cs' : List Float} {gen c : ℕ} {a : Applied} {r : Reason} {is is' : List ℕ} {xs xs' : List Float} → n ≤ roomOf (length is) (length xs)
+      → Proposed (cutterPreview spec t cs (roomOf (length is) (length xs))) (Changes c) is is' xs xs' → Applies (applyOf spec cs gen is' xs' c) a cs cs' → appliedPaper a ≡ refuses r
+      → Tried spec n (record { cells = cs; generation = gen }) (t ∷ l) (refuses r)
   made : {t : Cutter} {l : List Cutter} {cs cs' : List Float} {gen g c : ℕ} {is is' : List ℕ} {xs xs' : List Float} {p : Paper Committed} → n ≤ roomOf (length is) (length xs)
       → Proposed (cutterPreview spec t cs (roomOf (length is) (length xs))) (Changes c) is is' xs xs' → Applies (applyOf spec cs gen is' xs' c) (Generation g) cs cs'
       → Tried spec n (record { cells = cs'; generation = g }) l p → Tried spec n (record { cells = cs; generation = gen }) (t ∷ l) p

@@ -4,11 +4,17 @@
 // `removeRing`, `moveOf`, ..), and each call's promise says that it answers by its rule.
 //
 // Demand 1, each refusal exactly when (`proofs/First`, `proofs/LeftAlone`). `specs/Refused` lists the
-// tests of each call in order, each with its number. `Exactly` says that the rule refuses with k
-// exactly when the first test that does not hold has the number k, and answers exactly when all hold.
+// tests of each call in order, each with its reason: its number, and its place where it has one.
+// `Exactly` says that the rule refuses with k exactly when the first test that does not hold has the
+// reason k, and answers exactly when all hold.
 // One law gives it for every rule (`proofs/Asking`). A refused call leaves every lent buffer. Of a job
 // (`proofs/JobLines`, with `specs/Offending`): it is refused at line m with k exactly when line m is the
 // first that offends, and with k.
+//
+// Which change it was (`proofs/Which`, with `specs/Which`): a place that is given is in its list; the
+// changes before it pass, and it passes the tests before its number and fails that one; the indices
+// before a fall rise, and the rings before a bad one are good. A list that passes on one stock is, on
+// another, accepted or refused with 22 at the first bin that differs.
 //
 // Demand 2, what the answers are (`proofs/Second`, with `specs/Wrote`): the root is the nearest value;
 // a preview lists the change of each bin that the cut changes and no other, and its count is that of

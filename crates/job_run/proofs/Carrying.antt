@@ -11,7 +11,7 @@ use lib.Seq.{length-take-le, take-all}
 use lib.Ieee.{Float}
 use Rattle.refusals.specs.declared.Refusal.{Refusal}
 use Rattle.refusals.specs.declared.Refusal.the-variants.{CellsDoNotFit}
-use Rattle.refusals.specs.Number.{reasonOf}
+use Rattle.refusals.specs.Number.{numberOf, reasonOf}
 use Rattle.refusals.specs.Paper.{Paper, Reason, answers, refuses, only, onward, papers, onward-answers}
 use Rattle.refusals.specs.Lent.{over}
 use Rattle.refusals.proofs.OneToOne.{one-reason}
@@ -30,12 +30,12 @@ use Rattle.cuts.specs.declared.Cut.{Cut}
 use Rattle.cuts.specs.Preview.{previewCut}
 use Rattle.changes.specs.declared.Applied.{Applied}
 use Rattle.changes.specs.declared.Applied.the-variants as applied
-use Rattle.changes.specs.Commit.{Committed, Applies}
+use Rattle.changes.specs.Commit.{Committed, appliedPaper, Applies}
 use Rattle.rings.specs.declared.Ring.{Ring}
 use Rattle.rings.specs.declared.Removed.{Removed}
 use Rattle.rings.specs.declared.Removed.the-variants as removed
 use Rattle.rings.specs.Store.{storeAs}
-use Rattle.rings.specs.Remove.{RingStore, RingCount, removeRing, countsOf, ringsAfter, Removes}
+use Rattle.rings.specs.Remove.{RingStore, RingCount, removeRing, removedPaper, countsOf, ringsAfter, Removes}
 use Rattle.job_words.specs.declared.Line.{Line}
 use Rattle.job_words.specs.declared.Line.the-variants as line
 use Rattle.job_words.specs.Kind.{lineOf}
@@ -47,6 +47,10 @@ use Rattle.job_run.specs.Job.{Stand, stand, lineLimit, madeCut, barLine,
 -- refused: all stays
 pub refused : (p : Paper Stand) (r : Refusal) (cs rs : List Float) → p ≡ refuses (reasonOf r) → Carries p (carried.Refused r) cs cs rs rs
 refused p r cs rs e = rw e (record { answer = refl; cells = refl; rings = refl })
+
+-- so with a place, which a job does not tell
+refused-as : (p : Paper Stand) (r : Refusal) (n : Reason) (cs rs : List Float) → numberOf r ≡ n .number → p ≡ refuses n → Carries p (carried.Refused r) cs cs rs rs
+refused-as p r n cs rs q e = rw e (record { answer = ap (λ (k : ℕ). refuses (only k)) q; cells = refl; rings = refl })
 
 -- accepted
 pub went : (p : Paper Stand) (j : Job) (cs cs' rs rs' : List Float) → p ≡ answers (stand j cs' rs') → Carries p (carried.Onward j) cs cs' rs rs'
@@ -97,9 +101,9 @@ pub same-number : {A : Type 0} {m n : Reason} → _≡_ {A = Paper A} (refuses m
 same-number h = cc
 
 -- what an answer of a commit says of its rule
-commit-refused : (p : Paper Committed) (r : Refusal) (cs cs' : List Float) → Applies p (applied.Refused r) cs cs' → (p ≡ refuses (reasonOf r)) × (cs' ≡ cs)
-commit-refused (answers k) r cs cs' w = absurd (no-answer (reasonOf r) (k .generation) (w .answer))
-commit-refused (refuses n) r cs cs' w = (ap refuses (sym (same-number {A = ℕ} (w .answer))), w .cells)
+commit-refused : (p : Paper Committed) (a : Applied) (n : Reason) (cs cs' : List Float) → appliedPaper a ≡ refuses n → Applies p a cs cs' → (p ≡ refuses n) × (cs' ≡ cs)
+commit-refused (answers k) a n cs cs' e w = absurd (no-answer n (k .generation) (sym e ∙ w .answer))
+commit-refused (refuses m) a n cs cs' e w = (ap refuses (sym (same-number {A = ℕ} (sym e ∙ w .answer))), w .cells)
 
 commit-went : (p : Paper Committed) (g : ℕ) (cs cs' : List Float) → Applies p (applied.Generation g) cs cs' → p ≡ answers (record { cells = cs'; generation = g })
 commit-went (answers k) g cs cs' w =
@@ -111,12 +115,12 @@ module _ (j : Job) (cut : Cut) (room : ℕ) (cs : List Float) (e : ℕ) (b : e �
   of-job : Applies (madeCut (j .spec) (take (4 * j .cells) cs) (j .generation) cut room) a (take e cs) part'
   of-job = subst (λ (xs : List Float). Applies (madeCut (j .spec) xs (j .generation) cut room) a (take e cs) part') (ap (λ (k : ℕ). take k cs) b ∙ front (j .cells) cs) w
 
-  pub cut-refused : (r : Refusal) → a ≡ applied.Refused r → CarriesCells (cutLine j cut room cs) (carried.Refused r) cs (part' ++ drop e cs)
+  pub cut-refused : (r : Refusal) (n : Reason) → numberOf r ≡ n .number → appliedPaper a ≡ refuses n → CarriesCells (cutLine j cut room cs) (carried.Refused r) cs (part' ++ drop e cs)
   unfolding cutLine
-  cut-refused r q rs =
-      let k = commit-refused _ r _ _ (subst (λ (x : Applied). Applies (madeCut (j .spec) (take (4 * j .cells) cs) (j .generation) cut room) x (take e cs) part') q of-job) in
+  cut-refused r n t q rs =
+      let k = commit-refused _ a n _ _ q of-job in
       let s : part' ++ drop e cs ≡ cs = ap (λ (xs : List Float). xs ++ drop e cs) (k .1) ∙ take-append-drop e cs in
-      rw s (refused _ r cs rs (simp (papers, k .0)))
+      rw s (refused-as _ r n cs rs t (simp (papers, k .0)))
 
   pub cut-went : (g : ℕ) → a ≡ applied.Generation g → length part' ≡ length (take e cs)
       → CarriesCells (cutLine j cut room cs) (carried.Onward (record { spec = j .spec; cells = j .cells; rings = j .rings; generation = g })) cs (part' ++ drop e cs)
@@ -139,10 +143,10 @@ unlisted l is xs e = rw e (record { indices = refl; numbers = refl })
 -- ---- a ring
 
 -- what an answer says of the rule
-ring-none : (p : Paper RingStore) (r : Refusal) (rs rs' : List Float) → Removes rs p (removed.Refused r) rs' → (p ≡ refuses (reasonOf r)) × (rs' ≡ rs)
+ring-none : (p : Paper RingStore) (d : Removed) (n : Reason) (rs rs' : List Float) → removedPaper d ≡ refuses n → Removes rs p d rs' → (p ≡ refuses n) × (rs' ≡ rs)
 unfolding countsOf ringsAfter onward
-ring-none (answers s) r rs rs' w = absurd (no-answer (reasonOf r) _ (w .answer))
-ring-none (refuses n) r rs rs' w = (ap refuses (sym (same-number {A = RingCount} (w .answer))), w .store)
+ring-none (answers s) d n rs rs' e w = absurd (no-answer n _ (sym e ∙ w .answer))
+ring-none (refuses m) d n rs rs' e w = (ap refuses (sym (same-number {A = RingCount} (sym e ∙ w .answer))), w .store)
 
 -- where an answer goes on
 onward-is : {A B : Type 0} (p : Paper A) (a : A) (f : A → Paper B) → p ≡ answers a → onward p f ≡ f a
@@ -164,11 +168,11 @@ ring-left (answers s) n g rs rs' w =
 ring-left (refuses m) n g rs rs' w = absurd (no-answer {A = RingCount} m (record { rings = n; generation = g }) (sym (w .answer)))
 
 module _ (j : Job) (q : Ring) (rs rs' : List Float) (d : Removed) (w : Removes rs (removeRing (j .spec) rs (j .rings) (j .generation) q) d rs') where
-  pub ring-refused : (r : Refusal) → d ≡ removed.Refused r → CarriesRings (removingLine j q) (carried.Refused r) rs rs'
+  pub ring-refused : (r : Refusal) (n : Reason) → numberOf r ≡ n .number → removedPaper d ≡ refuses n → CarriesRings (removingLine j q) (carried.Refused r) rs rs'
   unfolding removingLine
-  ring-refused r e cs =
-      let k = ring-none _ r rs rs' (subst (λ (x : Removed). Removes rs (removeRing (j .spec) rs (j .rings) (j .generation) q) x rs') e w) in
-      rw (k .1) (refused _ r cs rs (simp (papers, k .0)))
+  ring-refused r n t e cs =
+      let k = ring-none _ d n rs rs' e w in
+      rw (k .1) (refused-as _ r n cs rs t (simp (papers, k .0)))
 
   pub ring-went : (n g : ℕ) → d ≡ removed.Stored n g → CarriesRings (removingLine j q) (carried.Onward (record { spec = j .spec; cells = j .cells; rings = n; generation = g })) rs rs'
   unfolding removingLine

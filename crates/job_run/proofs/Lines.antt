@@ -11,7 +11,7 @@ use borrow.Author.Tests.{eq-eqb, ne-eqb, lt-ltb, le-ltb}
 use Rattle.refusals.specs.declared.Refusal.{Refusal}
 use Rattle.refusals.specs.declared.Refusal.the-variants.{LineMalformed}
 use Rattle.refusals.specs.Number.{numberOf, reasonOf}
-use Rattle.refusals.specs.Paper.{Paper, Reason, answers, refuses}
+use Rattle.refusals.specs.Paper.{Paper, Reason, answers, refuses, only}
 use Rattle.text.proofs.Chosen.{yes, no}
 use Rattle.stock.proofs.Count.{no-answer, same-answer}
 use Rattle.job_run.specs.declared.line.Job.{Job}
@@ -38,7 +38,7 @@ carried-refused (refuses n) r c cs cs' rs rs' w =
 
 carried-went : (p : Paper Stand) (r : Run) (j : Job) (cs cs' rs rs' : List Float) → Carries p (carried.Onward j) cs cs' rs rs' → state (record { job = j; lines = next r; refused = 0 }) cs' rs' ≡ answered (state r cs rs) p
 unfolding answered
-carried-went (refuses n) r j cs cs' rs rs' w = absurd (no-answer n j (sym (w .answer)))
+carried-went (refuses n) r j cs cs' rs rs' w = absurd (no-answer (only (n .number)) j (sym (w .answer)))
 carried-went (answers s) r j cs cs' rs rs' w =
     ap (λ (k : Job). state (record { job = k; lines = next r; refused = 0 }) cs' rs') (same-answer (w .answer))
     ∙ ap (λ (x : List Float). state (record { job = s .job; lines = next r; refused = 0 }) x rs') (w .cells)

@@ -118,9 +118,10 @@ abbrev pub carriedPaper : Carried → Paper Job
 carriedPaper (carried.Onward j) = answers j
 carriedPaper (carried.Refused c) = refuses (reasonOf c)
 
+-- a job tells the number alone
 abbrev pub jobAfter : Paper Stand → Paper Job
 jobAfter (answers s) = answers (s .job)
-jobAfter (refuses n) = refuses n
+jobAfter (refuses n) = refuses (only (n .number))
 
 -- a refusal leaves them
 abbrev pub cellsCarried : Paper Stand → List Float → List Float

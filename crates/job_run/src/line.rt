@@ -158,6 +158,7 @@ fn take_cut(
     );
     match applied {
         Applied::Refused(r) => Carried::Refused(r),
+        Applied::RefusedAt(r, _) => Carried::Refused(r),
         Applied::Generation(generation) => Carried::Onward(Job {
             spec,
             cells: job.cells,
@@ -175,6 +176,7 @@ fn take_ring(job: Job, rings: &mut [f64], ring: Ring) -> Carried
     let removed = rings::remove_ring(spec, rings, job.rings, job.generation, ring);
     match removed {
         Removed::Refused(r) => Carried::Refused(r),
+        Removed::RefusedAt(r, _) => Carried::Refused(r),
         Removed::Stored(n, generation) => Carried::Onward(Job {
             spec,
             cells: job.cells,

@@ -13,7 +13,7 @@ use Rattle.floats.specs.Pick.{pick}
 use Rattle.stock.specs.declared.TurnStockSpec.{TurnStockSpec}
 use Rattle.stock.specs.Spec.{cleanSpec}
 use Rattle.stock.specs.Cell.{stockOf}
-use Rattle.stock.proofs.Count.{same-answer, demanded, checked, stocked}
+use Rattle.stock.proofs.Count.{same-answer, demanded, none-demanded, checked, stocked}
 use Rattle.changes.specs.Change.{roomOf, changesFrom}
 use Rattle.rings.specs.declared.Ring.{Ring}
 use Rattle.rings.specs.Ring.{covered, filled, clip}
@@ -21,6 +21,7 @@ use Rattle.rings.specs.Points.{Disjoint}
 use Rattle.rings.specs.Store.{extentOf, ringsOf, storeAs, storeFits, countFits, ringsGood, raisedBy}
 use Rattle.rings.specs.Remove.{removeRings}
 use Rattle.rings.proofs.Flat.{rings-stored}
+use Rattle.rings.proofs.Bad.{none-good}
 use Rattle.rings.proofs.Fitting.{store-disjoint}
 use Rattle.rings.proofs.Taken.{rings-pass, rings-pass-again, rings-cover, rings-either-order}
 use Rattle.changes.specs.Commit.{passAll, putAll}
@@ -67,7 +68,7 @@ module _ (spec : TurnStockSpec) (cs xs : List Float) (count g : ℕ) (is : List 
       let s = answered _ _ _ h in
       let d6 = demanded _ _ _ _ (s .then) in
       let d4 = demanded _ _ _ _ (d6 .1) in
-      let d10 = demanded _ _ _ _ (d4 .1) in
+      let d10 = none-demanded _ _ _ _ (d4 .1) in
       let p = answered _ _ _ (d10 .1) in
       let d12 = demanded _ _ _ _ (p .then) in
       let r = answered _ _ _ (d12 .1) in
@@ -77,7 +78,7 @@ module _ (spec : TurnStockSpec) (cs xs : List Float) (count g : ℕ) (is : List 
         stock = s .first;
         room = leb-true k (roomOf (length is) (length ys)) (d6 .0);
         fits = d4 .0;
-        good = d10 .0;
+        good = none-good removed (d10 .0);
         pass = p .first;
         last = leb-true (generationAfter spec g removed) lastGeneration (d12 .0);
         rule = r .first ∙ ap (λ (x : Left). answers (x .rings)) v;

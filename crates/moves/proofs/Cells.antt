@@ -3,7 +3,7 @@ use mathlib.Core.Path.{_≡_, refl, sym, _∙_, subst}
 use mathlib.Core.Logic.{_⊎_, inl, inr}
 use mathlib.Core.Bool.{Bool, true, false, _&&_}
 use mathlib.Core.List.{List, [], _∷_}
-use Prim.Native.Nat.{ℕ, _+_, _*_, _≤_, _<_}
+use Prim.Native.Nat.{ℕ, suc, _+_, _*_, _≤_, _<_}
 use native.Mathlib.Nat.{eq-or-lt-of-le}
 use native.Mathlib.Omega.{arith}
 use borrow.Author.Tests.{ltb-true, ltb-false}
@@ -11,21 +11,21 @@ use lib.Dec.{ltb}
 use lib.ListN.{length}
 use lib.Ieee.{Float, le, eq}
 use lib.Ieee.Bits.{is-true}
-use Rattle.refusals.specs.Paper.{answers}
+use Rattle.refusals.specs.Paper.{answers, placed}
 use Rattle.stock.specs.declared.TurnStockSpec.{TurnStockSpec}
 use Rattle.stock.specs.declared.TurnCell.{TurnCell}
 use Rattle.stock.specs.declared.TurnChange.{TurnChange}
 use Rattle.stock.specs.Spec.{cleanSpec}
 use Rattle.stock.specs.Cell.{cellAt, cellFits, sameCell, stockOf, putCell}
-use Rattle.stock.proofs.Count.{demanded, and-both, stocked, stock-length}
+use Rattle.stock.proofs.Count.{demanded, none-demanded, and-both, stocked, stock-length}
 use Rattle.stock.proofs.EachFits.{stock-fits, fits-stock}
 use Rattle.stock.proofs.SameCells.{fits-same}
 use Rattle.stock.proofs.Stored.{stored-same, stored-other}
 use Rattle.rings.proofs.Anywhere.{le-chain, eq-turns}
 use Rattle.rings.proofs.Edges.{of-true, eq-le}
-use Rattle.changes.specs.Commit.{onlyRemoves, appliesTo, passes, eachPasses, rises, passAll, putAll}
+use Rattle.changes.specs.Commit.{onlyRemoves, appliesTo, passes, eachFrom, firstFall, passAll, putAll}
 use Rattle.changes.proofs.Passed.{put-length}
-use Rattle.moves.proofs.Answered.{answered}
+use Rattle.moves.proofs.Answered.{answered, unplaced}
 
 -- ---- of n cells that fit
 module _ (s : TurnStockSpec) (n : ℕ) where
@@ -34,17 +34,14 @@ module _ (s : TurnStockSpec) (n : ℕ) where
   unfolding passes appliesTo
   one-fits cs c h =
       let d = demanded _ _ _ _ h in
-      let e = demanded _ _ _ _ (d .1) in
-      let b = and-both (ltb (c .index) n && sameCell (cellAt cs (c .index)) (c .before)) (onlyRemoves (c .before) (c .after)) (e .0) in
-      (d .0, ltb-true (c .index) n (and-both (ltb (c .index) n) (sameCell (cellAt cs (c .index)) (c .before)) (b .0) .0))
+      (d .0, ltb-true (c .index) n (demanded _ _ _ _ (d .1) .0))
 
   -- its bin holds the before-cell, and it only removes
   one-applies : (cs : List Float) (c : TurnChange) → passes s n cs c ≡ answers tt → (sameCell (cellAt cs (c .index)) (c .before) ≡ true) × (onlyRemoves (c .before) (c .after) ≡ true)
   unfolding passes appliesTo
   one-applies cs c h =
-      let e = demanded _ _ _ _ (demanded _ _ _ _ h .1) in
-      let b = and-both (ltb (c .index) n && sameCell (cellAt cs (c .index)) (c .before)) (onlyRemoves (c .before) (c .after)) (e .0) in
-      (and-both (ltb (c .index) n) (sameCell (cellAt cs (c .index)) (c .before)) (b .0) .1, b .1)
+      let e = demanded _ _ _ _ (demanded _ _ _ _ (demanded _ _ _ _ h .1) .1) in
+      (e .0, demanded _ _ _ _ (e .1) .0)
 
   -- what holds of each cell, by its bin: one after-cell put of which it holds too
   put-keeps : (P : ℕ → TurnCell → Type 0) (out : List Float) (k : ℕ) (x : TurnCell) → length out ≡ 4 * n → k < n → P k x → ((i : ℕ) → i < n → P i (cellAt out i)) → (i : ℕ) → i < n → P i (cellAt (putCell out k x) i)
@@ -63,12 +60,13 @@ module _ (s : TurnStockSpec) (n : ℕ) where
 
   -- all of those that pass
   pub all-keep : (P : ℕ → TurnCell → Type 0) (cs : List Float) → ((c : TurnChange) → passes s n cs c ≡ answers tt → P (c .index) (c .after))
-      → (l : List TurnChange) (out : List Float) → eachPasses s n cs l ≡ answers tt → length out ≡ 4 * n → ((i : ℕ) → i < n → P i (cellAt out i)) → (i : ℕ) → i < n → P i (cellAt (putAll out l) i)
-  unfolding eachPasses
-  all-keep P cs one [] out h len g = g
-  all-keep P cs one (c ∷ l) out h len g =
-      let a = answered (passes s n cs c) (λ _. eachPasses s n cs l) tt h in
-      all-keep P cs one l (putCell out (c .index) (c .after)) (a .then) (put-length (c ∷ []) out ∙ len) (put-keeps P out (c .index) (c .after) len (one-fits cs c (a .first) .1) (one c (a .first)) g)
+      → (k : ℕ) (l : List TurnChange) (out : List Float) → eachFrom s n cs k l ≡ answers tt → length out ≡ 4 * n → ((i : ℕ) → i < n → P i (cellAt out i)) → (i : ℕ) → i < n → P i (cellAt (putAll out l) i)
+  unfolding eachFrom
+  all-keep P cs one k [] out h len g = g
+  all-keep P cs one k (c ∷ l) out h len g =
+      let a = answered (placed k (passes s n cs c)) (λ _. eachFrom s n cs (suc k) l) tt h in
+      let p = unplaced k (passes s n cs c) tt (a .first) in
+      all-keep P cs one (suc k) l (putCell out (c .index) (c .after)) (a .then) (put-length (c ∷ []) out ∙ len) (put-keeps P out (c .index) (c .after) len (one-fits cs c p .1) (one c p) g)
 
 -- a stock that is not refused is not refused after changes that pass
 pub passed-stock : (spec : TurnStockSpec) (cs : List Float) (n : ℕ) (l : List TurnChange) → stockOf spec cs ≡ answers n → passAll (cleanSpec spec) n cs l ≡ answers tt → stockOf spec (putAll cs l) ≡ answers n
@@ -76,7 +74,7 @@ unfolding passAll
 passed-stock spec cs n l e h =
     let len = stock-length spec cs n e in
     fits-stock spec (putAll cs l) n (stocked spec cs n e .count) (put-length l cs ∙ len)
-    (all-keep (cleanSpec spec) n (λ i x. cellFits (cleanSpec spec) x ≡ true) cs (λ c p. one-fits (cleanSpec spec) n cs c p .0) l cs (demanded (rises l) 7 (eachPasses (cleanSpec spec) n cs l) tt h .1) len (stock-fits spec cs n e))
+    (all-keep (cleanSpec spec) n (λ i x. cellFits (cleanSpec spec) x ≡ true) cs (λ c p. one-fits (cleanSpec spec) n cs c p .0) 0 l cs (none-demanded (firstFall l) 7 (eachFrom (cleanSpec spec) n cs 0 l) tt h .1) len (stock-fits spec cs n e))
 
 -- ---- changes that pass only remove: outer bounds fall and inner bounds rise, in every bin
 
@@ -124,7 +122,7 @@ pub passed-removes : (spec : TurnStockSpec) (cs : List Float) (n : ℕ) (l : Lis
     → (i : ℕ) → i < n → onlyRemoves (cellAt cs i) (cellAt (putAll cs l) i) ≡ true
 unfolding passAll
 passed-removes spec cs n l e h =
-    all-keep (cleanSpec spec) n (λ i x. onlyRemoves (cellAt cs i) x ≡ true) cs one l cs (demanded (rises l) 7 (eachPasses (cleanSpec spec) n cs l) tt h .1) (stock-length spec cs n e)
+    all-keep (cleanSpec spec) n (λ i x. onlyRemoves (cellAt cs i) x ≡ true) cs one 0 l cs (none-demanded (firstFall l) 7 (eachFrom (cleanSpec spec) n cs 0 l) tt h .1) (stock-length spec cs n e)
     (λ i p. none-removed (cellAt cs i) (fits-same (cleanSpec spec) (cellAt cs i) (stock-fits spec cs n e i p)))
   where
     one : (c : TurnChange) → passes (cleanSpec spec) n cs c ≡ answers tt → onlyRemoves (cellAt cs (c .index)) (c .after) ≡ true

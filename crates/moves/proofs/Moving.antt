@@ -1,7 +1,8 @@
 -- What a move answers and leaves, by what its rule says. Assumes nothing.
-use mathlib.Core.Path.{_≡_, sym, ap, _∙_, subst}
+use mathlib.Core.Path.{_≡_, refl, sym, ap, _∙_, subst}
 use mathlib.Core.Bool.{true, false}
 use mathlib.Core.List.{List}
+use mathlib.Core.Option.{none, some}
 use Prim.Native.Nat.{ℕ, _+_, _-_, _/_, _≤_, _<_}
 use native.Mathlib.Omega.{arith}
 use borrow.Author.Tests.{le-leb, lt-leb}
@@ -9,7 +10,7 @@ use lib.ListN.{length}
 use lib.Ieee.{Float}
 use Rattle.refusals.specs.declared.Refusal.{Refusal}
 use Rattle.refusals.specs.Number.{reasonOf}
-use Rattle.refusals.specs.Paper.{Paper, Reason, answers, refuses, only, onward, papers}
+use Rattle.refusals.specs.Paper.{Paper, Reason, answers, refuses, only, at, onward, demand-true, demandNone-some, papers}
 use Rattle.refusals.specs.Limits.{lastGeneration}
 use Rattle.stock.specs.declared.TurnStockSpec.{TurnStockSpec}
 use Rattle.stock.specs.declared.TurnChange.{TurnChange}
@@ -19,8 +20,8 @@ use Rattle.changes.specs.Change.{roomOf, changesFrom}
 use Rattle.rings.specs.declared.Ring.{Ring}
 use Rattle.rings.specs.declared.StoredAs.{StoredAs}
 use Rattle.rings.specs.declared.StoredAs.the-variants as stored
-use Rattle.rings.specs.Store.{extentOf, ringsOf, storeAs, countFits, ringsGood, raisedBy}
-use Rattle.rings.specs.Remove.{removeRings, StoresAs}
+use Rattle.rings.specs.Store.{extentOf, ringsOf, storeAs, countFits, badRing, raisedBy}
+use Rattle.rings.specs.Remove.{removeRings, storedPaper, StoresAs}
 use Rattle.rings.proofs.Adding.{accepted, refused}
 use Rattle.changes.specs.declared.Passing.{Passing}
 use Rattle.changes.specs.declared.Passing.the-variants as passing
@@ -28,13 +29,16 @@ use Rattle.changes.specs.Commit.{passAll, passingPaper, firstRefusal, putAll, p
 use Rattle.changes.proofs.Written.{refusal-held, put-held}
 use Rattle.moves.specs.declared.Moved.{Moved}
 use Rattle.moves.specs.declared.Moved.the-variants as moved
-use Rattle.moves.specs.Move.{Left, generationAfter, moveIn, moveOf, countsOf, cellsAfter, ringsAfter, Moves}
+use Rattle.moves.specs.Move.{Left, generationAfter, moveIn, moveOf, movedPaper, countsOf, cellsAfter, ringsAfter, Moves}
 
 -- ---- what is answered and left
 
 -- refused: cells and rings stay
+pub left-as : (p : Paper Left) (r : Moved) (x : Reason) (cs xs xs' : List Float) → movedPaper r ≡ refuses x → p ≡ refuses x → xs' ≡ xs → Moves p r cs cs xs xs'
+left-as p r x cs xs xs' a e f = record { answer = a ∙ sym (ap countsOf e); cells = sym (ap (λ (q : Paper Left). cellsAfter q cs) e); rings = f ∙ sym (ap (λ (q : Paper Left). ringsAfter q xs) e) }
+
 pub left : (p : Paper Left) (x : Refusal) (cs xs xs' : List Float) → p ≡ refuses (reasonOf x) → xs' ≡ xs → Moves p (moved.Refused x) cs cs xs xs'
-left p x cs xs xs' e f = record { answer = sym (ap countsOf e); cells = sym (ap (λ (q : Paper Left). cellsAfter q cs) e); rings = f ∙ sym (ap (λ (q : Paper Left). ringsAfter q xs) e) }
+left p x cs xs xs' e f = left-as p (moved.Refused x) (reasonOf x) cs xs xs' refl e f
 
 -- accepted
 pub done : (p : Paper Left) (a : Left) (m g : ℕ) (cs cs' xs xs' : List Float) → p ≡ answers a → m ≡ length (a .rings) → g ≡ a .generation → cs' ≡ a .cells → xs' ≡ storeAs xs (a .rings) → Moves p (moved.Stored m g) cs cs' xs xs'
@@ -55,9 +59,8 @@ module _ (spec s : TurnStockSpec) (n : ℕ) (cs : List Float) (is : List ℕ) (y
   told = ap (λ (x : TurnStockSpec). passAll x n cs (changesFrom is ys k)) (sym clean) ∙ refusal-held is ys k h s n cs ∙ sym e
 
   -- they are refused
-  pub stopped : (x : Refusal) → found ≡ passing.Refused x → passAll (cleanSpec spec) n cs (changesFrom is ys k) ≡ refuses (reasonOf x)
-  unfolding passingPaper
-  stopped x f = told ∙ ap passingPaper f
+  pub stopped : (x : Reason) → passingPaper found ≡ refuses x → passAll (cleanSpec spec) n cs (changesFrom is ys k) ≡ refuses x
+  stopped x f = told ∙ f
 
   -- they pass
   pub passed : found ≡ passing.Pass → passAll (cleanSpec spec) n cs (changesFrom is ys k) ≡ answers tt
@@ -75,11 +78,11 @@ module _ (spec : TurnStockSpec) (n : ℕ) (cs xs : List Float) (count g : ℕ) (
   refuses-4 e = simp (papers, e)
 
   module _ (fit : countFits (extentOf (cleanSpec spec)) xs count ≡ true) where
-    pub refuses-10 : ringsGood removed ≡ false → moveIn spec n cs xs count g l removed ≡ refuses (only 10)
+    pub refuses-10 : (k : ℕ) → badRing removed ≡ some k → moveIn spec n cs xs count g l removed ≡ refuses (at 10 k)
     unfolding moveIn
-    refuses-10 e = simp (papers, fit, e)
+    refuses-10 k e = demand-true _ _ _ fit ∙ demandNone-some _ _ _ _ e
 
-    module _ (good : ringsGood removed ≡ true) where
+    module _ (good : badRing removed ≡ none) where
       pub refuses-change : (r : Reason) → passAll (cleanSpec spec) n cs l ≡ refuses r → moveIn spec n cs xs count g l removed ≡ refuses r
       unfolding moveIn
       refuses-change r e = simp (papers, fit, good, e)
@@ -108,11 +111,11 @@ module _ (spec : TurnStockSpec) (n : ℕ) (cs xs : List Float) (count g : ℕ) (
           rings-say : (p : Paper (List Ring)) → removeRings spec xs count removed ≡ p → moveIn spec n cs xs count g l removed ≡ onward p (λ rs. answers (record { cells = putAll cs l; rings = rs; generation = generationAfter spec g removed }))
           rings-say p e = goes-on ∙ ap (λ (q : Paper (List Ring)). onward q (λ rs. answers (record { cells = putAll cs l; rings = rs; generation = generationAfter spec g removed }))) e
 
-          pub refuses-11 : (x : Refusal) → st ≡ stored.Refused x → Moves (moveIn spec n cs xs count g l removed) (moved.Refused x) cs cs xs xs'
+          pub refuses-11 : (x : Reason) (r : Moved) → movedPaper r ≡ refuses x → storedPaper st ≡ refuses x → Moves (moveIn spec n cs xs count g l removed) r cs cs xs xs'
           unfolding onward
-          refuses-11 x e =
+          refuses-11 x r a e =
               let y = refused xs (removeRings spec xs count removed) st xs' x s e in
-              left (moveIn spec n cs xs count g l removed) x cs xs xs' (rings-say (refuses (reasonOf x)) (y .0)) (y .1)
+              left-as (moveIn spec n cs xs count g l removed) r x cs xs xs' a (rings-say (refuses x) (y .0)) (y .1)
 
           pub moves : (m : ℕ) (cs' : List Float) → st ≡ stored.Rings m → cs' ≡ putAll cs l → Moves (moveIn spec n cs xs count g l removed) (moved.Stored m (g + 1 + raised)) cs cs' xs xs'
           unfolding onward

@@ -1,21 +1,21 @@
 -- What a stock from parts answers and stores, by what its rule says. Assumes nothing.
-use mathlib.Core.Path.{_≡_, sym, subst}
-use mathlib.Core.Bool.{true, false}
+use mathlib.Core.Path.{_≡_, refl, sym, subst}
+use mathlib.Core.Option.{none, some}
 use mathlib.Core.List.{List}
 use Prim.Native.Nat.{ℕ}
 use lib.Ieee.{Float}
 use Rattle.refusals.specs.declared.Refusal.{Refusal}
 use Rattle.refusals.specs.declared.Refusal.the-variants.{RingOutside}
-use Rattle.refusals.specs.Number.{reasonOf}
-use Rattle.refusals.specs.Paper.{Paper, answers, refuses, papers}
+use Rattle.refusals.specs.Number.{reasonOf, reasonAt}
+use Rattle.refusals.specs.Paper.{Paper, answers, refuses, demandNone-some, papers}
 use Rattle.stock.specs.declared.TurnStockSpec.{TurnStockSpec}
 use Rattle.stock.specs.Cell.{stockOf}
 use Rattle.rings.specs.declared.Ring.{Ring}
 use Rattle.rings.specs.declared.StoredAs.{StoredAs}
 use Rattle.rings.specs.declared.StoredAs.the-variants as stored
-use Rattle.rings.specs.Store.{ringsGood}
+use Rattle.rings.specs.Store.{badRing}
 use Rattle.rings.specs.Remove.{removeRings, StoresAs}
-use Rattle.rings.proofs.Adding.{stores-refused}
+use Rattle.rings.proofs.Adding.{stores-none, stores-refused}
 use Rattle.moves.specs.Move.{partsOf}
 
 module _ (spec : TurnStockSpec) (cs given xs : List Float) where
@@ -26,14 +26,14 @@ module _ (spec : TurnStockSpec) (cs given xs : List Float) where
 
   module _ (n : ℕ) (e : stockOf spec cs ≡ answers n) where
     -- 10
-    pub parts-outside : ringsGood given ≡ false → StoresAs xs (partsOf spec cs given xs) (stored.Refused RingOutside) xs
+    pub parts-outside : (k : ℕ) → badRing given ≡ some k → StoresAs xs (partsOf spec cs given xs) (stored.RefusedAt RingOutside k) xs
     unfolding partsOf
-    parts-outside f = stores-refused xs (partsOf spec cs given xs) RingOutside (simp (papers, e, f))
+    parts-outside k f = stores-none xs (partsOf spec cs given xs) (stored.RefusedAt RingOutside k) (reasonAt RingOutside k) refl (simp (papers, e) (demandNone-some _ _ _ _ f))
 
     -- past them, the rings into an empty store
-    pub parts-are : ringsGood given ≡ true → partsOf spec cs given xs ≡ removeRings spec xs 0 given
+    pub parts-are : badRing given ≡ none → partsOf spec cs given xs ≡ removeRings spec xs 0 given
     unfolding partsOf
     parts-are f = simp (papers, e, f)
 
-    pub parts-stored : (r : StoredAs) (xs' : List Float) → ringsGood given ≡ true → StoresAs xs (removeRings spec xs 0 given) r xs' → StoresAs xs (partsOf spec cs given xs) r xs'
+    pub parts-stored : (r : StoredAs) (xs' : List Float) → badRing given ≡ none → StoresAs xs (removeRings spec xs 0 given) r xs' → StoresAs xs (partsOf spec cs given xs) r xs'
     parts-stored r xs' f s = subst (λ (p : Paper (List Ring)). StoresAs xs p r xs') (sym (parts-are f)) s

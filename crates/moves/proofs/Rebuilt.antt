@@ -11,12 +11,13 @@ use Rattle.refusals.specs.Paper.{answers}
 use Rattle.stock.specs.declared.TurnStockSpec.{TurnStockSpec}
 use Rattle.stock.specs.Spec.{cleanSpec}
 use Rattle.stock.specs.Cell.{stockOf}
-use Rattle.stock.proofs.Count.{demanded, checked, stocked}
+use Rattle.stock.proofs.Count.{none-demanded, checked, stocked}
 use Rattle.rings.specs.declared.Ring.{Ring}
 use Rattle.rings.specs.Ring.{covered, clip}
 use Rattle.rings.specs.Points.{Disjoint}
 use Rattle.rings.specs.Store.{extentOf, ringsOf, roomOf, storeAs, storeFits, countFits, ringsGood}
 use Rattle.rings.specs.Remove.{removeRings}
+use Rattle.rings.proofs.Bad.{none-good}
 use Rattle.rings.proofs.Taken.{rings-pass-again, rings-cover, rings-either-order}
 use Rattle.moves.specs.Move.{partsOf}
 use Rattle.moves.proofs.Answered.{answered}
@@ -39,8 +40,8 @@ module _ (spec : TurnStockSpec) (cs xs : List Float) where
   unfolding partsOf
   parts given l h =
       let s = answered _ _ _ h in
-      let d10 = demanded _ _ _ _ (s .then) in
-      record { bins = s .value; stock = s .first; good = d10 .0; rule = d10 .1 }
+      let d10 = none-demanded _ _ _ _ (s .then) in
+      record { bins = s .value; stock = s .first; good = none-good given (d10 .0); rule = d10 .1 }
 
   module _ (given : List Float) (l : List Ring) (h : partsOf spec cs given xs ≡ answers l) where
     -- the rings pass refusal 4's test

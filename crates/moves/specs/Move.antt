@@ -6,8 +6,8 @@ use lib.Dec.{leb}
 use lib.ListN.{length}
 use lib.Ieee.{Float}
 use denote.Ref.{now}
-use Rattle.refusals.specs.Number.{reasonOf}
-use Rattle.refusals.specs.Paper.{Paper, answers, refuses, demand, onward}
+use Rattle.refusals.specs.Number.{reasonOf, reasonAt}
+use Rattle.refusals.specs.Paper.{Paper, answers, refuses, demand, demandNone, onward}
 use Rattle.refusals.specs.Limits.{lastGeneration}
 use Rattle.refusals.specs.Lent.{Lent}
 use Rattle.stock.specs.declared.TurnStockSpec.{TurnStockSpec}
@@ -16,7 +16,7 @@ use Rattle.stock.specs.Spec.{cleanSpec}
 use Rattle.stock.specs.Cell.{stockOf}
 use Rattle.changes.specs.Change.{roomOf, changesFrom}
 use Rattle.rings.specs.declared.Ring.{Ring}
-use Rattle.rings.specs.Store.{extentOf, ringsOf, storeAs, countFits, ringsGood, raisedBy}
+use Rattle.rings.specs.Store.{extentOf, ringsOf, storeAs, countFits, badRing, raisedBy}
 use Rattle.rings.specs.Remove.{RingCount, removeRings}
 use Rattle.changes.specs.Commit.{passAll, putAll}
 use Rattle.moves.specs.declared.Moved.{Moved}
@@ -34,11 +34,11 @@ pub record Left : Type 0 where
 unfoldable pub generationAfter : TurnStockSpec → ℕ → List Float → ℕ
 generationAfter spec g removed = g + 1 + raisedBy (extentOf (cleanSpec spec)) (ringsOf (length removed / 4) removed)
 
--- a move on n checked cells: 4, 10, then 7, 8 or 9, then 12, 11
+-- a move on n checked cells: 4, 10, 7, then 8, 21, 22, 23 change by change, then 12, 11
 unfoldable pub moveIn : TurnStockSpec → ℕ → List Float → List Float → ℕ → ℕ → List TurnChange → List Float → Paper Left
 moveIn spec n cs xs count g l removed =
     demand (countFits (extentOf (cleanSpec spec)) xs count) 4
-    (demand (ringsGood removed) 10
+    (demandNone (badRing removed) 10
     (onward (passAll (cleanSpec spec) n cs l) (λ _.
     demand (leb (generationAfter spec g removed) lastGeneration) 12
     (onward (removeRings spec xs count removed) (λ rs.
@@ -56,6 +56,7 @@ moveOf spec cs xs count g is ys k removed =
 abbrev pub movedPaper : Moved → Paper RingCount
 movedPaper (moved.Stored n g) = answers (record { rings = n; generation = g })
 movedPaper (moved.Refused c) = refuses (reasonOf c)
+movedPaper (moved.RefusedAt c k) = refuses (reasonAt c k)
 
 -- the count of rings and the generation
 abbrev pub countsOf : Paper Left → Paper RingCount
@@ -88,5 +89,5 @@ MovesLent p r cells rings = Moves p r (now (cells .entry)) (now (cells .exit)) (
 unfoldable pub partsOf : TurnStockSpec → List Float → List Float → List Float → Paper (List Ring)
 partsOf spec cs given xs =
     onward (stockOf spec cs) (λ _.
-    demand (ringsGood given) 10
+    demandNone (badRing given) 10
     (removeRings spec xs 0 given))

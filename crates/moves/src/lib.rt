@@ -13,6 +13,7 @@ ghost use Rattle.moves.specs.Move.{moveIn, moveOf, MovesLent, partsOf};
 use changes::Passing;
 use refusals::LAST_GENERATION;
 use refusals::Refusal;
+use rings::Judged;
 use rings::StoredAs;
 use stock::Counted;
 use stock::TurnStockSpec;
@@ -21,10 +22,12 @@ use stock::TurnStockSpec;
 pub enum Moved {
     Stored(usize, u64),
     Refused(Refusal),
+    // at the place of the change or of the ring in its list
+    RefusedAt(Refusal, usize),
 }
 
 // A move on a stock whose n cells are checked, of changes that the lists hold; 4, 10, 7, then change
-// by change 8 before 9, 12, 11.
+// by change 8, 21, 22, 23, then 12, 11.
 fn move_in(
     spec: TurnStockSpec,
     n: usize,
@@ -47,30 +50,36 @@ fn move_in(
     if !rings::rings_fit(spec, rings, count) {
         return Moved::Refused(Refusal::StoredRings);
     }
-    if !rings::rings_good(removed) {
-        return Moved::Refused(Refusal::RingOutside);
+    let judged = rings::first_bad_ring(removed);
+    if let Judged::Bad(at) = judged {
+        return Moved::RefusedAt(Refusal::RingOutside, at);
     }
     let s = stock::clean_spec(spec);
     let found = changes::first_refusal(s, n, cells, indices, records, k);
-    if let Passing::Refused(r) = found {
-        return Moved::Refused(r);
-    }
-    let raised = rings::raised_by(spec, removed) as u64;
-    if LAST_GENERATION - generation <= raised {
-        return Moved::Refused(Refusal::GenerationsSpent);
-    }
-    let stored = rings::remove_rings(spec, rings, count, removed);
-    match stored {
-        StoredAs::Refused(r) => Moved::Refused(r),
-        StoredAs::Rings(m) => {
-            changes::put_after(cells, indices, records, k);
-            Moved::Stored(m, generation + 1 + raised)
+    match found {
+        Passing::Refused(r) => Moved::Refused(r),
+        Passing::RefusedAt(r, at) => Moved::RefusedAt(r, at),
+        Passing::Pass => {
+            let raised = rings::raised_by(spec, removed) as u64;
+            if LAST_GENERATION - generation <= raised {
+                return Moved::Refused(Refusal::GenerationsSpent);
+            }
+            let stored = rings::remove_rings(spec, rings, count, removed);
+            match stored {
+                StoredAs::Refused(r) => Moved::Refused(r),
+                StoredAs::RefusedAt(r, at) => Moved::RefusedAt(r, at),
+                StoredAs::Rings(m) => {
+                    changes::put_after(cells, indices, records, k);
+                    Moved::Stored(m, generation + 1 + raised)
+                }
+            }
         }
     }
 }
 
 // Commit k changes and take the rings `removed`: the count of rings and the generation afterwards;
-// 1, 2, 3, 6 where the lists hold fewer changes, 4, 10, 7, then change by change 8 before 9, 12, 11.
+// 1, 2, 3, 6 where the lists hold fewer changes, 4, 10, 7, then change by change 8, 21, 22, 23, then
+// 12, 11.
 pub fn apply_move(
     spec: TurnStockSpec,
     cells: &mut [f64],
@@ -116,8 +125,9 @@ pub fn from_parts(spec: TurnStockSpec, cells: &[f64], given: &[f64], rings: &mut
     match counted {
         Counted::Refused(r) => StoredAs::Refused(r),
         Counted::Cells(_) => {
-            if !rings::rings_good(given) {
-                return StoredAs::Refused(Refusal::RingOutside);
+            let judged = rings::first_bad_ring(given);
+            if let Judged::Bad(at) = judged {
+                return StoredAs::RefusedAt(Refusal::RingOutside, at);
             }
             rings::remove_rings(spec, rings, 0, given)
         }

@@ -1,8 +1,9 @@
 // What is refused: one case for each row of 01's table of refusal numbers, and of the requests after it.
 //
-// A refusal returns its number only, and every lent buffer keeps its contents. The rules of the
-// other crates' specs/ speak of numbers, as 01 does (`Paper`); the code speaks of these cases, and
-// this is the one place that turns a case into its number.
+// A refusal returns its number, with the place of what offends in its list where the number has one
+// (Req 04), and every lent buffer keeps its contents. The rules of the other crates' specs/ speak of
+// numbers, as 01 does (`Paper`); the code speaks of these cases, and this is the one place that turns
+// a case into its number. 9 is given out no more.
 ghost use mathlib.Core.Path.{_≡_};
 ghost use Rattle.refusals.specs.Number.{numberOf};
 
@@ -23,8 +24,6 @@ pub enum Refusal {
     IndicesDoNotRise,
     // 8: an after-cell does not fit
     AfterDoesNotFit,
-    // 9: no such bin, the bin holds something else, or the change adds material
-    ChangeDoesNotApply,
     // 10: a ring is not finite, or in a move or parts empty
     RingOutside,
     // 11: over 256 pieces in hand, or over the store's room
@@ -43,6 +42,12 @@ pub enum Refusal {
     ChordsOutgrow,
     // 20: lent block numbers do not match the cells
     BlocksDoNotMatch,
+    // 21: there is no such bin
+    NoSuchBin,
+    // 22: the bin holds something else
+    BinHoldsOther,
+    // 23: the change adds material
+    MaterialAdded,
 }
 
 // 01's number of a refusal.
@@ -58,7 +63,6 @@ pub fn number(r: Refusal) -> u32
         Refusal::ChangesOverRoom => 6,
         Refusal::IndicesDoNotRise => 7,
         Refusal::AfterDoesNotFit => 8,
-        Refusal::ChangeDoesNotApply => 9,
         Refusal::RingOutside => 10,
         Refusal::RingsOverRoom => 11,
         Refusal::GenerationsSpent => 12,
@@ -68,6 +72,9 @@ pub fn number(r: Refusal) -> u32
         Refusal::ProfileOutside => 17,
         Refusal::ChordsOutgrow => 18,
         Refusal::BlocksDoNotMatch => 20,
+        Refusal::NoSuchBin => 21,
+        Refusal::BinHoldsOther => 22,
+        Refusal::MaterialAdded => 23,
     }
 }
 
@@ -90,3 +97,6 @@ pub const PIECE_LIMIT: usize = 256;
 pub const BLOCK: usize = 64;
 
 pub const LAST_GENERATION: u64 = 0xffff_ffff_ffff_ffff;
+
+// The last place that a list can have.
+pub const LAST_PLACE: usize = 0xffff_ffff_ffff_ffff;

@@ -27,9 +27,12 @@ use Rattle.rings.proofs.Prefix.{apart-turns}
 use Rattle.rings.proofs.InHand.{kept-few, subtract-apart, in-hand-few, in-hand-more}
 
 -- ---- from a rule's answer to the promise, and back
-pub stores-refused : (xs : List Float) (p : Paper (List Ring)) (x : Refusal) → p ≡ refuses (reasonOf x) → StoresAs xs p (Refused x) xs
+pub stores-none : (xs : List Float) (p : Paper (List Ring)) (r : StoredAs) (x : Reason) → storedPaper r ≡ refuses x → p ≡ refuses x → StoresAs xs p r xs
 unfolding countOf onward
-stores-refused xs p x e = record { answer = sym (ap countOf e); store = sym (ap (storeAfter xs) e) }
+stores-none xs p r x a e = record { answer = a ∙ sym (ap countOf e); store = sym (ap (storeAfter xs) e) }
+
+pub stores-refused : (xs : List Float) (p : Paper (List Ring)) (x : Refusal) → p ≡ refuses (reasonOf x) → StoresAs xs p (Refused x) xs
+stores-refused xs p x e = stores-none xs p (Refused x) (reasonOf x) refl e
 
 pub stores-rings : (xs : List Float) (p : Paper (List Ring)) (l : List Ring) (n : ℕ) (ys : List Float) → p ≡ answers l → n ≡ length l → ys ≡ storeAs xs l → StoresAs xs p (Rings n) ys
 unfolding countOf onward
@@ -58,20 +61,18 @@ accepted xs p r ys n s e = go p refl
         let z : _≡_ {A = ℕ} 0 1 = cc in
         absurd (omega arith)
 
-pub refused : (xs : List Float) (p : Paper (List Ring)) (r : StoredAs) (ys : List Float) (x : Refusal) → StoresAs xs p r ys → r ≡ Refused x → (p ≡ refuses (reasonOf x)) × (ys ≡ xs)
+pub refused : (xs : List Float) (p : Paper (List Ring)) (r : StoredAs) (ys : List Float) (x : Reason) → StoresAs xs p r ys → storedPaper r ≡ refuses x → (p ≡ refuses x) × (ys ≡ xs)
 unfolding countOf onward
-refused xs p r ys x s e = go p refl
+refused xs p r ys x s b = go p refl
   where
-    go : (v : Paper (List Ring)) → p ≡ v → (p ≡ refuses (reasonOf x)) × (ys ≡ xs)
+    go : (v : Paper (List Ring)) → p ≡ v → (p ≡ refuses x) × (ys ≡ xs)
     go (answers l) f =
         let a : storedPaper r ≡ answers (length l) = s .answer ∙ ap countOf f in
-        let b : storedPaper r ≡ refuses (reasonOf x) = ap storedPaper e in
         let z : _≡_ {A = ℕ} 0 1 = cc in
         absurd (omega arith)
     go (refuses k) f =
         let a : storedPaper r ≡ refuses k = s .answer ∙ ap countOf f in
-        let b : storedPaper r ≡ refuses (reasonOf x) = ap storedPaper e in
-        let q : k ≡ reasonOf x = cc in
+        let q : k ≡ x = cc in
         (f ∙ ap refuses q, s .store ∙ ap (storeAfter xs) f)
 
 -- ---- one clipped ring
@@ -316,6 +317,6 @@ module _ (e : Ring) (room : ℕ) (ks : List Ring) (news : List Float) (i : ℕ) 
         rule = next-rule ∙ y .rule ∙ ap answers (sym (ap₂ ringsOf (y .count) (y .store) ∙ rings-stored work (y .rings)));
       }
 
-  pub adding-refused : (x : Refusal) (k : ℕ) → r ≡ Refused x → i < k → addedAll e room ks (ringsOf k news) ≡ refuses (reasonOf x)
+  pub adding-refused : (x : Reason) (k : ℕ) → storedPaper r ≡ refuses x → i < k → addedAll e room ks (ringsOf k news) ≡ refuses x
   adding-refused x k h l =
-      refused-more e room ks news (reasonOf x) (i + 1) k (omega arith) (next-rule ∙ refused work (added room (ringsOf n work) c) r work' x a h .0)
+      refused-more e room ks news x (i + 1) k (omega arith) (next-rule ∙ refused work (added room (ringsOf n work) c) r work' x a h .0)

@@ -3,6 +3,7 @@ pub mod Edges
 pub mod FiniteTest
 pub mod Flat
 pub mod Prefix
+pub mod Bad
 pub mod InHand
 pub mod Adding
 pub mod Removing

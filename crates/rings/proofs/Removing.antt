@@ -11,8 +11,8 @@ use borrow.Author.Tests.{le-leb, lt-leb, leb-true, lt-ltb, le-ltb}
 use Rattle.refusals.specs.declared.Refusal.{Refusal}
 use Rattle.refusals.specs.declared.Refusal.the-variants.{StoredRings, RingOutside, GenerationsSpent}
 use Rattle.refusals.specs.Limits.{lastGeneration}
-use Rattle.refusals.specs.Number.{reasonOf}
-use Rattle.refusals.specs.Paper.{Paper, answers, refuses, demand, onward, demand-true, demand-false}
+use Rattle.refusals.specs.Number.{reasonOf, reasonAt}
+use Rattle.refusals.specs.Paper.{Paper, Reason, answers, refuses, demand, demandAt, onward, demand-true, demand-false, demandAt-true, demandAt-false}
 use Rattle.floats.specs.Pick.{pick, pick-true, pick-false}
 use Rattle.stock.specs.declared.TurnStockSpec.{TurnStockSpec}
 use Rattle.stock.specs.declared.Counted.{Counted}
@@ -25,9 +25,9 @@ use Rattle.rings.specs.declared.StoredAs.{StoredAs}
 use Rattle.rings.specs.declared.StoredAs.the-variants as stored
 use Rattle.rings.specs.Ring.{filled, clip}
 use Rattle.rings.specs.Store.{extentOf, ringAt, ringsOf, roomOf, storeAs, storeFits, countFits, finiteRing}
-use Rattle.rings.specs.Remove.{added, addedAll, StoresAs, removeAllIn, removeRings, RingStore, raised, removeIn, removeRing, countsOf, ringsAfter, Removes}
+use Rattle.rings.specs.Remove.{added, addedAll, storedPaper, StoresAs, removeAllIn, removeRings, RingStore, raised, removeIn, removeRing, removedPaper, countsOf, ringsAfter, Removes}
 use Rattle.rings.proofs.Flat.{length-rings, stored-same}
-use Rattle.rings.proofs.Adding.{stores-refused, stores-rings, stores-as, accepted, refused, added-one}
+use Rattle.rings.proofs.Adding.{stores-none, stores-refused, stores-rings, stores-as, accepted, refused, added-one}
 
 -- ---- refusal 4's test
 pub count-over : (e : Ring) (xs : List Float) (n room : ℕ) → room ≡ roomOf (length xs) → room < n → false ≡ countFits e xs n
@@ -48,9 +48,12 @@ unfolding countFits
 fits-within e xs n f = leb-true n (roomOf (length xs)) (and-fst (leb n (roomOf (length xs))) (storeFits e (ringsOf n xs)) f)
 
 -- ---- from a rule's answer to the promise
-removes-refused : (xs : List Float) (p : Paper RingStore) (x : Refusal) → p ≡ refuses (reasonOf x) → Removes xs p (removed.Refused x) xs
+removes-none : (xs ys : List Float) (p : Paper RingStore) (r : Removed) (x : Reason) → removedPaper r ≡ refuses x → p ≡ refuses x → ys ≡ xs → Removes xs p r ys
 unfolding countsOf ringsAfter onward
-removes-refused xs p x e = record { answer = sym (ap countsOf e); store = sym (ap (ringsAfter xs) e) }
+removes-none xs ys p r x a e y = record { answer = a ∙ sym (ap countsOf e); store = y ∙ sym (ap (ringsAfter xs) e) }
+
+removes-refused : (xs : List Float) (p : Paper RingStore) (x : Refusal) → p ≡ refuses (reasonOf x) → Removes xs p (removed.Refused x) xs
+removes-refused xs p x e = removes-none xs xs p (removed.Refused x) (reasonOf x) refl e refl
 
 removes-stored : (xs : List Float) (p : Paper RingStore) (l : List Ring) (n g : ℕ) (ys : List Float) → p ≡ answers (record { rings = l; generation = g }) → n ≡ length l → ys ≡ storeAs xs l
     → Removes xs p (removed.Stored n g) ys
@@ -64,17 +67,19 @@ module _ (e : Ring) (xs : List Float) (n g : ℕ) (q : Ring) where
 
   pub refuses-4 : countFits e xs n ≡ false → Removes xs (removeIn e xs n g q) (removed.Refused StoredRings) xs
   unfolding removeIn clipped
-  refuses-4 f = removes-refused xs (removeIn e xs n g q) StoredRings (demand-false (countFits e xs n) 4 (demand (finiteRing q) 10 clipped) f)
+  refuses-4 f = removes-refused xs (removeIn e xs n g q) StoredRings (demand-false (countFits e xs n) 4 (demandAt (finiteRing q) 10 0 clipped) f)
 
   module _ (f : countFits e xs n ≡ true) where
-    pub refuses-10 : finiteRing q ≡ false → Removes xs (removeIn e xs n g q) (removed.Refused RingOutside) xs
+    pub refuses-10 : finiteRing q ≡ false → Removes xs (removeIn e xs n g q) (removed.RefusedAt RingOutside 0) xs
     unfolding removeIn clipped
-    refuses-10 h = removes-refused xs (removeIn e xs n g q) RingOutside (demand-true (countFits e xs n) 4 (demand (finiteRing q) 10 clipped) f ∙ demand-false (finiteRing q) 10 clipped h)
+    refuses-10 h =
+        removes-none xs xs (removeIn e xs n g q) (removed.RefusedAt RingOutside 0) (reasonAt RingOutside 0) refl
+        (demand-true (countFits e xs n) 4 (demandAt (finiteRing q) 10 0 clipped) f ∙ demandAt-false (finiteRing q) 10 0 clipped h) refl
 
     module _ (h : finiteRing q ≡ true) where
       in-range : removeIn e xs n g q ≡ clipped
       unfolding removeIn clipped
-      in-range = demand-true (countFits e xs n) 4 (demand (finiteRing q) 10 clipped) f ∙ demand-true (finiteRing q) 10 clipped h
+      in-range = demand-true (countFits e xs n) 4 (demandAt (finiteRing q) 10 0 clipped) f ∙ demandAt-true (finiteRing q) 10 0 clipped h
 
       -- empty after clipping: nothing changes
       pub keeps-all : filled (clip e q) ≡ false → Removes xs (removeIn e xs n g q) (removed.Stored n g) xs
@@ -104,12 +109,11 @@ module _ (e : Ring) (xs : List Float) (n g : ℕ) (q : Ring) where
               not-empty ∙ demand-true (ltb g lastGeneration) 12 (onward (added (roomOf (length xs)) (ringsOf n xs) (clip e q)) (λ l. answers (record { rings = l; generation = g + 1 }))) (lt-ltb g lastGeneration l)
               ∙ ap₂ (λ (m : ℕ) (p : Ring). onward (added m (ringsOf n xs) p) (λ l. answers (record { rings = l; generation = g + 1 }))) (sym w) (sym v)
 
-          pub refuses-11 : (x : Refusal) → r ≡ stored.Refused x → Removes xs (removeIn e xs n g q) (removed.Refused x) ys
-          unfolding onward countsOf ringsAfter
-          refuses-11 x h =
+          pub refuses-11 : (x : Reason) (a : Removed) → removedPaper a ≡ refuses x → storedPaper r ≡ refuses x → Removes xs (removeIn e xs n g q) a ys
+          unfolding onward
+          refuses-11 x a t h =
               let y = refused xs (added room (ringsOf n xs) c) r ys x s h in
-              let p = rises ∙ ap (λ (a : Paper (List Ring)). onward a (λ l. answers (record { rings = l; generation = g + 1 }))) (y .0) in
-              record { answer = sym (ap countsOf p); store = y .1 ∙ sym (ap (ringsAfter xs) p) }
+              removes-none xs ys (removeIn e xs n g q) a x t (rises ∙ ap (λ (b : Paper (List Ring)). onward b (λ l. answers (record { rings = l; generation = g + 1 }))) (y .0)) (y .1)
 
           pub stores-ring : (m : ℕ) → r ≡ stored.Rings m → Removes xs (removeIn e xs n g q) (removed.Stored m (g + 1)) ys
           unfolding onward
@@ -143,8 +147,8 @@ module _ (e : Ring) (xs : List Float) (n : ℕ) (news : List Float) where
     all-one k c f o v a =
         stores-as (added-one e room (ringsOf n xs) news c v ∙ ap (λ (m : ℕ). addedAll e room (ringsOf n xs) (ringsOf m news)) (sym o ∙ f) ∙ sym all-in) a
 
-    pub all-refused : (x : Refusal) → addedAll e room (ringsOf n xs) (ringsOf (length news / 4) news) ≡ refuses (reasonOf x) → StoresAs xs (removeAllIn e xs n news) (stored.Refused x) xs
-    all-refused x f = stores-refused xs (removeAllIn e xs n news) x (all-in ∙ f)
+    pub all-refused : (x : Reason) (a : StoredAs) → storedPaper a ≡ refuses x → addedAll e room (ringsOf n xs) (ringsOf (length news / 4) news) ≡ refuses x → StoresAs xs (removeAllIn e xs n news) a xs
+    all-refused x a t f = stores-none xs (removeAllIn e xs n news) a x t (all-in ∙ f)
 
     pub all-stored : (work : List Float) (m k : ℕ) (ys : List Float) → k ≡ length news / 4 → addedAll e room (ringsOf n xs) (ringsOf k news) ≡ answers (ringsOf m work)
         → ys ≡ storeAs xs (ringsOf 0 xs ++ ringsOf m work) → StoresAs xs (removeAllIn e xs n news) (stored.Rings m) ys

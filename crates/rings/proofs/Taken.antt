@@ -12,13 +12,13 @@ use lib.Ieee.Bits.{is-true}
 use lib.Ieee.Fits.{and-i, and-l, and-r}
 use borrow.Author.Tests.{le-leb}
 use Rattle.refusals.specs.Limits.{lastGeneration}
-use Rattle.refusals.specs.Paper.{Paper, answers, refuses, demand, onward}
+use Rattle.refusals.specs.Paper.{Paper, answers, refuses, demand, demandAt, onward}
 use Rattle.floats.specs.Pick.{pick}
 use Rattle.floats.specs.Numbers.{zero64, million, usable, minusZero}
 use Rattle.floats.specs.Each.{Each}
 use Rattle.stock.specs.declared.TurnStockSpec.{TurnStockSpec}
 use Rattle.stock.specs.Spec.{cleanSpec, specGood, cellsOf}
-use Rattle.stock.proofs.Count.{same-answer, no-answer, demanded, checked}
+use Rattle.stock.proofs.Count.{same-answer, no-answer, demanded, demanded-at, checked}
 use Rattle.rings.specs.declared.Ring.{Ring}
 use Rattle.rings.specs.Ring.{covers, covered, filled, clip}
 use Rattle.rings.specs.Store.{extentOf, ringsOf, roomOf, storeAs, ringFits, storeFits, countFits, finiteRing, allGood, ringsGood}
@@ -141,8 +141,8 @@ ring-taken spec xs n g q s h = go (cellsOf spec) refl h
     go (refuses m) f k = absurd (no-answer m s k)
     go (answers m) f k =
         let kept = pick (filled c) (raised room ks g c) (answers (record { rings = ks; generation = g })) in
-        let d4 = demanded (countFits e xs n) 4 (demand (finiteRing q) 10 kept) s k in
-        let d10 = demanded (finiteRing q) 10 kept s (d4 .1) in
+        let d4 = demanded (countFits e xs n) 4 (demandAt (finiteRing q) 10 0 kept) s k in
+        let d10 = demanded-at (finiteRing q) 10 0 kept s (d4 .1) in
         last (filled c) (added room ks c) refl refl (checked spec m f .good) (d4 .0) (d10 .0) (d10 .1)
 
 -- the test of refusal 4 of a store, from that of its rings

@@ -7,8 +7,8 @@ use lib.Dec.{leb, ltb}
 use lib.ListN.{length}
 use lib.Ieee.{Float}
 use Rattle.refusals.specs.Limits.{pieceLimit, lastGeneration}
-use Rattle.refusals.specs.Number.{reasonOf}
-use Rattle.refusals.specs.Paper.{Paper, answers, refuses, demand, onward}
+use Rattle.refusals.specs.Number.{reasonOf, reasonAt}
+use Rattle.refusals.specs.Paper.{Paper, answers, refuses, demand, demandAt, onward}
 use Rattle.floats.specs.Pick.{pick}
 use Rattle.stock.specs.declared.TurnStockSpec.{TurnStockSpec}
 use Rattle.stock.specs.Spec.{cleanSpec, cellsOf}
@@ -40,6 +40,7 @@ addedAll e room ks (q ∷ qs) = onward (added room ks (clip e q)) (λ l. addedAl
 abbrev pub storedPaper : StoredAs → Paper ℕ
 storedPaper (stored.Rings n) = answers n
 storedPaper (stored.Refused c) = refuses (reasonOf c)
+storedPaper (stored.RefusedAt c k) = refuses (reasonAt c k)
 
 -- how many rings
 unfoldable pub countOf : Paper (List Ring) → Paper ℕ
@@ -75,11 +76,11 @@ pub record RingStore : Type 0 where
 unfoldable pub raised : ℕ → List Ring → ℕ → Ring → Paper RingStore
 raised room ks g c = demand (ltb g lastGeneration) 12 (onward (added room ks c) (λ l. answers (record { rings = l; generation = g + 1 })))
 
--- one ring within the extent e; 4, 10, and if it is not empty after clipping 12, 11
+-- one ring within the extent e; 4, 10 at the place 0, and if it is not empty after clipping 12, 11
 unfoldable pub removeIn : Ring → List Float → ℕ → ℕ → Ring → Paper RingStore
 removeIn e xs n g q =
     demand (countFits e xs n) 4
-    (demand (finiteRing q) 10
+    (demandAt (finiteRing q) 10 0
     (pick (filled (clip e q)) (raised (roomOf (length xs)) (ringsOf n xs) g (clip e q)) (answers (record { rings = ringsOf n xs; generation = g }))))
 
 -- one ring of a stock; 1, 2, then as within its extent
@@ -94,6 +95,7 @@ pub record RingCount : Type 0 where
 abbrev pub removedPaper : Removed → Paper RingCount
 removedPaper (removed.Stored n g) = answers (record { rings = n; generation = g })
 removedPaper (removed.Refused c) = refuses (reasonOf c)
+removedPaper (removed.RefusedAt c k) = refuses (reasonAt c k)
 
 unfoldable pub countsOf : Paper RingStore → Paper RingCount
 countsOf p = onward p (λ s. answers (record { rings = length (s .rings); generation = s .generation }))

@@ -1,17 +1,21 @@
 -- The stored rings, four lent numbers each: reading and writing them, the room for them, and when they are as 01 asks. Assumes nothing.
 use Prim.Native.Nat.{ℕ, zero, suc, _+_, _*_, _/_, _%_, min}
 use mathlib.Core.Bool.{Bool, true, not, _&&_}
+use mathlib.Core.Option.{Option, none, some}
 use mathlib.Core.List.{List, [], _∷_, _++_}
 use lib.Dec.{leb, eqb}
 use lib.ListN.{length, getD, set}
 use lib.Ieee.{Float, nan, lt, le}
 use lib.Ieee.Scale.{finite}
 use Rattle.refusals.specs.Limits.{ringLimit}
+use Rattle.refusals.specs.Paper.{firstOf}
 use Rattle.refusals.specs.Lent.{over}
 use Rattle.floats.specs.Pick.{pick}
 use Rattle.floats.specs.Numbers.{zero64, minusZero}
 use Rattle.stock.specs.declared.TurnStockSpec.{TurnStockSpec}
 use Rattle.rings.specs.declared.Ring.{Ring}
+use Rattle.rings.specs.declared.Judged.{Judged}
+use Rattle.rings.specs.declared.Judged.the-variants.{Good, Bad}
 use Rattle.rings.specs.Ring.{ring, filled, apart, clip}
 
 -- ---- reading
@@ -75,12 +79,30 @@ countFits e xs n = leb n (roomOf (length xs)) && storeFits e (ringsOf n xs)
 abbrev pub finiteRing : Ring → Bool
 finiteRing q = finite (q .z0) && finite (q .z1) && finite (q .r0) && finite (q .r1)
 
+-- finite and, as given, not empty
+abbrev pub goodRing : Ring → Bool
+goodRing q = finiteRing q && filled q
+
+-- the place of the first that is not good, the first of them at the place k
+unfoldable pub badFrom : ℕ → List Ring → Option ℕ
+badFrom k [] = none
+badFrom k (q ∷ qs) = pick (goodRing q) (badFrom (suc k) qs) (some k)
+
+-- what 10 asks of a move's or the parts' rings: the place of the first whole ring that is not good, else of the one that is broken off
+unfoldable pub badRing : List Float → Option ℕ
+badRing xs = firstOf (badFrom 0 (ringsOf (length xs / 4) xs)) (pick (eqb (length xs % 4) 0) none (some (length xs / 4)))
+
+-- what an answer of rings that are judged says, case by case
+abbrev pub judgedPlace : Judged → Option ℕ
+judgedPlace Good = none
+judgedPlace (Bad k) = some k
+
 -- each is finite and, as given, not empty
 unfoldable pub allGood : List Ring → Bool
 allGood [] = true
 allGood (q ∷ qs) = finiteRing q && filled q && allGood qs
 
--- whole rings, each good: what 10 asks of a move's or the parts' rings
+-- whole rings, each good: no ring is bad (`good-none`, proofs/Bad)
 unfoldable pub ringsGood : List Float → Bool
 ringsGood xs = eqb (length xs % 4) 0 && allGood (ringsOf (length xs / 4) xs)
 

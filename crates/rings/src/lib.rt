@@ -8,9 +8,10 @@
 ghost use mathlib.Core.Path.{_≡_};
 ghost use Prim.Native.Nat.{_*_, _/_, _≤_};
 ghost use lib.ListN.{length};
+ghost use Rattle.refusals.specs.Paper.{placeOr};
 ghost use Rattle.floats.specs.Pick.{pick};
 ghost use Rattle.stock.specs.Spec.{cleanSpec};
-ghost use Rattle.rings.specs.Store.{extentOf, ringsOf, countFits, ringsGood, allGood, raisedBy};
+ghost use Rattle.rings.specs.Store.{extentOf, ringsOf, countFits, badFrom, badRing, judgedPlace, allGood, raisedBy};
 ghost use Rattle.rings.specs.Remove.{StoresAs, removeAllIn, removeRings, removeIn, removeRing, Removes};
 use refusals::LAST_GENERATION;
 use refusals::Refusal;
@@ -35,12 +36,22 @@ pub struct Ring {
 pub enum Removed {
     Stored(usize, u64),
     Refused(Refusal),
+    // at the place of the ring in its list, which is 0
+    RefusedAt(Refusal, usize),
 }
 
 // Rings stored: how many there are then.
 pub enum StoredAs {
     Rings(usize),
     Refused(Refusal),
+    // at the place of the ring in its list
+    RefusedAt(Refusal, usize),
+}
+
+// Whether the rings of a list are good, or the place of the first that is not.
+pub enum Judged {
+    Good,
+    Bad(usize),
 }
 
 // z_min..z_max and 0..outer, -0.0 read as +0.0.
@@ -71,7 +82,7 @@ fn remove_in(e: Ring, rings: &mut [f64], count: usize, generation: u64, ring: Ri
         return Removed::Refused(Refusal::StoredRings);
     }
     if !shape::is_finite_ring(ring) {
-        return Removed::Refused(Refusal::RingOutside);
+        return Removed::RefusedAt(Refusal::RingOutside, 0);
     }
     let c = shape::clipped(e, ring);
     if !shape::is_filled(c) {
@@ -83,6 +94,7 @@ fn remove_in(e: Ring, rings: &mut [f64], count: usize, generation: u64, ring: Ri
     let added = store::add_ring(rings, lent::room_of(rings.len()), count, c);
     match added {
         StoredAs::Refused(r) => Removed::Refused(r),
+        StoredAs::RefusedAt(r, k) => Removed::RefusedAt(r, k),
         StoredAs::Rings(n) => Removed::Stored(n, generation + 1),
     }
 }
@@ -135,6 +147,7 @@ fn remove_all_in(e: Ring, rings: &mut [f64], count: usize, removed: &[f64]) -> S
         match one {
             StoredAs::Rings(m) => n = m,
             StoredAs::Refused(x) => return StoredAs::Refused(x),
+            StoredAs::RefusedAt(x, at) => return StoredAs::RefusedAt(x, at),
         }
         i += 1;
     }
@@ -155,7 +168,8 @@ pub fn remove_rings(
     remove_all_in(extent(spec), rings, count, removed)
 }
 
-// The first n rings are finite and not empty.
+// The first n rings are finite and not empty. This pass has no branch; which ring is not is asked only
+// where one is not.
 fn all_good(rings: &[f64], n: usize) -> bool
     requires { ⌜ 4 * n ≤ length (now rings) ⌝ }
     ensures { λ r. ⌜ r ≡ allGood (ringsOf n (now (rings .entry))) ⌝ }
@@ -170,12 +184,32 @@ fn all_good(rings: &[f64], n: usize) -> bool
     ok
 }
 
-// Whole rings, each finite and not empty: what refusal 10 asks of a move and of parts.
-pub fn rings_good(removed: &[f64]) -> bool
-    ensures { λ r. ⌜ r ≡ ringsGood (now (removed .entry)) ⌝ }
+// The place of the first of n rings that is not finite or is empty; n where there is none.
+fn first_bad(rings: &[f64], n: usize) -> usize
+    requires { ⌜ 4 * n ≤ length (now rings) ⌝ }
+    ensures { λ r. ⌜ r ≡ placeOr n (badFrom 0 (ringsOf n (now (rings .entry)))) ⌝ }
+{
+    let mut i: usize = 0;
+    while i < n {
+        let q = lent::ring_at(rings, i);
+        if !(shape::is_finite_ring(q) & shape::is_filled(q)) {
+            return i;
+        }
+        i += 1;
+    }
+    n
+}
+
+// What refusal 10 asks of a move and of parts: whole rings, each finite and not empty. The place of the
+// first that is not, and else of the one that is broken off.
+pub fn first_bad_ring(removed: &[f64]) -> Judged
+    ensures { λ r. ⌜ judgedPlace r ≡ badRing (now (removed .entry)) ⌝ }
 {
     let n = removed.len();
-    (n % 4 == 0) & all_good(removed, n / 4)
+    if (n % 4 == 0) & all_good(removed, n / 4) {
+        return Judged::Good;
+    }
+    Judged::Bad(first_bad(removed, n / 4))
 }
 
 fn one_if(t: bool) -> usize

@@ -9,7 +9,7 @@ use lib.Ieee.{Float, lt, le}
 use mathlib.Core.List.{List}
 use lib.ListN.{length}
 use borrow.Author.Tests.{leb-true, eqb-true}
-use Rattle.refusals.specs.Paper.{Paper, Reason, answers, refuses, only, demand, onward, onward-answers}
+use Rattle.refusals.specs.Paper.{Paper, Reason, answers, refuses, only, at, demand, demandAt, demandNone, onward, onward-answers}
 use Rattle.refusals.specs.Limits.{cellLimit}
 use Rattle.floats.specs.Numbers.{zero64, usable}
 use Rattle.numbers.specs.Whole.{wholeUp}
@@ -31,6 +31,18 @@ pub demanded : {A : Type 0} (t : Bool) (n : ℕ) (p : Paper A) (a : A) → deman
 unfolding demand
 demanded true n p a h = (refl, h)
 demanded false n p a h = absurd (no-answer (only n) a h)
+
+-- so of a place that is not found
+pub none-demanded : {A : Type 0} (o : Option ℕ) (n : ℕ) (p : Paper A) (a : A) → demandNone o n p ≡ answers a → (o ≡ none) × (p ≡ answers a)
+unfolding demandNone
+none-demanded none n p a h = (refl, h)
+none-demanded (some k) n p a h = absurd (no-answer (at n k) a h)
+
+-- and of one test of a list
+pub demanded-at : {A : Type 0} (t : Bool) (n k : ℕ) (p : Paper A) (a : A) → demandAt t n k p ≡ answers a → (t ≡ true) × (p ≡ answers a)
+unfolding demandAt
+demanded-at true n k p a h = (refl, h)
+demanded-at false n k p a h = absurd (no-answer (at n k) a h)
 
 -- both of two tests that hold together
 pub and-both : (a b : Bool) → (a && b) ≡ true → (a ≡ true) × (b ≡ true)

@@ -6,3 +6,4 @@ pub mod Stored
 pub mod EachFits
 pub mod SameCells
 pub mod Passes
+pub mod Places

@@ -20,9 +20,9 @@ startOf s i = s .«z_min_mm» +₆₄ (ofInt binary64 (pos i) *₆₄ s .«cell_
 unfoldable pub binOf : TurnStockSpec → ℕ → ZRange
 binOf s i = record { za = startOf s i; zb = leastOf (startOf s i +₆₄ s .«cell_mm») (s .«z_max_mm») }
 
--- the range of bin i; 1, 2, then 9 for an index of n or more
+-- the range of bin i; 1, 2, then 21 for an index of n or more, of no place: there is no list
 unfoldable pub binFor : TurnStockSpec → ℕ → Paper ZRange
-binFor spec i = onward (cellsOf spec) (λ n. demand (ltb i n) 9 (answers (binOf (cleanSpec spec) i)))
+binFor spec i = onward (cellsOf spec) (λ n. demand (ltb i n) 21 (answers (binOf (cleanSpec spec) i)))
 
 -- what the answer of `bin` says, case by case
 abbrev pub binnedPaper : Binned → Paper ZRange

@@ -134,7 +134,7 @@ pub fn bin_of(s: TurnStockSpec, i: usize) -> ZRange
     }
 }
 
-// The z range of bin i; 1, 2, 9.
+// The z range of bin i; 1, 2, 21.
 pub fn bin(spec: TurnStockSpec, i: usize) -> Binned
     ensures { λ r. ⌜ binnedPaper r ≡ binFor spec i ⌝ }
 {
@@ -145,7 +145,7 @@ pub fn bin(spec: TurnStockSpec, i: usize) -> Binned
             if i < n {
                 return Binned::At(bin_of(clean_spec(spec), i));
             }
-            Binned::Refused(Refusal::ChangeDoesNotApply)
+            Binned::Refused(Refusal::NoSuchBin)
         }
     }
 }

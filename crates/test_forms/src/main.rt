@@ -89,6 +89,12 @@ fn say(answer: Applied) {
             io::write_all(1, b"\n");
         }
         Applied::Refused(r) => say_no(r),
+        Applied::RefusedAt(r, k) => {
+            io::write_all(1, b"change ");
+            io::print_decimal(1, k as u64);
+            io::write_all(1, b" ");
+            say_no(r);
+        }
     }
 }
 

@@ -63,6 +63,18 @@ pub fn answer(words: &[u64; LIMIT], i: usize, s: Said) -> Mark {
     }
 }
 
+// What stands in *position before a call.
+pub const UNTOLD: usize = 7777777;
+
+// The place of a refusal that told one.
+pub fn place(words: &[u64; LIMIT], m: Mark, position: usize) -> Mark {
+    let told = position != UNTOLD;
+    Mark {
+        at: words::after(m.at, words::only(1, told)),
+        ok: m.ok & (!told | (words::at(words, m.at, 0) == position as u64)),
+    }
+}
+
 // Where they are asked: how many, and n numbers.
 pub fn list(words: &[u64; LIMIT], m: Mark, asked: bool, count: u64, n: u64, xs: &[f64]) -> Mark {
     let i = words::after(m.at, words::only(1, asked));

@@ -196,6 +196,7 @@ pub fn change(
     records: &[f64],
     count: &mut usize,
     generation: &mut u64,
+    position: &mut usize,
 ) -> u32 {
     match kind {
         table::NEW => turning::turning_new(
@@ -219,6 +220,7 @@ pub fn change(
             indices,
             records,
             g.changes,
+            position,
         ),
         table::REMOVE_RING => turning::turning_remove_ring(
             g.z_min,
@@ -234,6 +236,7 @@ pub fn change(
             g.y,
             g.z,
             g.w,
+            position,
         ),
         table::APPLY_MOVE => turning::turning_apply_move(
             g.z_min,
@@ -250,6 +253,7 @@ pub fn change(
             records,
             g.changes,
             points,
+            position,
         ),
         table::SEGMENTS => turning::turning_segments(cells, g.x, rings, count),
         _ => turning::turning_from_parts(
@@ -263,6 +267,7 @@ pub fn change(
             points,
             rings,
             count,
+            position,
         ),
     }
 }

@@ -73,13 +73,15 @@ fn listed(words: &[u64; LIMIT], kind: usize, p: Places, g: Given) -> Mark {
     changes(words, p.answer, s, i, r)
 }
 
-// What a call that writes a stock answered. A refusal leaves all as it was given.
+// What a call that writes a stock answered. A refusal leaves all as it was given, but for the place that
+// it tells.
 fn stock(
     words: &[u64; LIMIT],
     kind: usize,
     p: Places,
     g: Given,
     s: Said,
+    position: usize,
     cells: &[f64],
     rings: &[f64],
 ) -> Mark {
@@ -88,7 +90,7 @@ fn stock(
     let c = done & (kind != table::REMOVE_RING) & (kind != table::FROM_PARTS) & !chords;
     let r = done & (kind != table::APPLY) & (kind != table::NEW);
     let n = cells.len() as u64;
-    let m = answers::answer(words, p.answer, s);
+    let m = answers::place(words, answers::answer(words, p.answer, s), position);
     let i = answers::list(words, m, c, n, n, cells);
     let q = answers::list(words, i, r & !chords, s.m, 4 * (s.m % 65536), rings);
     let k = answers::list(words, q, r & chords, s.m, 5 * (s.m % 65536), rings);
@@ -118,9 +120,10 @@ fn changed(words: &[u64; LIMIT], kind: usize, p: Places, g: Given) -> Mark {
     let t = given::lent(words, room, 3, BY_EIGHT, &mut records);
     let mut n = g.size;
     let mut m = g.rings;
-    let code = calls::change(kind, g, c, q, r, i, t, &mut m, &mut n);
+    let mut position = answers::UNTOLD;
+    let code = calls::change(kind, g, c, q, r, i, t, &mut m, &mut n, &mut position);
     let s = said(kind, code, n, m as u64, false, 0.0, 0.0);
-    stock(words, kind, p, g, s, c, r)
+    stock(words, kind, p, g, s, position, c, r)
 }
 
 // Replays the call of a line, and says how far that is as recorded.

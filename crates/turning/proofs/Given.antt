@@ -8,7 +8,7 @@ use lib.Ieee.{Float}
 use borrow.Author.Tests.{eq-eqb, ne-eqb}
 use Rattle.floats.specs.Pick.{picks}
 use Rattle.refusals.specs.declared.Refusal.{Refusal}
-use Rattle.refusals.specs.Number.{numberOf, reasonOf}
+use Rattle.refusals.specs.Number.{numberOf, reasonOf, reasonAt}
 use Rattle.refusals.specs.Paper.{Paper, answers, refuses, only, onward}
 use Rattle.stock.specs.declared.TurnStockSpec.{TurnStockSpec}
 use Rattle.stock.specs.declared.TurnChange.{TurnChange}
@@ -36,11 +36,27 @@ use Rattle.profile.specs.Chords.{Chord, choppedPaper, segmentsOf, Segmented}
 use Rattle.moves.specs.declared.Moved.{Moved}
 use Rattle.moves.specs.Move as Move
 use Rattle.moves.specs.Move.{Left, movedPaper, Moves}
-use Rattle.turning.specs.Boundary.{codeOf, outOf, Gives, GivesBin, GivesCells, GivesChanges, GivesStock, bySide, GivesTwo, GivesRings, GivesMove, GivesStore, GivesChords, GivesFound, GivesFoundTwo}
+use Rattle.turning.specs.Boundary.{codeOf, outOf, placeOut, Gives, GivesPlace, GivesBin, GivesCells, GivesChanges, GivesStock, bySide, GivesTwo, GivesTwoPlace, GivesRings, GivesMove, GivesStore, GivesChords, GivesFound, GivesFoundTwo}
 
 -- a refusal hands out its number and nothing else, whatever its number is
 pub gives-refused : {A : Type 0} (p : Paper A) (c : Refusal) (r : ℕ) (x : A) → p ≡ refuses (reasonOf c) → r ≡ numberOf c → Gives p r x x
 gives-refused {A} p c r x e h = record { code = h ∙ ap codeOf (sym e); out = ap (λ (q : Paper A). outOf (λ (a : A). a) q x) (sym e) }
+
+-- the same of a call that has a place for a refusal: of a number that has none it stays
+pub place-refused : {A : Type 0} (p : Paper A) (c : Refusal) (r : ℕ) (x : A) (k : ℕ) → p ≡ refuses (reasonOf c) → r ≡ numberOf c → GivesPlace p r x x k k
+place-refused {A} p c r x k e h = record { code = h ∙ ap codeOf (sym e); out = ap (λ (q : Paper A). outOf (λ (a : A). a) q x) (sym e); position = ap (λ (q : Paper A). placeOut q k) (sym e) }
+
+pub place-given : {A : Type 0} (p : Paper A) (c : Refusal) (j r : ℕ) (x : A) (k : ℕ) → p ≡ refuses (reasonAt c j) → r ≡ numberOf c → GivesPlace p r x x k j
+place-given {A} p c j r x k e h = record { code = h ∙ ap codeOf (sym e); out = ap (λ (q : Paper A). outOf (λ (a : A). a) q x) (sym e); position = ap (λ (q : Paper A). placeOut q k) (sym e) }
+
+module _ {A B C : Type 0} (f : A → B) (g : A → C) where
+  pub two-refused : (p : Paper A) (c : Refusal) (r : ℕ) (x : B) (y : C) (k : ℕ) → p ≡ refuses (reasonOf c) → r ≡ numberOf c → GivesTwoPlace f g p r x x y y k k
+  two-refused p c r x y k e h =
+      record { code = h ∙ ap codeOf (sym e); one = ap (λ (q : Paper A). outOf f q x) (sym e); other = ap (λ (q : Paper A). outOf g q y) (sym e); position = ap (λ (q : Paper A). placeOut q k) (sym e) }
+
+  pub two-given : (p : Paper A) (c : Refusal) (j r : ℕ) (x : B) (y : C) (k : ℕ) → p ≡ refuses (reasonAt c j) → r ≡ numberOf c → GivesTwoPlace f g p r x x y y k j
+  two-given p c j r x y k e h =
+      record { code = h ∙ ap codeOf (sym e); one = ap (λ (q : Paper A). outOf f q x) (sym e); other = ap (λ (q : Paper A). outOf g q y) (sym e); position = ap (λ (q : Paper A). placeOut q k) (sym e) }
 
 -- an answer that says what the rule says
 pub gives : {A : Type 0} (p q : Paper A) (r : ℕ) (x x' : A) → p ≡ q → Gives p r x x' → Gives q r x x'
@@ -68,13 +84,18 @@ gives-changes p a r k k' is is' xs xs' g q = record {
     same-count (answers l) = refl
     same-count (refuses n) = refl
 
-pub gives-stock : (p : Paper Committed) (a : Applied) (r : ℕ) (cs cs' : List Float) (g g' : ℕ) → Gives (appliedPaper a) r g g' → Applies p a cs cs' → GivesStock p r cs cs' g g'
-gives-stock p a r cs cs' g g' h q = record {
+pub gives-stock : (p : Paper Committed) (a : Applied) (r : ℕ) (cs cs' : List Float) (g g' j j' : ℕ) → GivesPlace (appliedPaper a) r g g' j j' → Applies p a cs cs' → GivesStock p r cs cs' g g' j j'
+gives-stock p a r cs cs' g g' j j' h q = record {
   code = h .code ∙ ap codeOf (q .answer) ∙ same-code p;
   cells = q .cells;
   generation = h .out ∙ ap (λ (z : Paper ℕ). outOf (λ (n : ℕ). n) z g) (q .answer) ∙ same-generation p;
+  position = h .position ∙ ap (λ (z : Paper ℕ). placeOut z j) (q .answer) ∙ same-place p;
 }
   where
+    same-place : (p : Paper Committed) → placeOut (generationOf p) j ≡ placeOut p j
+    same-place (answers k) = refl
+    same-place (refuses n) = refl
+
     same-code : (p : Paper Committed) → codeOf (generationOf p) ≡ codeOf p
     same-code (answers k) = refl
     same-code (refuses n) = refl
@@ -92,15 +113,20 @@ gives-found p q r f f' x x' e g = subst (λ z. GivesFound z r f f' x x') e g
 pub gives-found-two : {A : Type 0} (first second : A → Float) (p q : Paper (Option A)) (r f f' : ℕ) (x x' y y' : Float) → p ≡ q → GivesFoundTwo first second p r f f' x x' y y' → GivesFoundTwo first second q r f f' x x' y y'
 gives-found-two first second p q r f f' x x' y y' e g = subst (λ z. GivesFoundTwo first second z r f f' x x' y y') e g
 
-pub gives-rings : (p : Paper RingStore) (a : Removed) (r : ℕ) (xs xs' : List Float) (k k' g g' : ℕ) → GivesTwo (λ (c : RingCount). c .rings) (λ (c : RingCount). c .generation) (removedPaper a) r k k' g g' → Removes xs p a xs' → GivesRings p r xs xs' k k' g g'
+pub gives-rings : (p : Paper RingStore) (a : Removed) (r : ℕ) (xs xs' : List Float) (k k' g g' j j' : ℕ) → GivesTwoPlace (λ (c : RingCount). c .rings) (λ (c : RingCount). c .generation) (removedPaper a) r k k' g g' j j' → Removes xs p a xs' → GivesRings p r xs xs' k k' g g' j j'
 unfolding countsOf onward
-gives-rings p a r xs xs' k k' g g' h q = record {
+gives-rings p a r xs xs' k k' g g' j j' h q = record {
   code = h .code ∙ ap codeOf (q .answer) ∙ same-code p;
   rings = q .store;
   count = h .one ∙ ap (λ (z : Paper RingCount). outOf (λ (c : RingCount). c .rings) z k) (q .answer) ∙ same-count p;
   generation = h .other ∙ ap (λ (z : Paper RingCount). outOf (λ (c : RingCount). c .generation) z g) (q .answer) ∙ same-generation p;
+  position = h .position ∙ ap (λ (z : Paper RingCount). placeOut z j) (q .answer) ∙ same-place p;
 }
   where
+    same-place : (p : Paper RingStore) → placeOut (countsOf p) j ≡ placeOut p j
+    same-place (answers s) = refl
+    same-place (refuses n) = refl
+
     same-code : (p : Paper RingStore) → codeOf (countsOf p) ≡ codeOf p
     same-code (answers s) = refl
     same-code (refuses n) = refl
@@ -113,15 +139,20 @@ gives-rings p a r xs xs' k k' g g' h q = record {
     same-generation (answers s) = refl
     same-generation (refuses n) = refl
 
-pub gives-move : (p : Paper Left) (a : Moved) (r : ℕ) (cs cs' xs xs' : List Float) (k k' g g' : ℕ) → GivesTwo (λ (c : RingCount). c .rings) (λ (c : RingCount). c .generation) (movedPaper a) r k k' g g' → Moves p a cs cs' xs xs' → GivesMove p r cs cs' xs xs' k k' g g'
-gives-move p a r cs cs' xs xs' k k' g g' h q = record {
+pub gives-move : (p : Paper Left) (a : Moved) (r : ℕ) (cs cs' xs xs' : List Float) (k k' g g' j j' : ℕ) → GivesTwoPlace (λ (c : RingCount). c .rings) (λ (c : RingCount). c .generation) (movedPaper a) r k k' g g' j j' → Moves p a cs cs' xs xs' → GivesMove p r cs cs' xs xs' k k' g g' j j'
+gives-move p a r cs cs' xs xs' k k' g g' j j' h q = record {
   code = h .code ∙ ap codeOf (q .answer) ∙ same-code p;
   cells = q .cells;
   rings = q .rings;
   count = h .one ∙ ap (λ (z : Paper RingCount). outOf (λ (c : RingCount). c .rings) z k) (q .answer) ∙ same-count p;
   generation = h .other ∙ ap (λ (z : Paper RingCount). outOf (λ (c : RingCount). c .generation) z g) (q .answer) ∙ same-generation p;
+  position = h .position ∙ ap (λ (z : Paper RingCount). placeOut z j) (q .answer) ∙ same-place p;
 }
   where
+    same-place : (p : Paper Left) → placeOut (Move.countsOf p) j ≡ placeOut p j
+    same-place (answers s) = refl
+    same-place (refuses n) = refl
+
     same-code : (p : Paper Left) → codeOf (Move.countsOf p) ≡ codeOf p
     same-code (answers s) = refl
     same-code (refuses n) = refl
@@ -134,14 +165,19 @@ gives-move p a r cs cs' xs xs' k k' g g' h q = record {
     same-generation (answers s) = refl
     same-generation (refuses n) = refl
 
-pub gives-store : (p : Paper (List Ring)) (a : StoredAs) (r : ℕ) (xs xs' : List Float) (k k' : ℕ) → Gives (storedPaper a) r k k' → StoresAs xs p a xs' → GivesStore p r xs xs' k k'
+pub gives-store : (p : Paper (List Ring)) (a : StoredAs) (r : ℕ) (xs xs' : List Float) (k k' j j' : ℕ) → GivesPlace (storedPaper a) r k k' j j' → StoresAs xs p a xs' → GivesStore p r xs xs' k k' j j'
 unfolding Remove.countOf onward
-gives-store p a r xs xs' k k' h q = record {
+gives-store p a r xs xs' k k' j j' h q = record {
   code = h .code ∙ ap codeOf (q .answer) ∙ same-code p;
   rings = q .store;
   count = h .out ∙ ap (λ (z : Paper ℕ). outOf (λ (n : ℕ). n) z k) (q .answer) ∙ same-count p;
+  position = h .position ∙ ap (λ (z : Paper ℕ). placeOut z j) (q .answer) ∙ same-place p;
 }
   where
+    same-place : (p : Paper (List Ring)) → placeOut (Remove.countOf p) j ≡ placeOut p j
+    same-place (answers l) = refl
+    same-place (refuses n) = refl
+
     same-code : (p : Paper (List Ring)) → codeOf (Remove.countOf p) ≡ codeOf p
     same-code (answers l) = refl
     same-code (refuses n) = refl

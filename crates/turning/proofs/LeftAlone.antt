@@ -7,7 +7,7 @@ use Prim.Native.Nat.{ℕ, _<_}
 use native.Mathlib.Omega.{arith}
 use lib.ListN.{length}
 use lib.Ieee.{Float}
-use Rattle.refusals.specs.Paper.{Paper, Reason, answers, refuses, onward}
+use Rattle.refusals.specs.Paper.{Paper, Reason, answers, refuses, only, at, onward}
 use Rattle.refusals.specs.Lent.{over}
 use Rattle.stock.specs.declared.TurnStockSpec.{TurnStockSpec}
 use Rattle.stock.specs.declared.TurnChange.{TurnChange}
@@ -18,7 +18,7 @@ use Rattle.rings.specs.declared.Ring.{Ring}
 use Rattle.rings.specs.Remove.{RingStore, ringsAfter}
 use Rattle.moves.specs.Move.{Left}
 use Rattle.profile.specs.Chords.{Chord, flatOf, writtenOf}
-use Rattle.turning.specs.Boundary.{codeOf, Gives, GivesBin, GivesCells, GivesChanges, GivesStock, GivesTwo, GivesRings, GivesMove, GivesStore, GivesChords, GivesFound, GivesFoundTwo}
+use Rattle.turning.specs.Boundary.{codeOf, placeOut, Gives, GivesBin, GivesCells, GivesChanges, GivesStock, GivesTwo, GivesRings, GivesMove, GivesStore, GivesChords, GivesFound, GivesFoundTwo}
 
 no-code : {r : ℕ} → r ≡ 0 → 0 < r → ⊥
 no-code e h = omega arith
@@ -54,26 +54,36 @@ unfolding over numbersOf
 changes-left (answers l) r k k' is is' xs xs' g h = absurd (no-code (g .code) h)
 changes-left (refuses n) r k k' is is' xs xs' g h = (g .count, g .indices, g .numbers)
 
+-- *position alone is written by a refusal: with the place of one that has it, else it stays, and where a call is accepted too
+pub place-stays : {A : Type 0} (p : Paper A) (a : A) (q : ℕ) → p ≡ answers a → placeOut p q ≡ q
+place-stays {A} p a q e = ap (λ (x : Paper A). placeOut x q) e
+
+pub place-none : {A : Type 0} (p : Paper A) (n q : ℕ) → p ≡ refuses (only n) → placeOut p q ≡ q
+place-none {A} p n q e = ap (λ (x : Paper A). placeOut x q) e
+
+pub place-told : {A : Type 0} (p : Paper A) (n k q : ℕ) → p ≡ refuses (at n k) → placeOut p q ≡ k
+place-told {A} p n k q e = ap (λ (x : Paper A). placeOut x q) e
+
 -- `turning_apply`: the cells and the generation
-pub stock-left : (p : Paper Committed) (r : ℕ) (cs cs' : List Float) (k k' : ℕ) → GivesStock p r cs cs' k k' → 0 < r → (cs' ≡ cs) × (k' ≡ k)
-stock-left (answers m) r cs cs' k k' g h = absurd (no-code (g .code) h)
-stock-left (refuses n) r cs cs' k k' g h = (g .cells, g .generation)
+pub stock-left : (p : Paper Committed) (r : ℕ) (cs cs' : List Float) (k k' q q' : ℕ) → GivesStock p r cs cs' k k' q q' → 0 < r → (cs' ≡ cs) × (k' ≡ k)
+stock-left (answers m) r cs cs' k k' q q' g h = absurd (no-code (g .code) h)
+stock-left (refuses n) r cs cs' k k' q q' g h = (g .cells, g .generation)
 
 -- `turning_remove_ring`: the rings, their count and the generation
-pub rings-left : (p : Paper RingStore) (r : ℕ) (xs xs' : List Float) (k k' j j' : ℕ) → GivesRings p r xs xs' k k' j j' → 0 < r → (xs' ≡ xs) × (k' ≡ k) × (j' ≡ j)
+pub rings-left : (p : Paper RingStore) (r : ℕ) (xs xs' : List Float) (k k' j j' q q' : ℕ) → GivesRings p r xs xs' k k' j j' q q' → 0 < r → (xs' ≡ xs) × (k' ≡ k) × (j' ≡ j)
 unfolding ringsAfter onward
-rings-left (answers s) r xs xs' k k' j j' g h = absurd (no-code (g .code) h)
-rings-left (refuses n) r xs xs' k k' j j' g h = (g .rings, g .count, g .generation)
+rings-left (answers s) r xs xs' k k' j j' q q' g h = absurd (no-code (g .code) h)
+rings-left (refuses n) r xs xs' k k' j j' q q' g h = (g .rings, g .count, g .generation)
 
 -- `turning_apply_move`: the cells, the rings, their count and the generation
-pub move-left : (p : Paper Left) (r : ℕ) (cs cs' xs xs' : List Float) (k k' j j' : ℕ) → GivesMove p r cs cs' xs xs' k k' j j' → 0 < r → (cs' ≡ cs) × (xs' ≡ xs) × (k' ≡ k) × (j' ≡ j)
-move-left (answers a) r cs cs' xs xs' k k' j j' g h = absurd (no-code (g .code) h)
-move-left (refuses n) r cs cs' xs xs' k k' j j' g h = (g .cells, g .rings, g .count, g .generation)
+pub move-left : (p : Paper Left) (r : ℕ) (cs cs' xs xs' : List Float) (k k' j j' q q' : ℕ) → GivesMove p r cs cs' xs xs' k k' j j' q q' → 0 < r → (cs' ≡ cs) × (xs' ≡ xs) × (k' ≡ k) × (j' ≡ j)
+move-left (answers a) r cs cs' xs xs' k k' j j' q q' g h = absurd (no-code (g .code) h)
+move-left (refuses n) r cs cs' xs xs' k k' j j' q q' g h = (g .cells, g .rings, g .count, g .generation)
 
 -- `turning_from_parts`: the rings and their count
-pub store-left : (p : Paper (List Ring)) (r : ℕ) (xs xs' : List Float) (k k' : ℕ) → GivesStore p r xs xs' k k' → 0 < r → (xs' ≡ xs) × (k' ≡ k)
-store-left (answers l) r xs xs' k k' g h = absurd (no-code (g .code) h)
-store-left (refuses n) r xs xs' k k' g h = (g .rings, g .count)
+pub store-left : (p : Paper (List Ring)) (r : ℕ) (xs xs' : List Float) (k k' q q' : ℕ) → GivesStore p r xs xs' k k' q q' → 0 < r → (xs' ≡ xs) × (k' ≡ k)
+store-left (answers l) r xs xs' k k' q q' g h = absurd (no-code (g .code) h)
+store-left (refuses n) r xs xs' k k' q q' g h = (g .rings, g .count)
 
 -- `turning_segments`: the chords and their count
 pub chords-left : (p : Paper (List Chord)) (r : ℕ) (xs xs' : List Float) (k k' : ℕ) → GivesChords p r xs xs' k k' → 0 < r → (xs' ≡ xs) × (k' ≡ k)

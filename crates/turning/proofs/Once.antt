@@ -2,6 +2,7 @@
 -- out-parameter and each lent buffer. Assumes nothing.
 --
 -- Each call of include/turning.h, by the law that covers it:
+--   header-once           turning_header
 --   gives-once            turning_root, turning_length, turning_validate, turning_envelope_order
 --   gives-two-once        turning_volume, turning_within
 --   gives-bin-once        turning_bin
@@ -37,6 +38,10 @@ use Rattle.job_run.specs.Run.{State, Hold}
 use Rattle.turning.specs.Jobs.{TakesJob, EndsJob, WritesJob}
 use Rattle.turning.specs.Boundary.{Gives, GivesTwo, GivesBin, GivesCells, GivesChanges, GivesStock, GivesRings, GivesMove, GivesStore, GivesChords, GivesFound, GivesFoundTwo}
 
+-- the number of the header
+pub header-once : (r r' : ℕ) → r ≡ 2 → r' ≡ 2 → r ≡ r'
+header-once r r' a b = a ∙ sym b
+
 -- one number
 pub gives-once : {A : Type 0} (p : Paper A) (r r' : ℕ) (x x₁ x₂ : A) → Gives p r x x₁ → Gives p r' x x₂ → (r ≡ r') × (x₁ ≡ x₂)
 gives-once p r r' x x₁ x₂ a b = (a .code ∙ sym (b .code), a .out ∙ sym (b .out))
@@ -58,21 +63,22 @@ pub gives-changes-once : (p : Paper (List TurnChange)) (r r' k k₁ k₂ : ℕ) 
 gives-changes-once p r r' k k₁ k₂ is is₁ is₂ xs xs₁ xs₂ a b = (a .code ∙ sym (b .code), a .count ∙ sym (b .count), a .indices ∙ sym (b .indices), a .numbers ∙ sym (b .numbers))
 
 -- the cells and the generation
-pub gives-stock-once : (p : Paper Committed) (r r' : ℕ) (cs cs₁ cs₂ : List Float) (g g₁ g₂ : ℕ) → GivesStock p r cs cs₁ g g₁ → GivesStock p r' cs cs₂ g g₂ → (r ≡ r') × (cs₁ ≡ cs₂) × (g₁ ≡ g₂)
-gives-stock-once p r r' cs cs₁ cs₂ g g₁ g₂ a b = (a .code ∙ sym (b .code), a .cells ∙ sym (b .cells), a .generation ∙ sym (b .generation))
+pub gives-stock-once : (p : Paper Committed) (r r' : ℕ) (cs cs₁ cs₂ : List Float) (g g₁ g₂ q q₁ q₂ : ℕ) → GivesStock p r cs cs₁ g g₁ q q₁ → GivesStock p r' cs cs₂ g g₂ q q₂ → (r ≡ r') × (cs₁ ≡ cs₂) × (g₁ ≡ g₂) × (q₁ ≡ q₂)
+gives-stock-once p r r' cs cs₁ cs₂ g g₁ g₂ q q₁ q₂ a b = (a .code ∙ sym (b .code), a .cells ∙ sym (b .cells), a .generation ∙ sym (b .generation), a .position ∙ sym (b .position))
 
 -- the rings, their count and the generation
-pub gives-rings-once : (p : Paper RingStore) (r r' : ℕ) (xs xs₁ xs₂ : List Float) (k k₁ k₂ g g₁ g₂ : ℕ) → GivesRings p r xs xs₁ k k₁ g g₁ → GivesRings p r' xs xs₂ k k₂ g g₂ → (r ≡ r') × (xs₁ ≡ xs₂) × (k₁ ≡ k₂) × (g₁ ≡ g₂)
-gives-rings-once p r r' xs xs₁ xs₂ k k₁ k₂ g g₁ g₂ a b = (a .code ∙ sym (b .code), a .rings ∙ sym (b .rings), a .count ∙ sym (b .count), a .generation ∙ sym (b .generation))
+pub gives-rings-once : (p : Paper RingStore) (r r' : ℕ) (xs xs₁ xs₂ : List Float) (k k₁ k₂ g g₁ g₂ q q₁ q₂ : ℕ) → GivesRings p r xs xs₁ k k₁ g g₁ q q₁ → GivesRings p r' xs xs₂ k k₂ g g₂ q q₂ → (r ≡ r') × (xs₁ ≡ xs₂) × (k₁ ≡ k₂) × (g₁ ≡ g₂) × (q₁ ≡ q₂)
+gives-rings-once p r r' xs xs₁ xs₂ k k₁ k₂ g g₁ g₂ q q₁ q₂ a b =
+    (a .code ∙ sym (b .code), a .rings ∙ sym (b .rings), a .count ∙ sym (b .count), a .generation ∙ sym (b .generation), a .position ∙ sym (b .position))
 
 -- the cells, the rings, their count and the generation
-pub gives-move-once : (p : Paper Left) (r r' : ℕ) (cs cs₁ cs₂ xs xs₁ xs₂ : List Float) (k k₁ k₂ g g₁ g₂ : ℕ) → GivesMove p r cs cs₁ xs xs₁ k k₁ g g₁ → GivesMove p r' cs cs₂ xs xs₂ k k₂ g g₂ → (r ≡ r') × (cs₁ ≡ cs₂) × (xs₁ ≡ xs₂) × (k₁ ≡ k₂) × (g₁ ≡ g₂)
-gives-move-once p r r' cs cs₁ cs₂ xs xs₁ xs₂ k k₁ k₂ g g₁ g₂ a b =
-    (a .code ∙ sym (b .code), a .cells ∙ sym (b .cells), a .rings ∙ sym (b .rings), a .count ∙ sym (b .count), a .generation ∙ sym (b .generation))
+pub gives-move-once : (p : Paper Left) (r r' : ℕ) (cs cs₁ cs₂ xs xs₁ xs₂ : List Float) (k k₁ k₂ g g₁ g₂ q q₁ q₂ : ℕ) → GivesMove p r cs cs₁ xs xs₁ k k₁ g g₁ q q₁ → GivesMove p r' cs cs₂ xs xs₂ k k₂ g g₂ q q₂ → (r ≡ r') × (cs₁ ≡ cs₂) × (xs₁ ≡ xs₂) × (k₁ ≡ k₂) × (g₁ ≡ g₂) × (q₁ ≡ q₂)
+gives-move-once p r r' cs cs₁ cs₂ xs xs₁ xs₂ k k₁ k₂ g g₁ g₂ q q₁ q₂ a b =
+    (a .code ∙ sym (b .code), a .cells ∙ sym (b .cells), a .rings ∙ sym (b .rings), a .count ∙ sym (b .count), a .generation ∙ sym (b .generation), a .position ∙ sym (b .position))
 
 -- the rings and their count
-pub gives-store-once : (p : Paper (List Ring)) (r r' : ℕ) (xs xs₁ xs₂ : List Float) (k k₁ k₂ : ℕ) → GivesStore p r xs xs₁ k k₁ → GivesStore p r' xs xs₂ k k₂ → (r ≡ r') × (xs₁ ≡ xs₂) × (k₁ ≡ k₂)
-gives-store-once p r r' xs xs₁ xs₂ k k₁ k₂ a b = (a .code ∙ sym (b .code), a .rings ∙ sym (b .rings), a .count ∙ sym (b .count))
+pub gives-store-once : (p : Paper (List Ring)) (r r' : ℕ) (xs xs₁ xs₂ : List Float) (k k₁ k₂ q q₁ q₂ : ℕ) → GivesStore p r xs xs₁ k k₁ q q₁ → GivesStore p r' xs xs₂ k k₂ q q₂ → (r ≡ r') × (xs₁ ≡ xs₂) × (k₁ ≡ k₂) × (q₁ ≡ q₂)
+gives-store-once p r r' xs xs₁ xs₂ k k₁ k₂ q q₁ q₂ a b = (a .code ∙ sym (b .code), a .rings ∙ sym (b .rings), a .count ∙ sym (b .count), a .position ∙ sym (b .position))
 
 -- the chords and their count
 pub gives-chords-once : (p : Paper (List Chord)) (r r' : ℕ) (xs xs₁ xs₂ : List Float) (k k₁ k₂ : ℕ) → GivesChords p r xs xs₁ k k₁ → GivesChords p r' xs xs₂ k k₂ → (r ≡ r') × (xs₁ ≡ xs₂) × (k₁ ≡ k₂)

@@ -11,7 +11,7 @@ use denote.Triple.Both.{Both}
 use Rattle.floats.specs.Pick.{pick}
 use Rattle.refusals.specs.declared.Refusal.{Refusal}
 use Rattle.refusals.specs.Number.{reasonOf}
-use Rattle.refusals.specs.Paper.{Paper, answers, refuses, only, onward}
+use Rattle.refusals.specs.Paper.{Paper, answers, refuses, only, placeOr, onward}
 use Rattle.refusals.specs.Lent.{Lent, over}
 use Rattle.stock.specs.declared.TurnStockSpec.{TurnStockSpec}
 use Rattle.stock.specs.declared.TurnChange.{TurnChange}
@@ -39,6 +39,11 @@ abbrev pub outOf : {A B : Type 0} → (A → B) → Paper A → B → B
 outOf f (answers a) b = f a
 outOf f (refuses n) b = b
 
+-- *position: the place of a refusal that has one, or as it was
+abbrev pub placeOut : {A : Type 0} → Paper A → ℕ → ℕ
+placeOut (answers a) k = k
+placeOut (refuses n) k = placeOr k (n .place)
+
 -- a spec's six numbers, in the order of the header
 abbrev pub specFrom : Float → Float → Float → Float → Float → ℕ → TurnStockSpec
 specFrom zmin zmax outer bore cell most =
@@ -55,6 +60,12 @@ specFrom zmin zmax outer bore cell most =
 pub record Gives {A : Type 0} (p : Paper A) (r : ℕ) (x x' : A) : Type 0 where
   pub code : r ≡ codeOf p
   pub out : x' ≡ outOf (λ (a : A). a) p x
+
+-- the same, and the place of a refusal
+pub record GivesPlace {A : Type 0} (p : Paper A) (r : ℕ) (x x' : A) (q q' : ℕ) : Type 0 where
+  pub code : r ≡ codeOf p
+  pub out : x' ≡ outOf (λ (a : A). a) p x
+  pub position : q' ≡ placeOut p q
 
 -- a bin's two ends out
 pub record GivesBin (p : Paper ZRange) (r : ℕ) (za za' zb zb' : Float) : Type 0 where
@@ -74,11 +85,12 @@ pub record GivesChanges (p : Paper (List TurnChange)) (r k k' : ℕ) (is is' : L
   pub indices : is' ≡ over (indicesOf (writtenOf p)) is
   pub numbers : xs' ≡ over (numbersOf (writtenOf p)) xs
 
--- the cells and the generation after a commit
-pub record GivesStock (p : Paper Committed) (r : ℕ) (cs cs' : List Float) (g g' : ℕ) : Type 0 where
+-- the cells and the generation after a commit, and the place of a refusal
+pub record GivesStock (p : Paper Committed) (r : ℕ) (cs cs' : List Float) (g g' q q' : ℕ) : Type 0 where
   pub code : r ≡ codeOf p
   pub cells : cs' ≡ cellsAfter p cs
   pub generation : g' ≡ outOf (λ (k : Committed). k .generation) p g
+  pub position : q' ≡ placeOut p q
 
 -- ---- a side's number
 
@@ -105,26 +117,36 @@ pub record GivesTwo {A B C : Type 0} (first : A → B) (second : A → C) (p : P
   pub one : x' ≡ outOf first p x
   pub other : y' ≡ outOf second p y
 
--- the rings, their count and the generation
-pub record GivesRings (p : Paper RingStore) (r : ℕ) (xs xs' : List Float) (k k' g g' : ℕ) : Type 0 where
+-- the same, and the place of a refusal
+pub record GivesTwoPlace {A B C : Type 0} (first : A → B) (second : A → C) (p : Paper A) (r : ℕ) (x x' : B) (y y' : C) (q q' : ℕ) : Type 0 where
+  pub code : r ≡ codeOf p
+  pub one : x' ≡ outOf first p x
+  pub other : y' ≡ outOf second p y
+  pub position : q' ≡ placeOut p q
+
+-- the rings, their count and the generation, and the place of a refusal
+pub record GivesRings (p : Paper RingStore) (r : ℕ) (xs xs' : List Float) (k k' g g' q q' : ℕ) : Type 0 where
   pub code : r ≡ codeOf p
   pub rings : xs' ≡ ringsAfter xs p
   pub count : k' ≡ outOf (λ (s : RingStore). length (s .rings)) p k
   pub generation : g' ≡ outOf (λ (s : RingStore). s .generation) p g
+  pub position : q' ≡ placeOut p q
 
--- the cells, the rings, their count and the generation
-pub record GivesMove (p : Paper Left) (r : ℕ) (cs cs' xs xs' : List Float) (k k' g g' : ℕ) : Type 0 where
+-- the cells, the rings, their count and the generation, and the place of a refusal
+pub record GivesMove (p : Paper Left) (r : ℕ) (cs cs' xs xs' : List Float) (k k' g g' q q' : ℕ) : Type 0 where
   pub code : r ≡ codeOf p
   pub cells : cs' ≡ Move.cellsAfter p cs
   pub rings : xs' ≡ Move.ringsAfter p xs
   pub count : k' ≡ outOf (λ (a : Left). length (a .rings)) p k
   pub generation : g' ≡ outOf (λ (a : Left). a .generation) p g
+  pub position : q' ≡ placeOut p q
 
--- the rings and their count
-pub record GivesStore (p : Paper (List Ring)) (r : ℕ) (xs xs' : List Float) (k k' : ℕ) : Type 0 where
+-- the rings and their count, and the place of a refusal
+pub record GivesStore (p : Paper (List Ring)) (r : ℕ) (xs xs' : List Float) (k k' q q' : ℕ) : Type 0 where
   pub code : r ≡ codeOf p
   pub rings : xs' ≡ storeAfter xs p
   pub count : k' ≡ outOf (λ (l : List Ring). length l) p k
+  pub position : q' ≡ placeOut p q
 
 -- the chords of a profile, over the beginning of the lent numbers, and their count
 pub record GivesChords (p : Paper (List Chord)) (r : ℕ) (xs xs' : List Float) (k k' : ℕ) : Type 0 where
@@ -167,8 +189,14 @@ Out A = Both (RefT A) (RefT A)
 abbrev pub Hands : {A : Type 0} → Paper A → ℕ → Out A → Type 0
 Hands p r x = Gives p r (now (x .entry)) (now (x .exit))
 
+abbrev pub HandsPlace : {A : Type 0} → Paper A → ℕ → Out A → Out ℕ → Type 0
+HandsPlace p r x q = GivesPlace p r (now (x .entry)) (now (x .exit)) (now (q .entry)) (now (q .exit))
+
 abbrev pub HandsTwo : {A B C : Type 0} → (A → B) → (A → C) → Paper A → ℕ → Out B → Out C → Type 0
 HandsTwo first second p r x y = GivesTwo first second p r (now (x .entry)) (now (x .exit)) (now (y .entry)) (now (y .exit))
+
+abbrev pub HandsTwoPlace : {A B C : Type 0} → (A → B) → (A → C) → Paper A → ℕ → Out B → Out C → Out ℕ → Type 0
+HandsTwoPlace first second p r x y q = GivesTwoPlace first second p r (now (x .entry)) (now (x .exit)) (now (y .entry)) (now (y .exit)) (now (q .entry)) (now (q .exit))
 
 abbrev pub HandsBin : Paper ZRange → ℕ → Out Float → Out Float → Type 0
 HandsBin p r za zb = GivesBin p r (now (za .entry)) (now (za .exit)) (now (zb .entry)) (now (zb .exit))
@@ -181,18 +209,19 @@ abbrev pub HandsChanges : (ℕ → Paper (List TurnChange)) → ℕ → Out ℕ 
 HandsChanges rule r count indices records =
     GivesChanges (rule (roomIn indices records)) r (now (count .entry)) (now (count .exit)) (now (indices .entry)) (now (indices .exit)) (now (records .entry)) (now (records .exit))
 
-abbrev pub HandsStock : Paper Committed → ℕ → Lent Float → Out ℕ → Type 0
-HandsStock p r cells generation = GivesStock p r (now (cells .entry)) (now (cells .exit)) (now (generation .entry)) (now (generation .exit))
+abbrev pub HandsStock : Paper Committed → ℕ → Lent Float → Out ℕ → Out ℕ → Type 0
+HandsStock p r cells generation q = GivesStock p r (now (cells .entry)) (now (cells .exit)) (now (generation .entry)) (now (generation .exit)) (now (q .entry)) (now (q .exit))
 
-abbrev pub HandsRings : Paper RingStore → ℕ → Lent Float → Out ℕ → Out ℕ → Type 0
-HandsRings p r rings count generation = GivesRings p r (now (rings .entry)) (now (rings .exit)) (now (count .entry)) (now (count .exit)) (now (generation .entry)) (now (generation .exit))
+abbrev pub HandsRings : Paper RingStore → ℕ → Lent Float → Out ℕ → Out ℕ → Out ℕ → Type 0
+HandsRings p r rings count generation q =
+    GivesRings p r (now (rings .entry)) (now (rings .exit)) (now (count .entry)) (now (count .exit)) (now (generation .entry)) (now (generation .exit)) (now (q .entry)) (now (q .exit))
 
-abbrev pub HandsMove : Paper Left → ℕ → Lent Float → Lent Float → Out ℕ → Out ℕ → Type 0
-HandsMove p r cells rings count generation =
-    GivesMove p r (now (cells .entry)) (now (cells .exit)) (now (rings .entry)) (now (rings .exit)) (now (count .entry)) (now (count .exit)) (now (generation .entry)) (now (generation .exit))
+abbrev pub HandsMove : Paper Left → ℕ → Lent Float → Lent Float → Out ℕ → Out ℕ → Out ℕ → Type 0
+HandsMove p r cells rings count generation q =
+    GivesMove p r (now (cells .entry)) (now (cells .exit)) (now (rings .entry)) (now (rings .exit)) (now (count .entry)) (now (count .exit)) (now (generation .entry)) (now (generation .exit)) (now (q .entry)) (now (q .exit))
 
-abbrev pub HandsStore : Paper (List Ring) → ℕ → Lent Float → Out ℕ → Type 0
-HandsStore p r rings count = GivesStore p r (now (rings .entry)) (now (rings .exit)) (now (count .entry)) (now (count .exit))
+abbrev pub HandsStore : Paper (List Ring) → ℕ → Lent Float → Out ℕ → Out ℕ → Type 0
+HandsStore p r rings count q = GivesStore p r (now (rings .entry)) (now (rings .exit)) (now (count .entry)) (now (count .exit)) (now (q .entry)) (now (q .exit))
 
 -- with as much room for chords as the list has
 abbrev pub HandsChords : (ℕ → Paper (List Chord)) → ℕ → Lent Float → Out ℕ → Type 0

@@ -5,7 +5,7 @@ ghost use Rattle.changes.specs.Commit.{appliedPaper, applyOf};
 ghost use Rattle.changes.specs.Difference.{differenceOf};
 ghost use Rattle.cuts.specs.declared.Cut.the-variants.{Thread, ThreadInner, Drill};
 ghost use Rattle.cuts.specs.Preview.{previewCut};
-ghost use Rattle.turning.specs.Boundary.{specFrom, Hands, HandsChanges, HandsStock};
+ghost use Rattle.turning.specs.Boundary.{specFrom, Hands, HandsPlace, HandsChanges, HandsStock};
 use crate::stock_c;
 use changes::Applied;
 use changes::Previewed;
@@ -23,12 +23,16 @@ pub fn give_changes(answer: Previewed, count: &mut usize) -> u32
     }
 }
 
-// The generation after a commit, or the number of the refusal.
-fn give_generation(answer: Applied, generation: &mut u64) -> u32
-    ensures { λ r. ⌜ Hands (appliedPaper answer) r generation ⌝ }
+// The generation after a commit, or the number of the refusal, with its place where it has one.
+fn give_generation(answer: Applied, generation: &mut u64, position: &mut usize) -> u32
+    ensures { λ r. ⌜ HandsPlace (appliedPaper answer) r generation position ⌝ }
 {
     match answer {
         Applied::Refused(r) => refusals::number(r),
+        Applied::RefusedAt(r, k) => {
+            *position = k;
+            refusals::number(r)
+        }
         Applied::Generation(g) => {
             *generation = g;
             0
@@ -124,14 +128,15 @@ pub extern "C" fn turning_apply(
     indices: &[usize],
     records: &[f64],
     changes: usize,
+    position: &mut usize,
 ) -> u32
     ensures { λ r. ⌜ HandsStock (applyOf (specFrom «z_min» «z_max» outer bore cell «max_cells») (now (cells .entry))
-        (now (generation .entry)) (now (indices .entry)) (now (records .entry)) changes) r cells generation ⌝ }
+        (now (generation .entry)) (now (indices .entry)) (now (records .entry)) changes) r cells generation position ⌝ }
 {
     let spec = stock_c::spec_of(z_min, z_max, outer, bore, cell, max_cells);
     let before = *generation;
     let answer = changes::apply(spec, cells, before, indices, records, changes);
-    give_generation(answer, generation)
+    give_generation(answer, generation, position)
 }
 
 #[no_mangle]

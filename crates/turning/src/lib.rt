@@ -1,12 +1,13 @@
 // The C boundary: libturning.a, whose interface is include/turning.h.
 //
 // Every call returns 0 where it is accepted, else the refusal number of document 01, and a refusal
-// writes nothing. The calls are thin: each makes the spec, calls the library, and turns its answer
+// writes nothing but *position, where its number has one. The calls are thin: each makes the spec, calls the library, and turns its answer
 // into a number and out-parameters. Their promises cite the library's own rules.
 // `turning_job_finish` alone tells a refusal that is not its own: that of the job, with its line.
 // Each promise allows one outcome (`proofs/Once`).
 mod cuts_c;
 mod envelope_c;
+mod header_c;
 mod insert_c;
 mod job_c;
 mod numbers_c;
@@ -25,6 +26,7 @@ pub use envelope_c::turning_envelope_order;
 pub use envelope_c::turning_radius_at;
 pub use envelope_c::turning_radius_range;
 pub use envelope_c::turning_within;
+pub use header_c::turning_header;
 pub use insert_c::turning_eroded;
 pub use insert_c::turning_excess;
 pub use insert_c::turning_penetration;

@@ -3,20 +3,30 @@ ghost use mathlib.Core.Path.{_≡_};
 ghost use Rattle.rings.specs.Ring.{ring};
 ghost use Rattle.rings.specs.Remove.{RingCount, removedPaper, removeRing, storedPaper};
 ghost use Rattle.moves.specs.Move.{movedPaper, moveOf, partsOf};
-ghost use Rattle.turning.specs.Boundary.{specFrom, Hands, HandsTwo, HandsRings, HandsMove, HandsStore};
+ghost use Rattle.turning.specs.Boundary.{specFrom, HandsPlace, HandsTwoPlace, HandsRings, HandsMove, HandsStore};
 use crate::stock_c;
 use moves::Moved;
 use rings::Removed;
 use rings::Ring;
 use rings::StoredAs;
 
-// The count of rings and the generation afterwards, or the number of the refusal.
-fn give_removed(answer: Removed, count: &mut usize, generation: &mut u64) -> u32
-    ensures { λ r. ⌜ HandsTwo (λ (c : RingCount). c .rings) (λ (c : RingCount). c .generation) (removedPaper answer) r
-        count generation ⌝ }
+// The count of rings and the generation afterwards, or the number of the refusal, with its place where
+// it has one.
+fn give_removed(
+    answer: Removed,
+    count: &mut usize,
+    generation: &mut u64,
+    position: &mut usize,
+) -> u32
+    ensures { λ r. ⌜ HandsTwoPlace (λ (c : RingCount). c .rings) (λ (c : RingCount). c .generation) (removedPaper answer) r
+        count generation position ⌝ }
 {
     match answer {
         Removed::Refused(r) => refusals::number(r),
+        Removed::RefusedAt(r, k) => {
+            *position = k;
+            refusals::number(r)
+        }
         Removed::Stored(n, g) => {
             *count = n;
             *generation = g;
@@ -40,25 +50,31 @@ pub extern "C" fn turning_remove_ring(
     z1: f64,
     r0: f64,
     r1: f64,
+    position: &mut usize,
 ) -> u32
     ensures { λ r. ⌜ HandsRings
         (removeRing (specFrom «z_min» «z_max» outer bore cell «max_cells») (now (rings .entry))
-        (now («rings_count» .entry)) (now (generation .entry)) (ring z0 z1 r0 r1)) r rings «rings_count» generation ⌝ }
+        (now («rings_count» .entry)) (now (generation .entry)) (ring z0 z1 r0 r1)) r rings «rings_count» generation position ⌝ }
 {
     let spec = stock_c::spec_of(z_min, z_max, outer, bore, cell, max_cells);
     let count = *rings_count;
     let before = *generation;
     let answer = rings::remove_ring(spec, rings, count, before, Ring { z0, z1, r0, r1 });
-    give_removed(answer, rings_count, generation)
+    give_removed(answer, rings_count, generation, position)
 }
 
-// The count of rings and the generation after a move, or the number of the refusal.
-fn give_moved(answer: Moved, count: &mut usize, generation: &mut u64) -> u32
-    ensures { λ r. ⌜ HandsTwo (λ (c : RingCount). c .rings) (λ (c : RingCount). c .generation) (movedPaper answer) r
-        count generation ⌝ }
+// The count of rings and the generation after a move, or the number of the refusal, with its place
+// where it has one.
+fn give_moved(answer: Moved, count: &mut usize, generation: &mut u64, position: &mut usize) -> u32
+    ensures { λ r. ⌜ HandsTwoPlace (λ (c : RingCount). c .rings) (λ (c : RingCount). c .generation) (movedPaper answer) r
+        count generation position ⌝ }
 {
     match answer {
         Moved::Refused(r) => refusals::number(r),
+        Moved::RefusedAt(r, k) => {
+            *position = k;
+            refusals::number(r)
+        }
         Moved::Stored(stored, after) => {
             *count = stored;
             *generation = after;
@@ -83,10 +99,11 @@ pub extern "C" fn turning_apply_move(
     records: &[f64],
     changes: usize,
     removed: &[f64],
+    position: &mut usize,
 ) -> u32
     ensures { λ r. ⌜ HandsMove (moveOf (specFrom «z_min» «z_max» outer bore cell «max_cells») (now (cells .entry))
         (now (rings .entry)) (now («rings_count» .entry)) (now (generation .entry)) (now (indices .entry))
-        (now (records .entry)) changes (now (removed .entry))) r cells rings «rings_count» generation ⌝ }
+        (now (records .entry)) changes (now (removed .entry))) r cells rings «rings_count» generation position ⌝ }
 {
     let spec = stock_c::spec_of(z_min, z_max, outer, bore, cell, max_cells);
     let count = *rings_count;
@@ -102,15 +119,19 @@ pub extern "C" fn turning_apply_move(
         changes,
         removed,
     );
-    give_moved(answer, rings_count, generation)
+    give_moved(answer, rings_count, generation, position)
 }
 
-// The count of rings of a rebuilt stock, or the number of the refusal.
-fn give_stored(answer: StoredAs, count: &mut usize) -> u32
-    ensures { λ r. ⌜ Hands (storedPaper answer) r count ⌝ }
+// The count of rings of a rebuilt stock, or the number of the refusal, with its place where it has one.
+fn give_stored(answer: StoredAs, count: &mut usize, position: &mut usize) -> u32
+    ensures { λ r. ⌜ HandsPlace (storedPaper answer) r count position ⌝ }
 {
     match answer {
         StoredAs::Refused(r) => refusals::number(r),
+        StoredAs::RefusedAt(r, k) => {
+            *position = k;
+            refusals::number(r)
+        }
         StoredAs::Rings(kept) => {
             *count = kept;
             0
@@ -130,11 +151,12 @@ pub extern "C" fn turning_from_parts(
     given: &[f64],
     rings: &mut [f64],
     rings_count: &mut usize,
+    position: &mut usize,
 ) -> u32
     ensures { λ r. ⌜ HandsStore (partsOf (specFrom «z_min» «z_max» outer bore cell «max_cells») (now (cells .entry))
-        (now (given .entry)) (now (rings .entry))) r rings «rings_count» ⌝ }
+        (now (given .entry)) (now (rings .entry))) r rings «rings_count» position ⌝ }
 {
     let spec = stock_c::spec_of(z_min, z_max, outer, bore, cell, max_cells);
     let answer = moves::from_parts(spec, cells, given, rings);
-    give_stored(answer, rings_count)
+    give_stored(answer, rings_count, position)
 }

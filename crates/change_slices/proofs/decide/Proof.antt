@@ -2,7 +2,7 @@
 -- The variant carries the invariant's facts: what is left of the list from i is zs, and the steps of zs from the state lead where those of the whole list do. It falls by the length of zs.
 -- Assumes nothing.
 use mathlib.Core.Path.{_≡_, refl, sym, _∙_, ap, subst}
-use Prim.Native.Nat.{ℕ, _+_, _<_, _^_}
+use Prim.Native.Nat.{ℕ, _+_, _≤_, _<_, _^_}
 use native.Mathlib.Nat.{lt-suc-self}
 use native.Mathlib.Omega.{arith}
 use mathlib.Core.Bool.{Bool}
@@ -49,6 +49,7 @@ use denote.Triple.Table.{entered, cited}
 use denote.Triple.Walked.{says, Stays, stay-dropped, walkOf, goes-dropped, Walks, ends-at, walked, walk-meets}
 use denote.Triple.Clauses.{ensured, lasts}
 use denote.Exit.{yes}
+use Rattle.refusals.specs.Limits.{lastPlace}
 use Rattle.stock.specs.declared.TurnStockSpec.{TurnStockSpec}
 use Rattle.stock.specs.declared.TurnChange.{TurnChange}
 use Rattle.stock.proofs.TurnStockSpec as S
@@ -134,6 +135,9 @@ module _ {M : Type 1} (𝓤 : URA M) (H : Heap 𝓤) (A : Atoms 𝓤) (W : Given
     (gs : Is S.the-row spec (pv spec ∷ [])) (gp : length (now p) < 2 ^ 64) (gG : G < 2 ^ 64) (gn : Room T.the-row (length ys)) where
   abbrev n : ℕ
   n = length ys
+
+  few : length ys ≤ lastPlace
+  few = omega (arith, gn .0)
 
   abbrev s : RefT (List TurnChange)
   s = record { ptr = (b, o); name = γ; now = ys }
@@ -248,7 +252,7 @@ module _ {M : Type 1} (𝓤 : URA M) (H : Heap 𝓤) (A : Atoms 𝓤) (W : Given
           move ! (27 ∷ 28 ∷ []) $ free1 ! $ move ! (25 ∷ 26 ∷ []) $ free1 ! $ move ! (23 ∷ 24 ∷ []) $ free1 ! $ move ! (21 ∷ 22 ∷ []) $ free1 ! $ move ! (19 ∷ 20 ∷ []) $ free1 ! $ move ! (17 ∷ 18 ∷ []) $ free1 ! $
           move ! (15 ∷ 16 ∷ []) $ free1 ! $ move ! (13 ∷ 14 ∷ []) $ free1 ! $ move ! (11 ∷ 12 ∷ []) $ free1 ! $ move ! (9 ∷ 10 ∷ []) $ free1 ! $ move ! (7 ∷ 8 ∷ []) $ free1 ! $ free0 ! $
           -- [the result; κ₁'s token; the fractured borrow; res; the slice's fact; the cells; κ₀'s token]
-          keep ! (6 ∷ 1 ∷ 0 ∷ []) $ by ! (exits r u (is-r ∙ ap (λ (d : Decides). concludeOf d G) φ ∙ conclude-is spec (now p) G ys))))))
+          keep ! (6 ∷ 1 ∷ 0 ∷ []) $ by ! (exits r u (is-r ∙ ap (λ (d : Decides). concludeOf d G) φ ∙ conclude-is spec (now p) G ys few))))))
       turn-at i st (c ∷ zs) e φ gd =
           assigns ! (of-opd ! (load ! (from ! (fld ! refl (stop !))) (look-in ! 19 (sub ! 1 refl (whole !))))) (from ! (stop !)) (init ! 13 refl (tt, record { fits = gn .0 })) $
           assigns ! (bin ! (load ! (from ! (stop !)) (look ! 15 refl)) (load ! (from ! (stop !)) (look ! 13 refl)) tt) (from ! (stop !)) (init ! 11 refl (tt, tt)) $

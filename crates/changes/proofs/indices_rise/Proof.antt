@@ -7,7 +7,7 @@ use borrow.Author.Needs.{needs}
 use lib.Dec.{ltb}
 use lib.ListN.{length, getD}
 use Rattle.changes.specs.Change.{changesFrom, roomOf}
-use Rattle.changes.specs.Commit.{rises}
+use Rattle.changes.specs.Decide.{rises}
 use Rattle.changes.proofs.Passed.{rises-one, rises-next}
 use Rattle.changes.proofs.indices_rise.Statement.{statement}
 use Rattle.changes.proofs.indices_rise.Tie as tie

@@ -3,8 +3,7 @@ use mathlib.Core.Path.{sym, ap, _∙_}
 use Prim.Native.Nat.{ℕ}
 use native.Mathlib.Omega.{arith}
 use borrow.Author.Needs.{needs}
-use Rattle.refusals.specs.Number.{reasonOf}
-use Rattle.refusals.specs.Paper.{onward-refuses}
+use Rattle.refusals.specs.Number.{reasonOf, reasonAt}
 use Rattle.changes.specs.declared.Passing.{Passing}
 use Rattle.changes.specs.Commit.{passingPaper}
 use Rattle.changes.specs.Decide.{raisedOf}
@@ -16,20 +15,27 @@ returns : tie.Need-returns
 unfolding passingPaper
 returns c =
     let g = c .before .before .before .args .generation in
-    sym (ap (λ (f : Passing). raisedOf (passingPaper f) g) (c .before .found .given .1) ∙ raised-stops (reasonOf (c .before .found .given .0 .0)) g)
+    sym (ap (λ (f : Passing). raisedOf (passingPaper f) g) (c .before .enum-told .given .1) ∙ raised-spent g (c .if1 .taken))
 
 returns-2 : tie.Need-returns-2
 unfolding passingPaper
 returns-2 c =
     let g = c .before .before .before .args .generation in
-    sym (ap (λ (f : Passing). raisedOf (passingPaper f) g) (c .before .enum-told .given .1) ∙ raised-spent g (c .if1 .taken))
+    sym (ap (λ (f : Passing). raisedOf (passingPaper f) g) (c .before .found .given .1) ∙ raised-stops (reasonOf (c .before .found .given .0 .0)) g)
 
 returns-3 : tie.Need-returns-3
 unfolding passingPaper
 returns-3 c =
+    let g = c .before .before .before .args .generation in
+    let told = c .before .found2 .given in
+    sym (ap (λ (f : Passing). raisedOf (passingPaper f) g) (told .1) ∙ raised-stops (reasonAt (told .0 .0) (told .0 .1 .0)) g)
+
+returns-4 : tie.Need-returns-4
+unfolding passingPaper
+returns-4 c =
     let s = c .before .before .before in
     let g = s .args .generation in
     sym (ap (λ (f : Passing). raisedOf (passingPaper f) g) (c .before .enum-told .given .1) ∙ raised-next g (omega (arith, c .if1 .left, s .fits .generation .fits)))
 
 pub raised-spec : {M : Type 1} → statement M
-raised-spec = tie.close (tie.spec (λ c. search needs) returns (λ c. search needs) returns-2 (λ c. search needs) returns-3)
+raised-spec = tie.close (tie.spec (λ c. search needs) (λ c. search needs) (λ c. search needs) returns (λ c. search needs) returns-2 returns-3 returns-4)

@@ -8,7 +8,8 @@ use Rattle.changes.proofs.step.Tie as tie
 
 returns : tie.Need-returns
 returns c =
-    let a = c .before .before .before .before .before .before .args in
+    let b = c .before .before .before in
+    let a = b .before .before .before .before .before .args in
     λ i. record {
       spec = a .st .s;
       n = a .st .n;
@@ -16,8 +17,10 @@ returns c =
       any = true;
       last = a .change .index;
       rises = a .st .rises && (not (a .st .any) || ltb (a .st .last) (a .change .index));
-      found = c .before .before .before .found-next .ensures i;
+      count = b .before .place-after .ensures i;
+      fall = b .fall-at .ensures i;
+      found = b .before .before .found-next .ensures i;
     }
 
 pub step-spec : {M : Type 1} → statement M
-step-spec = tie.close (tie.spec (λ c κs. search needs) returns)
+step-spec = tie.close (tie.spec (λ c κs. search needs) (λ c κs. search needs) (λ c κs. search needs) returns)

@@ -1,16 +1,18 @@
 -- `moves::from_parts` meets its contract. Assumes nothing.
 use mathlib.Core.Path.{sym, ap, _∙_}
 use borrow.Author.Needs.{needs}
-use borrow.Author.Tests.{not-true, not-false}
 use Rattle.stock.specs.Spec.{countedPaper}
+use Rattle.rings.specs.Store.{judgedPlace}
 use Rattle.moves.proofs.Parting.{parts-refused, parts-outside, parts-stored}
 use Rattle.moves.proofs.from_parts.Statement.{statement}
 use Rattle.moves.proofs.from_parts.Tie as tie
 
 returns : tie.Need-returns
 returns c =
-    let told = c .before .before .enum-told .given in
-    parts-outside _ _ _ _ (told .0 .0) (sym (c .before .before .before .before .cells-fit .ensures) ∙ ap countedPaper (told .1)) (sym (c .before .rings-good .ensures) ∙ not-true _ (c .if1 .taken))
+    let b = c .before .before .before in
+    let told = b .before .enum-told .given in
+    let bad = c .before .judged .given in
+    parts-outside _ _ _ _ (told .0 .0) (sym (b .before .before .before .cells-fit .ensures) ∙ ap countedPaper (told .1)) (bad .0 .0) (sym (b .first-bad-ring .ensures) ∙ ap judgedPlace (bad .1))
 
 returns-2 : tie.Need-returns-2
 returns-2 c =
@@ -19,9 +21,9 @@ returns-2 c =
 
 returns-3 : tie.Need-returns-3
 returns-3 c =
-    let b = c .before .before .before .before in
-    let told = b .before .before .enum-told .given in
-    parts-stored _ _ _ _ (told .0 .0) (sym (b .before .before .before .before .cells-fit .ensures) ∙ ap countedPaper (told .1)) _ _ (sym (b .before .rings-good .ensures) ∙ not-false _ (b .if1 .left)) (c .before .before .remove-rings .ensures)
+    let b = c .before .before .before .before .before .before in
+    let told = b .before .enum-told .given in
+    parts-stored _ _ _ _ (told .0 .0) (sym (b .before .before .before .cells-fit .ensures) ∙ ap countedPaper (told .1)) _ _ (sym (b .first-bad-ring .ensures) ∙ ap judgedPlace (c .before .before .before .before .enum-told2 .given .1)) (c .before .before .remove-rings .ensures)
 
 pub from-parts-spec : {M : Type 1} → statement M
 from-parts-spec =
@@ -31,7 +33,9 @@ from-parts-spec =
     (λ c. search needs)
     (λ c. search needs)
     (λ c κs. search needs)
+    (λ c. search needs)
     returns
+    (λ c. search needs)
     (λ c κs. search needs)
     returns-2
     (λ c. search needs)

@@ -1,10 +1,15 @@
 -- `moves::move_in` meets its contract. Assumes nothing.
-use mathlib.Core.Path.{refl, sym, _∙_}
+use mathlib.Core.Path.{refl, sym, ap, _∙_}
 use native.Mathlib.Omega.{arith}
 use borrow.Author.Needs.{needs}
 use borrow.Author.Tests.{not-true, not-false}
-use Rattle.refusals.specs.Number.{reasonOf}
-use Rattle.moves.proofs.Moving.{left, stopped, passed, put-is, refuses-4, refuses-10, refuses-change, refuses-12, refuses-11, moves}
+use Rattle.refusals.specs.declared.Refusal.the-variants.{RingOutside}
+use Rattle.refusals.specs.Number.{reasonOf, reasonAt}
+use Rattle.rings.specs.Store.{judgedPlace}
+use Rattle.rings.specs.Remove.{storedPaper}
+use Rattle.changes.specs.Commit.{passingPaper}
+use Rattle.moves.specs.declared.Moved.the-variants as moved
+use Rattle.moves.proofs.Moving.{left-as, left, stopped, passed, put-is, refuses-4, refuses-10, refuses-change, refuses-12, refuses-11, moves}
 use Rattle.moves.proofs.move_in.Statement.{statement}
 use Rattle.moves.proofs.move_in.Tie as tie
 
@@ -13,52 +18,86 @@ returns c = left _ _ _ _ _ (refuses-4 _ _ _ _ _ _ _ _ (sym (c .before .rings-fit
 
 returns-2 : tie.Need-returns-2
 returns-2 c =
-    let b = c .before .before in
-    left _ _ _ _ _ (refuses-10 _ _ _ _ _ _ _ _ (sym (b .before .rings-fit .ensures) ∙ not-false _ (b .if1 .left)) (sym (c .before .rings-good .ensures) ∙ not-true _ (c .if2 .taken))) refl
+    let f = c .before .before .before in
+    let told = c .before .judged .given in
+    left-as _ (moved.RefusedAt RingOutside (told .0 .0)) (reasonAt RingOutside (told .0 .0)) _ _ _ refl
+    (refuses-10 _ _ _ _ _ _ _ _ (sym (f .before .before .rings-fit .ensures) ∙ not-false _ (f .before .if1 .left)) (told .0 .0) (sym (f .first-bad-ring .ensures) ∙ ap judgedPlace (told .1)))
+    refl
 
 returns-3 : tie.Need-returns-3
 returns-3 c =
-    let b2 = c .before .before .before .before .before .before in
-    let b1 = b2 .before .before in
-    let start = b1 .before .before .before .before .before .before .before .before in
-    let told = c .before .found .given in
-    left _ (told .0 .0) _ _ _
-    (refuses-change _ _ _ _ _ _ _ _ (sym (b1 .before .rings-fit .ensures) ∙ not-false _ (b1 .if1 .left)) (sym (b2 .before .rings-good .ensures) ∙ not-false _ (b2 .if2 .left)) (reasonOf (told .0 .0))
-    (stopped _ _ _ _ _ _ _ _ (c .before .before .before .before .before .clean-spec .ensures) (start .pre) (c .before .before .before .first-refusal .ensures) (told .0 .0) (told .1)))
+    let p = c .before .before in
+    let r = c .before .before .before .before in
+    let f = r .before .before .before .before .before in
+    let start = f .before .before .before .before .before .before .before .before .before in
+    left _ _ _ _ _
+    (refuses-12 _ _ _ _ _ _ _ _ (sym (f .before .before .rings-fit .ensures) ∙ not-false _ (f .before .if1 .left)) (sym (f .first-bad-ring .ensures) ∙ ap judgedPlace (r .before .before .before .enum-told .given .1))
+    (passed _ _ _ _ _ _ _ _ (r .before .before .clean-spec .ensures) (start .pre) (r .first-refusal .ensures) (p .enum-told2 .given .1))
+    _ (c .before .raised-by .ensures) (omega (arith, start .fits .generation .fits)) (c .if2 .taken))
     refl
 
 returns-4 : tie.Need-returns-4
+unfolding passingPaper
 returns-4 c =
-    let b2 = c .before .before .before .before .before .before .before in
-    let b1 = b2 .before .before in
-    let start = b1 .before .before .before .before .before .before .before .before in
-    left _ _ _ _ _
-    (refuses-12 _ _ _ _ _ _ _ _ (sym (b1 .before .rings-fit .ensures) ∙ not-false _ (b1 .if1 .left)) (sym (b2 .before .rings-good .ensures) ∙ not-false _ (b2 .if2 .left))
-    (passed _ _ _ _ _ _ _ _ (c .before .before .before .before .before .before .clean-spec .ensures) (start .pre) (c .before .before .before .before .first-refusal .ensures) (c .before .before .enum-told .given .1))
-    _ (c .before .raised-by .ensures) (omega (arith, start .fits .generation .fits)) (c .if3 .taken))
+    let r = c .before .before .before in
+    let f = r .before .before .before .before .before in
+    let start = f .before .before .before .before .before .before .before .before .before in
+    let told = c .before .found .given in
+    left-as _ (moved.Refused (told .0 .0)) (reasonOf (told .0 .0)) _ _ _ refl
+    (refuses-change _ _ _ _ _ _ _ _ (sym (f .before .before .rings-fit .ensures) ∙ not-false _ (f .before .if1 .left)) (sym (f .first-bad-ring .ensures) ∙ ap judgedPlace (r .before .before .before .enum-told .given .1)) (reasonOf (told .0 .0))
+    (stopped _ _ _ _ _ _ _ (r .first-refusal .result) (r .before .before .clean-spec .ensures) (start .pre) (r .first-refusal .ensures) (reasonOf (told .0 .0)) (ap passingPaper (told .1))))
     refl
 
 returns-5 : tie.Need-returns-5
+unfolding passingPaper
 returns-5 c =
-    let b3 = c .before .before .before .before .before .before .before in
-    let b2 = b3 .before .before .before .before .before .before .before in
-    let b1 = b2 .before .before in
-    let start = b1 .before .before .before .before .before .before .before .before in
-    let told = c .before .stored .given in
-    refuses-11 _ _ _ _ _ _ _ _ (sym (b1 .before .rings-fit .ensures) ∙ not-false _ (b1 .if1 .left)) (sym (b2 .before .rings-good .ensures) ∙ not-false _ (b2 .if2 .left))
-    (passed _ _ _ _ _ _ _ _ (b3 .before .before .before .before .before .before .clean-spec .ensures) (start .pre) (b3 .before .before .before .before .first-refusal .ensures) (b3 .before .before .enum-told .given .1))
-    _ (b3 .before .raised-by .ensures) (b3 .if3 .left) _ _ (c .before .before .before .before .before .remove-rings .ensures) (told .0 .0) (told .1)
+    let r = c .before .before .before in
+    let f = r .before .before .before .before .before in
+    let start = f .before .before .before .before .before .before .before .before .before in
+    let told = c .before .found2 .given in
+    left-as _ (moved.RefusedAt (told .0 .0) (told .0 .1 .0)) (reasonAt (told .0 .0) (told .0 .1 .0)) _ _ _ refl
+    (refuses-change _ _ _ _ _ _ _ _ (sym (f .before .before .rings-fit .ensures) ∙ not-false _ (f .before .if1 .left)) (sym (f .first-bad-ring .ensures) ∙ ap judgedPlace (r .before .before .before .enum-told .given .1)) (reasonAt (told .0 .0) (told .0 .1 .0))
+    (stopped _ _ _ _ _ _ _ (r .first-refusal .result) (r .before .before .clean-spec .ensures) (start .pre) (r .first-refusal .ensures) (reasonAt (told .0 .0) (told .0 .1 .0)) (ap passingPaper (told .1))))
+    refl
 
 returns-6 : tie.Need-returns-6
 returns-6 c =
-    let b3 = c .before .before .before .before .before .before .before .before .before .before .before in
-    let b2 = b3 .before .before .before .before .before .before .before in
-    let b1 = b2 .before .before in
-    let start = b1 .before .before .before .before .before .before .before .before in
-    let told = c .before .before .before .before .before .stored2 .given in
-    moves _ _ _ _ _ _ _ _ (sym (b1 .before .rings-fit .ensures) ∙ not-false _ (b1 .if1 .left)) (sym (b2 .before .rings-good .ensures) ∙ not-false _ (b2 .if2 .left))
-    (passed _ _ _ _ _ _ _ _ (b3 .before .before .before .before .before .before .clean-spec .ensures) (start .pre) (b3 .before .before .before .before .first-refusal .ensures) (b3 .before .before .enum-told .given .1))
-    _ (b3 .before .raised-by .ensures) (b3 .if3 .left) _ _ (c .before .before .before .before .before .before .before .before .before .remove-rings .ensures) (told .0 .0) _ (told .1) (put-is _ _ _ _ _ (start .pre) (c .before .before .put-after .ensures))
+    let m = c .before .before .before .before .before in
+    let i6 = m .before .before in
+    let p = i6 .before .before in
+    let r = p .before .before in
+    let f = r .before .before .before .before .before in
+    let start = f .before .before .before .before .before .before .before .before .before in
+    let told = c .before .stored .given in
+    refuses-11 _ _ _ _ _ _ _ _ (sym (f .before .before .rings-fit .ensures) ∙ not-false _ (f .before .if1 .left)) (sym (f .first-bad-ring .ensures) ∙ ap judgedPlace (r .before .before .before .enum-told .given .1))
+    (passed _ _ _ _ _ _ _ _ (r .before .before .clean-spec .ensures) (start .pre) (r .first-refusal .ensures) (p .enum-told2 .given .1))
+    _ (i6 .before .raised-by .ensures) (i6 .if2 .left) _ _ (m .remove-rings .ensures) (reasonOf (told .0 .0)) (moved.Refused (told .0 .0)) refl (ap storedPaper (told .1))
+
+returns-7 : tie.Need-returns-7
+returns-7 c =
+    let m = c .before .before .before .before .before in
+    let i7 = m .before .before in
+    let p = i7 .before .before in
+    let r = p .before .before in
+    let f = r .before .before .before .before .before in
+    let start = f .before .before .before .before .before .before .before .before .before in
+    let told = c .before .stored2 .given in
+    refuses-11 _ _ _ _ _ _ _ _ (sym (f .before .before .rings-fit .ensures) ∙ not-false _ (f .before .if1 .left)) (sym (f .first-bad-ring .ensures) ∙ ap judgedPlace (r .before .before .before .enum-told .given .1))
+    (passed _ _ _ _ _ _ _ _ (r .before .before .clean-spec .ensures) (start .pre) (r .first-refusal .ensures) (p .enum-told2 .given .1))
+    _ (i7 .before .raised-by .ensures) (i7 .if2 .left) _ _ (m .remove-rings .ensures) (reasonAt (told .0 .0) (told .0 .1 .0)) (moved.RefusedAt (told .0 .0) (told .0 .1 .0)) refl (ap storedPaper (told .1))
+
+returns-8 : tie.Need-returns-8
+returns-8 c =
+    let m = c .before .before .before .before .before .before .before .before .before in
+    let i8 = m .before .before in
+    let p = i8 .before .before in
+    let r = p .before .before in
+    let f = r .before .before .before .before .before in
+    let start = f .before .before .before .before .before .before .before .before .before in
+    let told = c .before .before .before .before .before .stored3 .given in
+    moves _ _ _ _ _ _ _ _ (sym (f .before .before .rings-fit .ensures) ∙ not-false _ (f .before .if1 .left)) (sym (f .first-bad-ring .ensures) ∙ ap judgedPlace (r .before .before .before .enum-told .given .1))
+    (passed _ _ _ _ _ _ _ _ (r .before .before .clean-spec .ensures) (start .pre) (r .first-refusal .ensures) (p .enum-told2 .given .1))
+    _ (i8 .before .raised-by .ensures) (i8 .if2 .left) _ _ (m .remove-rings .ensures) (told .0 .0) _ (told .1) (put-is _ _ _ _ _ (start .pre) (c .before .before .put-after .ensures))
 
 put-after-requires : tie.Need-put-after-requires
 put-after-requires c κs = search needs
@@ -72,20 +111,21 @@ move-in-spec =
     returns
     (λ c κs. search needs)
     (λ c. search needs)
+    (λ c. search needs)
     returns-2
+    (λ c. search needs)
     (λ c κs. search needs)
+    (λ c κs. search needs)
+    (λ c. search needs)
+    (λ c. search needs)
+    (λ c. search needs)
     (λ c κs. search needs)
     (λ c. search needs)
     (λ c. search needs)
     (λ c. search needs)
     returns-3
-    (λ c. search needs)
     (λ c κs. search needs)
     (λ c. search needs)
-    (λ c. search needs)
-    (λ c. search needs)
-    returns-4
-    (λ c κs. search needs)
     (λ c. search needs)
     (λ c. search needs)
     put-after-requires
@@ -93,7 +133,16 @@ move-in-spec =
     (λ c. search needs)
     (λ c. search needs)
     (λ c. search needs)
+    returns-4
+    (λ c. search needs)
+    (λ c. search needs)
     returns-5
     (λ c. search needs)
     (λ c. search needs)
-    returns-6)
+    returns-6
+    (λ c. search needs)
+    (λ c. search needs)
+    returns-7
+    (λ c. search needs)
+    (λ c. search needs)
+    returns-8)

@@ -4,6 +4,7 @@ use borrow.Author.Needs.{needs}
 use borrow.Author.Tests.{not-true, not-false}
 use Rattle.refusals.specs.Number.{reasonOf}
 use Rattle.stock.specs.Spec.{countedPaper}
+use Rattle.rings.specs.Store.{judgedPlace}
 use Rattle.change_slices.proofs.Decided.{first-stock, first-stored, first-removed, first-change}
 use Rattle.change_slices.proofs.moving.first_of.Statement.{statement}
 use Rattle.change_slices.proofs.moving.first_of.Tie as tie
@@ -20,15 +21,18 @@ returns-2 c =
 
 returns-3 : tie.Need-returns-3
 returns-3 c =
-    let b = c .before .before in
+    let f = c .before .before .before in
+    let b = f .before in
     let k = b .before .before in
-    first-removed _ _ _ _ _ _ _ (sym (k .before .before .cells-fit .ensures) ∙ ap countedPaper (k .enum-told .given .1)) (sym (b .before .rings-fit .ensures) ∙ not-false _ (b .if1 .left)) (sym (c .before .rings-good .ensures) ∙ not-true _ (c .if2 .taken))
+    let told = c .before .judged .given in
+    first-removed _ _ _ _ _ _ _ (sym (k .before .before .cells-fit .ensures) ∙ ap countedPaper (k .enum-told .given .1)) (sym (b .before .rings-fit .ensures) ∙ not-false _ (b .if1 .left)) (told .0 .0) (sym (f .first-bad-ring .ensures) ∙ ap judgedPlace (told .1))
 
 returns-4 : tie.Need-returns-4
 returns-4 c =
-    let b = c .before .before in
+    let f = c .before .before in
+    let b = f .before in
     let k = b .before .before in
-    first-change _ _ _ _ _ _ _ (sym (k .before .before .cells-fit .ensures) ∙ ap countedPaper (k .enum-told .given .1)) (sym (b .before .rings-fit .ensures) ∙ not-false _ (b .if1 .left)) (sym (c .before .rings-good .ensures) ∙ not-false _ (c .if2 .left))
+    first-change _ _ _ _ _ _ _ (sym (k .before .before .cells-fit .ensures) ∙ ap countedPaper (k .enum-told .given .1)) (sym (b .before .rings-fit .ensures) ∙ not-false _ (b .if1 .left)) (sym (f .first-bad-ring .ensures) ∙ ap judgedPlace (c .enum-told2 .given .1))
 
 pub first-of-spec : {M : Type 1} → statement M
 first-of-spec =
@@ -41,5 +45,7 @@ first-of-spec =
     (λ c κs. search needs)
     returns-2
     (λ c κs. search needs)
+    (λ c. search needs)
     returns-3
+    (λ c. search needs)
     returns-4)

@@ -8,10 +8,10 @@ use Rattle.turning.proofs.rings_c.turning_remove_ring.Tie as tie
 
 returns : tie.Need-returns
 returns c =
-    let b = c .before .before .before .before .before in
+    let b = c .before .before .before .before .before .before in
     let s = b .before .before .before .before in
     let a = s .before .before .args in
-    gives-rings _ _ _ _ _ _ _ _ _ (c .give-removed .ensures)
+    gives-rings _ _ _ _ _ _ _ _ _ _ _ (c .give-removed .ensures)
     (same-ring _ _ (λ x. removeRing x (a .rings .now) (a .rings-count .now) (a .generation .now) (ring (a .z0) (a .z1) (a .r0) (a .r1))) _ _ _ (s .spec-of .ensures) (b .remove-ring .ensures))
 
 pub turning-remove-ring-spec : {M : Type 1} → statement M
