@@ -16,8 +16,9 @@ use Rattle.stock.specs.declared.TurnStockSpec.{TurnStockSpec}
 use Rattle.stock.specs.Spec.{cleanSpec}
 use Rattle.stock.specs.Cell.{cellAt}
 use Rattle.stock.proofs.Count.{and-both}
-use Rattle.rings.proofs.Anywhere.{le-number-r}
-use Rattle.rings.proofs.Edges.{of-true, to-false, le-same, clash}
+use Rattle.floats.proofs.Anywhere.{le-number-r}
+use Rattle.floats.proofs.Bounding.{le-same, clash}
+use Rattle.floats.proofs.Bools.{so, to-false}
 use Rattle.queries.specs.declared.Band.{Band}
 use Rattle.queries.specs.declared.BinSpan.{BinSpan}
 use Rattle.queries.specs.Envelope.{inRange, firstAt, lastAt, mostOver, seenAt, envelopeAt}
@@ -53,8 +54,8 @@ between-point s n cs z = go (inRange s z) refl
     go : (t : Bool) → inRange s z ≡ t → pick (rangeMeets s z z) (mostOver cs (rangeBins s n z z .first) (rangeBins s n z z .last - rangeBins s n z z .first + 1)) none ≡ pick (inRange s z) (mostOver cs (firstAt s n z) (lastAt s n z - firstAt s n z + 1)) none
     go true e =
         let b = and-both (le (s .«z_min_mm») z) (le z (s .«z_max_mm»)) e in
-        let low = of-true (le (s .«z_min_mm») z) (b .0) in
-        let high = of-true (le z (s .«z_max_mm»)) (b .1) in
+        let low = so (b .0) in
+        let high = so (b .1) in
         let own : le z z ≡ true = is-true _ (le-same z (le-number-r (s .«z_min_mm») z low)) in
         let meets : rangeMeets s z z ≡ true = rw own e in
         let f : rangeBins s n z z .first ≡ firstAt s n z = (λ i. min (firstAt s n (greatest-first z (s .«z_min_mm») low i)) (firstAt s n (least-first z (s .«z_max_mm») high i))) ∙ (omega arith) in

@@ -24,7 +24,7 @@ use Rattle.queries.specs.Material.{band, mostOf}
 use Rattle.queries.specs.Envelope.{joinOf}
 use Rattle.blocks.specs.Block.{noMaterial, blockWith, foldFrom, blockTo, blocksIn, blockEnd, blockOf, blocksTo, blocksOf, twoOf, blockAt, sameBlock, matchTo, matchesOf}
 use Rattle.blocks.specs.Way.{joinFrom, keptOver}
-use Rattle.blocks.specs.Renew.{renewedAll, putBlock, renewAt, Open, leaveFor, openAfter, renewOver, renewedFor, Leaves}
+use Rattle.blocks.specs.Renew.{renewedAll, putBlock, renewAt, Open, leaveFor, openAfter, renewOver, renewedFor, LeavesBlocks}
 
 -- ---- one bin, with no branch
 chosen-same : (t : Bool) (x : Float) → pick t x x ≡ x
@@ -185,18 +185,18 @@ module _ (s : TurnStockSpec) (n : ℕ) (cs : List Float) where
   new-block bs bs' b j k e h ek eb = eb ∙ ap (λ (x : Band). putBlock bs j x) ek ∙ sym (pick-true _ _ _ (lt-ltb j (blocksIn n) (omega arith)))
 
   -- a bin in the open block
-  pub stays-open : (bs : List Float) (o i : ℕ) → i / blockBins ≡ o → Leaves s n cs (record { numbers = bs; block = o }) i (i / blockBins) bs
+  pub stays-open : (bs : List Float) (o i : ℕ) → i / blockBins ≡ o → LeavesBlocks s n cs (record { numbers = bs; block = o }) i (i / blockBins) bs
   unfolding leaveFor
   stays-open bs o i e = record { block = refl; numbers = sym (pick-true _ _ _ (eq-eqb o (i / blockBins) (sym e))) }
 
   -- a bin in another
-  pub leaves-open : (bs bs' : List Float) (o i : ℕ) → (i / blockBins ≡ o → ⊥) → bs' ≡ renewAt s n cs bs o → Leaves s n cs (record { numbers = bs; block = o }) i (i / blockBins) bs'
+  pub leaves-open : (bs bs' : List Float) (o i : ℕ) → (i / blockBins ≡ o → ⊥) → bs' ≡ renewAt s n cs bs o → LeavesBlocks s n cs (record { numbers = bs; block = o }) i (i / blockBins) bs'
   unfolding leaveFor
   leaves-open bs bs' o i h e = record { block = refl; numbers = e ∙ sym (pick-false _ _ _ (ne-eqb o (i / blockBins) (λ k. h (sym k)))) }
 
   -- one bin more of a list
   pub open-more : (bs₀ : List Float) (is : List ℕ) (i : ℕ) (bs bs' : List Float) (o r : ℕ) → i < length is → bs ≡ openAfter s n cs bs₀ (take i is) .numbers → o ≡ openAfter s n cs bs₀ (take i is) .block
-      → Leaves s n cs (record { numbers = bs; block = o }) (getD is i 0) r bs' → (bs' ≡ openAfter s n cs bs₀ (take (i + 1) is) .numbers) × (r ≡ openAfter s n cs bs₀ (take (i + 1) is) .block)
+      → LeavesBlocks s n cs (record { numbers = bs; block = o }) (getD is i 0) r bs' → (bs' ≡ openAfter s n cs bs₀ (take (i + 1) is) .numbers) × (r ≡ openAfter s n cs bs₀ (take (i + 1) is) .block)
   open-more bs₀ is i bs bs' o r h eb eo l =
       let same : record { numbers = bs; block = o } ≡ openAfter s n cs bs₀ (take i is) = (λ j. record { numbers = eb j; block = eo j }) in
       let next : leaveFor s n cs (record { numbers = bs; block = o }) (getD is i 0) ≡ openAfter s n cs bs₀ (take (i + 1) is) =

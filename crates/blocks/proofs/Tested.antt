@@ -12,8 +12,9 @@ use Rattle.floats.specs.Pick.{pick}
 use Rattle.floats.specs.Numbers.{leastOf, greatestOf}
 use Rattle.stock.specs.declared.TurnStockSpec.{TurnStockSpec}
 use Rattle.stock.specs.Cell.{cellAt}
-use Rattle.rings.proofs.Anywhere.{le-chain, eq-turns}
-use Rattle.rings.proofs.Edges.{of-true, same-tests, number?, lt-le, eq-le, lt-number-l, lt-number-r, not-lt, clash}
+use Rattle.floats.proofs.Anywhere.{le-chain, eq-turns}
+use Rattle.floats.proofs.Bounding.{number?, lt-le, eq-le, lt-number-l, lt-number-r, not-lt, clash}
+use Rattle.floats.proofs.Bools.{so, same-tests, or-l, or-r}
 use Rattle.queries.specs.declared.Band.{Band}
 use Rattle.queries.specs.Material.{mostOf}
 use Rattle.blocks.specs.declared.matching.Met.{Met}
@@ -23,14 +24,6 @@ use Rattle.blocks.specs.Block.{blockWith, foldFrom, blockTo, blockEnd, b
 use Rattle.blocks.specs.Tested.{metNone, metWith, metFrom, allMet}
 
 -- ---- Bools
-or-l : (a b : Bool) → T a → T (a || b)
-or-l true b t = tt
-or-l false b t = absurd t
-
-or-r : (a b : Bool) → T b → T (a || b)
-or-r true b t = tt
-or-r false b t = t
-
 or-of : (a b : Bool) → T (a || b) → T a ⊎ T b
 or-of true b t = inl tt
 or-of false b t = inr t
@@ -76,7 +69,7 @@ module _ (σ : Side) (k : Float) where
     further-upto = go (σ .beyond a b) refl
       where
         go : (t : Bool) → σ .beyond a b ≡ t → σ .upto (pick t b a) k ≡ (σ .upto a k && σ .upto b k)
-        go true e = same-tests _ _ (λ h. and-i (σ .upto a k) (σ .upto b k) (σ .chain a b k (σ .takes a b (of-true _ e)) h) h) (λ h. and-r (σ .upto a k) (σ .upto b k) h)
+        go true e = same-tests _ _ (λ h. and-i (σ .upto a k) (σ .upto b k) (σ .chain a b k (σ .takes a b (so e)) h) h) (λ h. and-r (σ .upto a k) (σ .upto b k) h)
         go false e = same-tests _ _ (λ h. and-i (σ .upto a k) (σ .upto b k) h (σ .chain b a k (σ .keeps a b na nb e) h)) (λ h. and-l (σ .upto a k) (σ .upto b k) h)
 
     further-even : eq k (further a b) ≡ (σ .upto a k && σ .upto b k && (eq k a || eq k b))
@@ -91,7 +84,7 @@ module _ (σ : Side) (k : Float) where
 
         go : (t : Bool) → σ .beyond a b ≡ t → eq k (pick t b a) ≡ (σ .upto a k && σ .upto b k && (eq k a || eq k b))
         go true e =
-            let w = σ .takes a b (of-true _ e) in
+            let w = σ .takes a b (so e) in
             same-tests _ _ (λ h. both (σ .chain a b k w (σ .even k b h .1)) (σ .even k b h .1) (or-r (eq k a) (eq k b) h))
             (λ h. elim (parts h .2) [
               | inl q ↦ σ .level k b (σ .chain k a b (σ .even k a q .0) w) (parts h .1)
@@ -279,11 +272,11 @@ module _ (s : TurnStockSpec) (k : Band) (cs : List Float) (a : ℕ) where
 
   outer-number : (i : ℕ) → has i ≡ true → isNan (most i .outer) ≡ false
   unfolding has
-  outer-number i e = lt-number-r (most i .bore) (most i .outer) (of-true _ e)
+  outer-number i e = lt-number-r (most i .bore) (most i .outer) (so e)
 
   bore-number : (i : ℕ) → has i ≡ true → isNan (most i .bore) ≡ false
   unfolding has
-  bore-number i e = lt-number-l (most i .bore) (most i .outer) (of-true _ e)
+  bore-number i e = lt-number-l (most i .bore) (most i .outer) (so e)
 
   -- what goes beyond the kept outer radius, and what has it; and of the bore
   overOuter : ℕ → Bool

@@ -79,10 +79,10 @@ abbrev pub renewedFor : TurnStockSpec → ℕ → List Float → List ℕ → �
 renewedFor s n cs is k bs = renewOver s n cs (map cleanOf bs) (take k is)
 
 -- the answer and the lent numbers after one bin more
-pub record Leaves (s : TurnStockSpec) (n : ℕ) (cs : List Float) (o : Open) (i r : ℕ) (bs' : List Float) : Type 0 where
+pub record LeavesBlocks (s : TurnStockSpec) (n : ℕ) (cs : List Float) (o : Open) (i r : ℕ) (bs' : List Float) : Type 0 where
   pub block : r ≡ leaveFor s n cs o i .block
   pub numbers : bs' ≡ leaveFor s n cs o i .numbers
 
 -- of lent numbers, at both moments
 abbrev pub LeavesFor : TurnStockSpec → ℕ → List Float → ℕ → ℕ → ℕ → Lent Float → Type 0
-LeavesFor s n cs last i r blocks = Leaves s n cs (record { numbers = now (blocks .entry); block = last }) i r (now (blocks .exit))
+LeavesFor s n cs last i r blocks = LeavesBlocks s n cs (record { numbers = now (blocks .entry); block = last }) i r (now (blocks .exit))

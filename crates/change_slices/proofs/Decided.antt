@@ -16,14 +16,14 @@ use Rattle.stock.specs.Cell.{stockOf}
 use Rattle.stock.proofs.Count.{no-answer}
 use Rattle.changes.specs.Change.{changesFrom}
 use Rattle.rings.specs.declared.Ring.{Ring}
-use Rattle.rings.specs.Store.{extentOf, countFits, badRing}
+use Rattle.rings.specs.Store.{barRing, countFits, badRing}
 use Rattle.rings.specs.Remove.{removeRings}
 use Rattle.changes.specs.declared.Applied.{Applied}
 use Rattle.changes.specs.declared.Applied.the-variants as applied
 use Rattle.changes.specs.Commit.{appliedPaper, generationOf, Committed, firstFall, eachFrom, passAll, putAll, commitIn, commitOf}
 use Rattle.moves.specs.declared.Moved.{Moved}
 use Rattle.moves.specs.declared.Moved.the-variants as moved
-use Rattle.moves.specs.Move.{Left, generationAfter, moveIn, moveOf, movedPaper, countsOf, cellsAfter, ringsAfter, Moves}
+use Rattle.moves.specs.Move.{Left, generationAfter, moveIn, moveOf, movedPaper, countsOf, movedCells, movedRings, Moves}
 use Rattle.change_slices.specs.Move.{moveListOf, askedFirst, Storing, isStored}
 
 -- ---- what the changes of a list say, from how its commit at generation 0 is decided
@@ -52,15 +52,15 @@ module _ {A : Type 0} (spec : TurnStockSpec) (cs xs : List Float) (count : ℕ) 
   first-stock j e = simp (papers, e)
 
   module _ (n : ℕ) (e : stockOf spec cs ≡ answers n) where
-    pub first-stored : countFits (extentOf (cleanSpec spec)) xs count ≡ false → refuses (only 4) ≡ askedFirst spec cs xs count removed p
+    pub first-stored : countFits (barRing (cleanSpec spec)) xs count ≡ false → refuses (only 4) ≡ askedFirst spec cs xs count removed p
     unfolding askedFirst
     first-stored f = simp (papers, e, f)
 
-    pub first-removed : countFits (extentOf (cleanSpec spec)) xs count ≡ true → (k : ℕ) → badRing removed ≡ some k → refuses (at 10 k) ≡ askedFirst spec cs xs count removed p
+    pub first-removed : countFits (barRing (cleanSpec spec)) xs count ≡ true → (k : ℕ) → badRing removed ≡ some k → refuses (at 10 k) ≡ askedFirst spec cs xs count removed p
     unfolding askedFirst
     first-removed f k t = simp (papers, e, f) (sym (demandNone-some (badRing removed) 10 k p t))
 
-    pub first-change : countFits (extentOf (cleanSpec spec)) xs count ≡ true → badRing removed ≡ none → p ≡ askedFirst spec cs xs count removed p
+    pub first-change : countFits (barRing (cleanSpec spec)) xs count ≡ true → badRing removed ≡ none → p ≡ askedFirst spec cs xs count removed p
     unfolding askedFirst
     first-change f t = simp (papers, e, f, t)
 
@@ -68,7 +68,7 @@ module _ {A : Type 0} (spec : TurnStockSpec) (cs xs : List Float) (count : ℕ) 
 module _ (spec : TurnStockSpec) (cs xs : List Float) (count : ℕ) (removed : List Float) (x : Reason) where
   asked-counts : askedFirst spec cs xs count removed (refuses x) ≡ countsOf (askedFirst spec cs xs count removed (refuses x))
   unfolding askedFirst onward demand demandNone
-  asked-counts = go (stockOf spec cs) (countFits (extentOf (cleanSpec spec)) xs count) (badRing removed)
+  asked-counts = go (stockOf spec cs) (countFits (barRing (cleanSpec spec)) xs count) (badRing removed)
     where
       go : (p : Paper ℕ) (a : Bool) (o : Option ℕ) → onward p (λ _. demand a 4 (demandNone o 10 (refuses x))) ≡ countsOf (onward p (λ _. demand a 4 (demandNone o 10 (refuses x))))
       go (answers n) true none = refl
@@ -76,11 +76,11 @@ module _ (spec : TurnStockSpec) (cs xs : List Float) (count : ℕ) (removed : Li
       go (answers n) false o = refl
       go (refuses j) a o = refl
 
-  asked-rings : ringsAfter (askedFirst spec cs xs count removed (refuses x)) xs ≡ xs
+  asked-rings : movedRings (askedFirst spec cs xs count removed (refuses x)) xs ≡ xs
   unfolding askedFirst onward demand demandNone
-  asked-rings = go (stockOf spec cs) (countFits (extentOf (cleanSpec spec)) xs count) (badRing removed)
+  asked-rings = go (stockOf spec cs) (countFits (barRing (cleanSpec spec)) xs count) (badRing removed)
     where
-      go : (p : Paper ℕ) (a : Bool) (o : Option ℕ) → ringsAfter (onward p (λ _. demand a 4 (demandNone o 10 (refuses x)))) xs ≡ xs
+      go : (p : Paper ℕ) (a : Bool) (o : Option ℕ) → movedRings (onward p (λ _. demand a 4 (demandNone o 10 (refuses x)))) xs ≡ xs
       go (answers n) true none = refl
       go (answers n) true (some k) = refl
       go (answers n) false o = refl
@@ -101,7 +101,7 @@ module _ (spec : TurnStockSpec) (xs : List Float) (count g : ℕ) (removed : Lis
   same-counts true (some k) p c rr cs ds = refl
   same-counts false b p c rr cs ds = refl
 
-  same-rings : (a : Bool) (b : Option ℕ) (p : Paper (Unit {0})) (c : Bool) (rr : Paper (List Ring)) (cs ds : List Float) → ringsAfter (rest a b p c rr cs) xs ≡ ringsAfter (rest a b p c rr ds) xs
+  same-rings : (a : Bool) (b : Option ℕ) (p : Paper (Unit {0})) (c : Bool) (rr : Paper (List Ring)) (cs ds : List Float) → movedRings (rest a b p c rr cs) xs ≡ movedRings (rest a b p c rr ds) xs
   unfolding demand demandNone onward
   same-rings true none (answers u) true (answers rs) cs ds = refl
   same-rings true none (answers u) true (refuses r) cs ds = refl
@@ -111,7 +111,7 @@ module _ (spec : TurnStockSpec) (xs : List Float) (count g : ℕ) (removed : Lis
   same-rings false b p c rr cs ds = refl
 
   -- the cells after it are those, or as they were
-  rest-cells : (a : Bool) (b : Option ℕ) (p : Paper (Unit {0})) (c : Bool) (rr : Paper (List Ring)) (cs : List Float) → cellsAfter (rest a b p c rr cs) cs ≡ cs
+  rest-cells : (a : Bool) (b : Option ℕ) (p : Paper (Unit {0})) (c : Bool) (rr : Paper (List Ring)) (cs : List Float) → movedCells (rest a b p c rr cs) cs ≡ cs
   unfolding demand demandNone onward
   rest-cells true none (answers u) true (answers rs) cs = refl
   rest-cells true none (answers u) true (refuses r) cs = refl
@@ -121,7 +121,7 @@ module _ (spec : TurnStockSpec) (xs : List Float) (count g : ℕ) (removed : Lis
   rest-cells false b p c rr cs = refl
 
   -- where it is stored they are those
-  rest-stored : (a : Bool) (b : Option ℕ) (p : Paper (Unit {0})) (c : Bool) (rr : Paper (List Ring)) (cs ds : List Float) (n h : ℕ) → movedPaper (moved.Stored n h) ≡ countsOf (rest a b p c rr ds) → cellsAfter (rest a b p c rr ds) cs ≡ ds
+  rest-stored : (a : Bool) (b : Option ℕ) (p : Paper (Unit {0})) (c : Bool) (rr : Paper (List Ring)) (cs ds : List Float) (n h : ℕ) → movedPaper (moved.Stored n h) ≡ countsOf (rest a b p c rr ds) → movedCells (rest a b p c rr ds) cs ≡ ds
   unfolding demand demandNone onward
   rest-stored true none (answers u) true (answers rs) cs ds n h e = refl
   rest-stored true none (answers u) true (refuses r) cs ds n h e = absurd (no-answer r _ (sym e))
@@ -132,7 +132,7 @@ module _ (spec : TurnStockSpec) (xs : List Float) (count g : ℕ) (removed : Lis
 
 module _ (spec : TurnStockSpec) (cs xs : List Float) (count g : ℕ) (l : List TurnChange) (removed : List Float) where
   abbrev fit : Bool
-  fit = countFits (extentOf (cleanSpec spec)) xs count
+  fit = countFits (barRing (cleanSpec spec)) xs count
 
   abbrev few : Bool
   few = leb (generationAfter spec g removed) lastGeneration
@@ -165,7 +165,7 @@ module _ (spec : TurnStockSpec) (cs xs : List Float) (count g : ℕ) (l : List T
       record {
         answer = f ∙ ap (askedFirst spec cs xs count removed) o ∙ asked-counts spec cs xs count removed r ∙ ap countsOf (sym p);
         cells = refl;
-        rings = sym (ap (λ (x : Paper Left). ringsAfter x xs) p ∙ asked-rings spec cs xs count removed r);
+        rings = sym (ap (λ (x : Paper Left). movedRings x xs) p ∙ asked-rings spec cs xs count removed r);
       }
 
   -- they pass: the rings are those of a move with no changes
@@ -184,8 +184,8 @@ module _ (spec : TurnStockSpec) (cs xs : List Float) (count g : ℕ) (l : List T
       at : (p q : Paper Left) → p ≡ R (answers tt) (putAll cs l) → q ≡ R (answers tt) cs → Moves q r cs cs' xs xs' → Storing p r cs cs' xs xs'
       at p q ep eq w = record {
         answer = w .answer ∙ ap countsOf eq ∙ same-counts spec xs count g removed fit (badRing removed) (answers tt) few (removeRings spec xs count removed) cs (putAll cs l) ∙ ap countsOf (sym ep);
-        cells = w .cells ∙ ap (λ (x : Paper Left). cellsAfter x cs) eq ∙ rest-cells spec xs count g removed fit (badRing removed) (answers tt) few (removeRings spec xs count removed) cs;
-        rings = w .rings ∙ ap (λ (x : Paper Left). ringsAfter x xs) eq ∙ same-rings spec xs count g removed fit (badRing removed) (answers tt) few (removeRings spec xs count removed) cs (putAll cs l) ∙ ap (λ (x : Paper Left). ringsAfter x xs) (sym ep);
+        cells = w .cells ∙ ap (λ (x : Paper Left). movedCells x cs) eq ∙ rest-cells spec xs count g removed fit (badRing removed) (answers tt) few (removeRings spec xs count removed) cs;
+        rings = w .rings ∙ ap (λ (x : Paper Left). movedRings x xs) eq ∙ same-rings spec xs count g removed fit (badRing removed) (answers tt) few (removeRings spec xs count removed) cs (putAll cs l) ∙ ap (λ (x : Paper Left). movedRings x xs) (sym ep);
       }
 
       none-is : (n : ℕ) → demand (leb 0 0) 6 (moveIn spec n cs xs count g (changesFrom [] [] 0) removed) ≡ R (answers tt) cs
@@ -196,7 +196,7 @@ module _ (spec : TurnStockSpec) (cs xs : List Float) (count g : ℕ) (l : List T
       go (refuses j) q w = absurd (no-answer j h (sym q))
 
   -- ---- after the rings
-  kept : (p : Paper Left) (x : Reason) → refuses x ≡ countsOf p → cs ≡ cellsAfter p cs
+  kept : (p : Paper Left) (x : Reason) → refuses x ≡ countsOf p → cs ≡ movedCells p cs
   kept (answers a) x e = absurd (no-answer x _ e)
   kept (refuses j) x e = refl
 
@@ -211,6 +211,6 @@ module _ (spec : TurnStockSpec) (cs xs : List Float) (count g : ℕ) (l : List T
   move-done (moved.RefusedAt c k) cs' cs'' xs' w t q = absurd (false≢true t)
   move-done (moved.Stored k h) cs' cs'' xs' w t q = record { answer = w .answer; cells = q ∙ ap (λ (x : List Float). putAll x l) (w .cells) ∙ sym (go (stockOf spec cs) (w .answer)); rings = w .rings }
     where
-      go : (p : Paper ℕ) → movedPaper (moved.Stored k h) ≡ countsOf (onward p (λ n. moveIn spec n cs xs count g l removed)) → cellsAfter (onward p (λ n. moveIn spec n cs xs count g l removed)) cs ≡ putAll cs l
+      go : (p : Paper ℕ) → movedPaper (moved.Stored k h) ≡ countsOf (onward p (λ n. moveIn spec n cs xs count g l removed)) → movedCells (onward p (λ n. moveIn spec n cs xs count g l removed)) cs ≡ putAll cs l
       go (answers n) e = rest-stored spec xs count g removed fit (badRing removed) (passAll (cleanSpec spec) n cs l) few (removeRings spec xs count removed) cs (putAll cs l) k h e
       go (refuses j) e = absurd (no-answer j _ (sym e))

@@ -36,7 +36,7 @@ use Rattle.cuts.specs.declared.Tool.{Tool}
 use Rattle.cuts.specs.declared.Tool.the-variants.{Single, Nose, Polygon}
 use Rattle.cuts.specs.Tool.{previewTool}
 use Rattle.change_slices.specs.Read.{Reads}
-use Rattle.change_slices.specs.Proposal.{Written, countIn, narrowAnswer, narrowed, Lists}
+use Rattle.change_slices.specs.Proposal.{Written, countIn, narrowAnswer, narrowed, ListsRecords}
 use Rattle.change_slices.proofs.Reading.{held-all}
 
 -- ---- room for a change a cell is room for all
@@ -96,7 +96,7 @@ from-over l k is is' xs xs' ek ei ex = ap₂ (λ (p : List ℕ) (q : List Float)
 
 module _ (room : ℕ) (is is' : List ℕ) (xs xs' : List Float) where
   -- it answers with no more than room
-  lists-enough : (l : List TurnChange) (k : ℕ) → k ≡ length l → is' ≡ over (indicesOf l) is → xs' ≡ over (numbersOf l) xs → length l ≤ room → Lists room (answers l) (Changes k) is' xs'
+  lists-enough : (l : List TurnChange) (k : ℕ) → k ≡ length l → is' ≡ over (indicesOf l) is → xs' ≡ over (numbersOf l) xs → length l ≤ room → ListsRecords room (answers l) (Changes k) is' xs'
   lists-enough l k ek ei ex h =
       let a = over-holds (indicesOf l) is in
       let b = over-holds (numbersOf l) xs in
@@ -112,17 +112,17 @@ module _ (room : ℕ) (is is' : List ℕ) (xs xs' : List Float) where
       }
 
   -- it refuses
-  none : (r : Reason) (c : Previewed) → previewedPaper c ≡ refuses r → countIn c ≡ 0 → Lists room (refuses r) c is' xs'
+  none : (r : Reason) (c : Previewed) → previewedPaper c ≡ refuses r → countIn c ≡ 0 → ListsRecords room (refuses r) c is' xs'
   unfolding changesFrom
   none r c e z = record { answer = e; changes = ap (changesFrom is' xs') z; held = omega arith; few = omega arith }
 
-  narrow-lists : (p : Paper (List TurnChange)) (a : Previewed) → Proposed p a is is' xs xs' → Lists room (narrowed room p) (narrowAnswer room a) is' xs'
+  narrow-lists : (p : Paper (List TurnChange)) (a : Previewed) → Proposed p a is is' xs xs' → ListsRecords room (narrowed room p) (narrowAnswer room a) is' xs'
   unfolding onward narrowAnswer
   narrow-lists (answers l) (Changes k) q =
       let ek = same-answer (q .answer) in
       go (ltb room k) refl ek
     where
-      go : (t : Bool) → ltb room k ≡ t → k ≡ length l → Lists room (settled room l) (pick t (Refused ChangesOverRoom) (Changes k)) is' xs'
+      go : (t : Bool) → ltb room k ≡ t → k ≡ length l → ListsRecords room (settled room l) (pick t (Refused ChangesOverRoom) (Changes k)) is' xs'
       go true e ek =
           let h = ltb-true room k e in
           let f : settled room l ≡ refuses (only 6) = demand-false (leb (length l) room) 6 (answers l) (lt-leb (length l) room (omega arith)) in
@@ -135,11 +135,11 @@ module _ (room : ℕ) (is is' : List ℕ) (xs xs' : List Float) where
   narrow-lists (refuses r) (Changes k) q = absurd (no-answer r k (sym (q .answer)))
   narrow-lists (refuses r) (Refused c) q = none r (Refused c) (q .answer) refl
 
-  pub narrows : (p : Paper (List TurnChange)) (a r : Previewed) → Proposed p a is is' xs xs' → r ≡ narrowAnswer room a → Lists room (narrowed room p) r is' xs'
-  narrows p a r q e = subst (λ (x : Previewed). Lists room (narrowed room p) x is' xs') (sym e) (narrow-lists p a q)
+  pub narrows : (p : Paper (List TurnChange)) (a r : Previewed) → Proposed p a is is' xs xs' → r ≡ narrowAnswer room a → ListsRecords room (narrowed room p) r is' xs'
+  narrows p a r q e = subst (λ (x : Previewed). ListsRecords room (narrowed room p) x is' xs') (sym e) (narrow-lists p a q)
 
 -- ---- the records that are read from them
-pub records-hold : (p q : Paper (List TurnChange)) (r : Previewed) (is : List ℕ) (xs : List Float) (k : ℕ) (l l' : List TurnChange) → p ≡ q → Lists (length l) q r is xs → Reads is xs (countIn r) k l l' → Written p r l l'
+pub records-hold : (p q : Paper (List TurnChange)) (r : Previewed) (is : List ℕ) (xs : List Float) (k : ℕ) (l l' : List TurnChange) → p ≡ q → ListsRecords (length l) q r is xs → Reads is xs (countIn r) k l l' → Written p r l l'
 records-hold p q r is xs k l l' e w d =
     let h : k ≡ countIn r = d .count ∙ held-all (length is) (length xs) (countIn r) (length l) (w .held) (w .few) in
     record {

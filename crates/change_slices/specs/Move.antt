@@ -9,12 +9,12 @@ use Rattle.stock.specs.declared.TurnStockSpec.{TurnStockSpec}
 use Rattle.stock.specs.declared.TurnChange.{TurnChange}
 use Rattle.stock.specs.Spec.{cleanSpec}
 use Rattle.stock.specs.Cell.{stockOf}
-use Rattle.rings.specs.Store.{extentOf, countFits, badRing}
+use Rattle.rings.specs.Store.{barRing, countFits, badRing}
 use Rattle.changes.specs.declared.Applied.{Applied}
 use Rattle.changes.specs.Commit.{appliedPaper, generationOf, commitOf}
 use Rattle.moves.specs.declared.Moved.{Moved}
 use Rattle.moves.specs.declared.Moved.the-variants.{Stored, Refused, RefusedAt}
-use Rattle.moves.specs.Move.{Left, moveIn, movedPaper, countsOf, ringsAfter}
+use Rattle.moves.specs.Move.{Left, moveIn, movedPaper, countsOf, movedRings}
 
 -- a move of a list of changes: 1, 2, 3, then 4, 10, 7, then 8, 21, 22, 23 change by change, 12, 11
 unfoldable pub moveListOf : TurnStockSpec → List Float → List Float → ℕ → ℕ → List TurnChange → List Float → Paper Left
@@ -24,7 +24,7 @@ moveListOf spec cs xs count g l removed = onward (stockOf spec cs) (λ n. moveIn
 unfoldable pub askedFirst : {A : Type 0} → TurnStockSpec → List Float → List Float → ℕ → List Float → Paper A → Paper A
 askedFirst spec cs xs count removed p =
     onward (stockOf spec cs) (λ _.
-    demand (countFits (extentOf (cleanSpec spec)) xs count) 4
+    demand (countFits (barRing (cleanSpec spec)) xs count) 4
     (demandNone (badRing removed) 10
     p))
 
@@ -32,7 +32,7 @@ askedFirst spec cs xs count removed p =
 pub record Storing (p : Paper Left) (r : Moved) (cs cs' xs xs' : List Float) : Type 0 where
   pub answer : movedPaper r ≡ countsOf p
   pub cells : cs' ≡ cs
-  pub rings : xs' ≡ ringsAfter p xs
+  pub rings : xs' ≡ movedRings p xs
 
 -- so it is of a move of any changes that were decided so
 abbrev pub StoresMove : TurnStockSpec → List Float → List Float → ℕ → ℕ → Applied → List Float → Moved → List Float → List Float → Type 0

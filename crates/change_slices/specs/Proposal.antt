@@ -41,7 +41,7 @@ abbrev pub narrowed : ℕ → Paper (List TurnChange) → Paper (List TurnChange
 narrowed room p = onward p (settled room)
 
 -- the flat lists have its changes at the front, no more than room
-pub record Lists (room : ℕ) (p : Paper (List TurnChange)) (r : Previewed) (is : List ℕ) (xs : List Float) : Type 0 where
+pub record ListsRecords (room : ℕ) (p : Paper (List TurnChange)) (r : Previewed) (is : List ℕ) (xs : List Float) : Type 0 where
   pub answer : previewedPaper r ≡ countOf p
   pub changes : changesFrom is xs (countIn r) ≡ writtenOf p
   pub held : countIn r ≤ roomOf (length is) (length xs)
@@ -49,4 +49,4 @@ pub record Lists (room : ℕ) (p : Paper (List TurnChange)) (r : Previewed) (is 
 
 -- so of a rule with the room that the flat lists have, narrowed
 abbrev pub ListsIn : ℕ → (ℕ → Paper (List TurnChange)) → Previewed → Lent ℕ → Lent Float → Type 0
-ListsIn room rule r indices records = Lists room (narrowed room (rule (roomIn indices records))) r (now (indices .exit)) (now (records .exit))
+ListsIn room rule r indices records = ListsRecords room (narrowed room (rule (roomIn indices records))) r (now (indices .exit)) (now (records .exit))

@@ -12,9 +12,7 @@ use Rattle.stock.proofs.Count.{and-both}
 use Rattle.polygon.proofs.Sizes.{usable-within}
 use Rattle.cuts.specs.Cut.{drillAt}
 use Rattle.cuts.specs.Source.{isPast}
-
-is-T : {b : Bool} → b ≡ true → T b
-is-T e = subst T (sym e) tt
+use Rattle.floats.proofs.Bools.{so}
 
 past-full : (a r cone : Float) → T (fits binary64 a) → T (fits binary64 r) → T (fits binary64 cone) → isPast a r cone ≡ true → leastOf (greatestOf (a /₆₄ cone *₆₄ r) zero64) r ≡ r
 unfolding coneOf ofBits ofFields odd
@@ -24,7 +22,7 @@ past-full a r cone A R C h =
     let t3 = and-both (usable a && usable r && usable cone) (lt zero64 r) (t4 .0) in
     let t2 = and-both (usable a && usable r) (usable cone) (t3 .0) in
     let t1 = and-both (usable a) (usable r) (t2 .0) in
-    cone-full (finite-within (usable-within cone C (t2 .1))) (is-T (t4 .1)) (finite-within (usable-within r R (t1 .1))) (is-T (t3 .1)) (finite-within (usable-within a A (t1 .0))) (is-T (t5 .1))
+    cone-full (finite-within (usable-within cone C (t2 .1))) (so (t4 .1)) (finite-within (usable-within r R (t1 .1))) (so (t3 .1)) (finite-within (usable-within a A (t1 .0))) (so (t5 .1))
 
 -- so the radius at z is the drill's
 pub drill-past : (z tip r cone : Float) → T (fits binary64 r) → T (fits binary64 cone) → lt z tip ≡ false → le cone zero64 ≡ false → isPast (z -₆₄ tip) r cone ≡ true → r ≡ drillAt z tip r cone

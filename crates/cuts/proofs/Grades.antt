@@ -18,9 +18,7 @@ use Rattle.stock.specs.Spec.{cleanSpec}
 use Rattle.stock.proofs.Count.{Checked}
 use Rattle.stock.proofs.Bins.{HeldSpec, bin-within, bin-mono}
 use Rattle.cuts.specs.Rows.{passedOf, beforeOf, onwardOf, Graded, Split, Between}
-
-so : {b : Bool} → b ≡ true → T b
-so e = subst T (sym e) tt
+use Rattle.floats.proofs.Bools.{so}
 
 lt-le : (x y : Float) → T (lt x y) → T (le x y)
 unfolding le

@@ -23,11 +23,12 @@ use Rattle.stock.specs.Bin.{binOf}
 use Rattle.stock.specs.Cell.{cellAt, sameCell}
 use Rattle.stock.proofs.Count.{and-both}
 use Rattle.reach.specs.Reach.{low, deeper, shallower, deepOf, sureOf, limitOf, withPair, ownOf, cutBy, cutCell, actCell}
-use Rattle.reach.proofs.Fit.{HeldCell}
+use Rattle.stock.proofs.Passes.{HeldCell}
 use Rattle.cuts.specs.Cut.{drillAt}
 use Rattle.cuts.specs.declared.list.Source.{Source}
 use Rattle.cuts.specs.declared.list.Source.the-variants as source
-use Rattle.cuts.specs.Source.{sourceSide, sourceReach, sourceAct, drillBoth, Leaves, SameTo}
+use Rattle.cuts.specs.Source.{sourceSide, sourceReach, sourceAct, drillBoth, LeavesCell, SameTo}
+use Rattle.floats.proofs.Bools.{so}
 
 abbrev N : Float → Type 0
 N = Number binary64
@@ -36,9 +37,6 @@ abbrev Held : Float → Type 0
 Held x = T (fits binary64 x)
 
 -- ---- tests
-is-T : {b : Bool} → b ≡ true → T b
-is-T e = subst T (sym e) tt
-
 fails : (b : Bool) → (T b → ⊥) → b ≡ false
 fails true h = absurd (h tt)
 fails false h = refl
@@ -114,8 +112,8 @@ under r v lim x R W L X e h = pick-false _ (pick (lt lim v) lim v) x (go (lt lim
     go : (t : Bool) → lt lim v ≡ t → (u : Bool) → T (le (pick u lim r) x) → lt x (pick t lim v) ≡ false
     go true q true k = fails (lt x lim) (λ s. lt-never X (lt-le-trans X (number-l lim x L k) X s k))
     go true q false k =
-        let b = at-most lim v (is-T q) in
-        fails (lt x lim) (λ s. never (no-more r v x R W X e k) (lt-trans X (number-l lim v L b) (number-r lim v W b) s (is-T q)))
+        let b = at-most lim v (so q) in
+        fails (lt x lim) (λ s. never (no-more r v x R W X e k) (lt-trans X (number-l lim v L b) (number-r lim v W b) s (so q)))
     go false q true k = no-more lim v x (number-l lim x L k) W X q k
     go false q false k = no-more r v x R W X e k
 
@@ -129,15 +127,15 @@ drill-left r c H hc e b tip cone =
     let ou = c .outer .«upper_mm» in
     let t2 = and-both (le zero64 r && le il iu) (le (leastOf r ou) il) e in
     let t1 = and-both (le zero64 r) (le il iu) (t2 .0) in
-    let z = is-T (t1 .0) in
-    let o = is-T (t1 .1) in
-    let m = is-T (t2 .1) in
+    let z = so (t1 .0) in
+    let o = so (t1 .1) in
+    let m = so (t2 .1) in
     let R = number-r zero64 r H z in
-    let IL = number-l il iu (hc .il) o in
-    let IU = number-r il iu (hc .iu) o in
-    let M = number-l (leastOf r ou) il (least-keeps Held H (hc .ou)) m in
-    let sure = under r (drillAt (b .za) tip r cone) ou il R (held r R z (b .za) tip cone) (hc .ou) IL (most r R z (b .za) tip cone) m in
-    let deep = under r (drillAt (b .zb) tip r cone) ou iu R (held r R z (b .zb) tip cone) (hc .ou) IU (most r R z (b .zb) tip cone) (le-trans M IL IU m o) in
+    let IL = number-l il iu (hc .inner-lower) o in
+    let IU = number-r il iu (hc .inner-upper) o in
+    let M = number-l (leastOf r ou) il (least-keeps Held H (hc .outer-upper)) m in
+    let sure = under r (drillAt (b .za) tip r cone) ou il R (held r R z (b .za) tip cone) (hc .outer-upper) IL (most r R z (b .za) tip cone) m in
+    let deep = under r (drillAt (b .zb) tip r cone) ou iu R (held r R z (b .zb) tip cone) (hc .outer-upper) IU (most r R z (b .zb) tip cone) (le-trans M IL IU m o) in
     let order : greatestOf iu il ≡ iu = kept iu il (fails (lt iu il) (λ t. lt-never IU (lt-le-trans IU IL IU t o))) in
     rw (sure, deep, order) refl
 
@@ -155,16 +153,16 @@ drill-told r c m H hc q t =
     drill-left r c H hc (ap (λ (x : Float). le zero64 r && le (c .inner .«lower_mm») (c .inner .«upper_mm») && le x (c .inner .«lower_mm»)) (sym q) ∙ t)
 
 -- ---- by the source
-pub thread-source : (src : Source) (σ : TurnSide) (r : Float) (c : TurnCell) → src ≡ source.Thread σ r → cutCell σ c (low r) ≡ c → Leaves src c
+pub thread-source : (src : Source) (σ : TurnSide) (r : Float) (c : TurnCell) → src ≡ source.Thread σ r → cutCell σ c (low r) ≡ c → LeavesCell src c
 unfolding sourceSide sourceReach
 thread-source src σ r c e k s values there i = rw e k
 
-pub drill-source : (src : Source) (tip r cone : Float) (c : TurnCell) → src ≡ source.Drill tip r cone → ((b : ZRange) (tip cone : Float) → cutCell Inner c (drillBoth b tip r cone) ≡ c) → Leaves src c
+pub drill-source : (src : Source) (tip r cone : Float) (c : TurnCell) → src ≡ source.Drill tip r cone → ((b : ZRange) (tip cone : Float) → cutCell Inner c (drillBoth b tip r cone) ≡ c) → LeavesCell src c
 unfolding sourceSide sourceReach
 drill-source src tip r cone c e k s values there i = rw e (k (binOf s i) tip cone)
 
 -- ---- a bin that is left
-pub bin-left : (s : TurnStockSpec) (src : Source) (values : List Float) (there : List Bool) (cs : List Float) (i : ℕ) (before : TurnCell) → before ≡ cellAt cs i → Leaves src before → SameTo cs i
+pub bin-left : (s : TurnStockSpec) (src : Source) (values : List Float) (there : List Bool) (cs : List Float) (i : ℕ) (before : TurnCell) → before ≡ cellAt cs i → LeavesCell src before → SameTo cs i
     → sameCell (cellAt cs i) (actCell (sourceAct s src values there) i (cellAt cs i)) ≡ true
 bin-left s src values there cs i before e l t =
     let k : cutCell (sourceSide src) (cellAt cs i) (sourceReach s src values there i) ≡ cellAt cs i = subst (λ (c : TurnCell). cutCell (sourceSide src) c (sourceReach s src values there i) ≡ c) e (l s values there i) in

@@ -21,7 +21,7 @@ use Rattle.nose.specs.declared.Track.{Track}
 use Rattle.nose.specs.Nose.{segmentAt, segmentCount, noseTo, noseAct}
 use Rattle.nose.specs.Track.{Samples, sampleAt, stepOf, trackOf, withTrack}
 use Rattle.nose.proofs.Tracks.{nose-more, nose-at, track-under, track-over, track-step}
-use Rattle.cuts.specs.Rows.{PutRow, passedOf, Split, stepped, Stepped, Passed, noRow, Unfilled, Filled, Idle, Says}
+use Rattle.cuts.specs.Rows.{PutRow, passedOf, Split, stepped, Stepped, Passed, noRow, Unfilled, RowFilled, Idle, Says}
 use Rattle.cuts.proofs.Crossings.{says-nothing}
 
 -- each row is as long as it was
@@ -82,11 +82,11 @@ module _ (s : TurnStockSpec) (n : ℕ) (t : Track) (first last : ℕ) (A : Split
 
 -- ---- one segment more
 module _ (s : TurnStockSpec) (n : ℕ) (side : TurnSide) (rn : Float) (xs : List Float) where
-  pub filled-none : (old : ℕ → Found) → Unfilled 0 n old → Filled s n side rn xs 0 old
+  pub filled-none : (old : ℕ → Found) → Unfilled 0 n old → RowFilled s n side rn xs 0 old
   unfolding noseTo
   filled-none old h j l = h j (omega arith) l
 
-  pub filled-more : (k : ℕ) (t : Track) (old new : ℕ → Found) → t ≡ trackOf (segmentAt xs k side) rn → Filled s n side rn xs k old → Passed s n t old new → Filled s n side rn xs (k + 1) new
+  pub filled-more : (k : ℕ) (t : Track) (old new : ℕ → Found) → t ≡ trackOf (segmentAt xs k side) rn → RowFilled s n side rn xs k old → Passed s n t old new → RowFilled s n side rn xs (k + 1) new
   filled-more k t old new e f p j h = p j h ∙ (simp (e, f j h)) ∙ sym (nose-more side rn xs (binOf s j) k)
 
 -- ---- the bins that were visited
@@ -114,7 +114,7 @@ idle-all {n} {new} seen w h = record { within = omega arith; under = λ j a l. a
     go j l (no p) = w .under j (omega arith) l
 
 -- over all segments the rows say what the nose reaches
-pub says-nose : (s : TurnStockSpec) (n : ℕ) (side : TurnSide) (rn : Float) (xs : List Float) (new : ℕ → Found) (bins : BinRange) → Filled s n side (cleanOf rn) xs (segmentCount xs) new → Idle n bins new → bins .from ≤ bins .to → Says (noseAct s side rn xs) n (bins .from) (bins .to) new
+pub says-nose : (s : TurnStockSpec) (n : ℕ) (side : TurnSide) (rn : Float) (xs : List Float) (new : ℕ → Found) (bins : BinRange) → RowFilled s n side (cleanOf rn) xs (segmentCount xs) new → Idle n bins new → bins .from ≤ bins .to → Says (noseAct s side rn xs) n (bins .from) (bins .to) new
 unfolding noseAct
 says-nose s n side rn xs new bins f w o =
     let h = w .within in

@@ -120,8 +120,8 @@ abbrev pub Passed : TurnStockSpec → ℕ → Track → (ℕ → Found) → (ℕ
 Passed s n t old new = (j : ℕ) → j < n → new j ≡ withTrack (old j) t (binOf s j)
 
 -- every bin holds what the rule has of it, over the first k segments
-abbrev pub Filled : TurnStockSpec → ℕ → TurnSide → Float → List Float → ℕ → (ℕ → Found) → Type 0
-Filled s n side rn xs k new = (j : ℕ) → j < n → new j ≡ noseTo side rn xs (binOf s j) k
+abbrev pub RowFilled : TurnStockSpec → ℕ → TurnSide → Float → List Float → ℕ → (ℕ → Found) → Type 0
+RowFilled s n side rn xs k new = (j : ℕ) → j < n → new j ≡ noseTo side rn xs (binOf s j) k
 
 -- of n bins those before the first and from the last on are not filled
 pub record Idle (n : ℕ) (bins : BinRange) (new : ℕ → Found) : Type 0 where

@@ -46,8 +46,8 @@ abbrev pub sourceAct : TurnStockSpec → Source → List Float → List Bool →
 sourceAct s src values there = record { side = sourceSide src; at = sourceReach s src values there }
 
 -- the cut leaves this cell, whatever bin it is of
-abbrev pub Leaves : Source → TurnCell → Type 0
-Leaves src c = (s : TurnStockSpec) (values : List Float) (there : List Bool) (i : ℕ) → cutCell (sourceSide src) c (sourceReach s src values there i) ≡ c
+abbrev pub LeavesCell : Source → TurnCell → Type 0
+LeavesCell src c = (s : TurnStockSpec) (values : List Float) (there : List Bool) (i : ℕ) → cutCell (sourceSide src) c (sourceReach s src values there i) ≡ c
 
 -- in the bins from first to before last what a reach says, the others passed over
 unfoldable pub spanReach : ℕ → ℕ → (ℕ → Reached) → ℕ → Reached

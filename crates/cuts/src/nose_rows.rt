@@ -7,7 +7,7 @@ ghost use Rattle.refusals.specs.Limits.{cellLimit};
 ghost use Rattle.reach.specs.Low.{sweptPaper};
 ghost use Rattle.nose.specs.Nose.{segmentCount};
 ghost use Rattle.nose.specs.Track.{samplePaper, sampleAt, stepOf};
-ghost use Rattle.cuts.specs.Rows.{rowAt, rowsFound, rowsLeft, Room, PutRow, Unfilled, Graded, Stepped, Passed, Filled, Idle};
+ghost use Rattle.cuts.specs.Rows.{rowAt, rowsFound, rowsLeft, Room, PutRow, Unfilled, Graded, Stepped, Passed, RowFilled, Idle};
 use crate::ends;
 use crate::rows;
 use nose::Point;
@@ -107,7 +107,7 @@ pub fn fill(
     there: &mut [bool],
 ) -> BinRange
     requires { ⌜ Graded s n × Room n (now values) (now there) × Unfilled 0 n (rowAt (now values) (now there)) ⌝ }
-    ensures { λ r. ⌜ Filled s n side rn (now (segments .entry)) (segmentCount (now (segments .entry))) (rowsLeft values there) × Idle n r (rowsLeft values there) × (r .from ≤ r .to) ⌝ }
+    ensures { λ r. ⌜ RowFilled s n side rn (now (segments .entry)) (segmentCount (now (segments .entry))) (rowsLeft values there) × Idle n r (rowsLeft values there) × (r .from ≤ r .to) ⌝ }
 {
     let m = segments.len() / 5;
     let mut k: usize = 0;

@@ -6,7 +6,7 @@ ghost use lib.Ieee.{Float};
 ghost use Rattle.stock.specs.declared.TurnSide.the-variants.{Inner};
 ghost use Rattle.stock.specs.declared.ZRange.{ZRange};
 ghost use Rattle.reach.specs.Reach.{low, cutCell};
-ghost use Rattle.cuts.specs.Source.{drillBoth, Leaves};
+ghost use Rattle.cuts.specs.Source.{drillBoth, LeavesCell};
 use crate::list::Source;
 use stock::TurnCell;
 use stock::TurnSide;
@@ -31,7 +31,7 @@ fn drill_leaves(radius: f64, c: TurnCell) -> bool
 
 // The cut leaves the cell, whatever bin it is of. Of rows this is not known.
 pub fn leaves(source: Source, c: TurnCell) -> bool
-    ensures { λ r. ⌜ (r ≡ true → Leaves source c) ⌝ }
+    ensures { λ r. ⌜ (r ≡ true → LeavesCell source c) ⌝ }
 {
     match source {
         Source::Thread { side, radius } => thread_leaves(side, radius, c),

@@ -24,7 +24,8 @@ use Rattle.stock.proofs.Count.{checked, demanded, same-answer}
 use Rattle.stock.proofs.Cells.{length-like}
 use Rattle.stock.proofs.Bins.{HeldSpec, Bar, bar-of}
 use Rattle.stock.proofs.Stored.{cell-path}
-use Rattle.reach.proofs.Fit.{PairFit, CellFit, HeldCell, fit-of}
+use Rattle.reach.proofs.Fit.{PairFit, CellFit, fit-of}
+use Rattle.stock.proofs.Passes.{HeldCell}
 use Rattle.changes.proofs.Stocks.{Good, good-stock}
 use Rattle.moves.proofs.Answered.{answered}
 

@@ -10,7 +10,7 @@ use Rattle.floats.specs.Each.{Each}
 use Rattle.stock.proofs.Bins.{HeldList}
 use Rattle.refusals.specs.Paper.{answers, demand, demandNone, placed, onward}
 use Rattle.floats.specs.Pick.{pick}
-use Rattle.floats.specs.Numbers.{zero64, leastOf, greatestOf, cleanOf, minusZero}
+use Rattle.floats.specs.Numbers.{zero64, leastOf, greatestOf, cleanOf, minusZero, usableTo, allTo}
 use Rattle.numbers.specs.Whole.{wholeUp}
 use Rattle.stock.specs.declared.TurnStockSpec.{TurnStockSpec}
 use Rattle.stock.specs.declared.TurnSide.the-variants.{Outer, Inner}
@@ -20,7 +20,7 @@ use Rattle.stock.specs.Cell.{cellFits, fitTo, cellsFit, stockOf, putCell}
 use Rattle.reach.specs.Reach.{deeper, shallower, deepOf, sureOf, limitOf, withPair, ownOf, cutBy, cutCell}
 use Rattle.changes.specs.Change.{changeAt, changesTo}
 use Rattle.nose.specs.Nose.{cleanAt, segmentAt, segmentGood, goodTo, segmentsGood}
-use Rattle.polygon.specs.Polygon.{usableTo, polygonGood}
+use Rattle.polygon.specs.Polygon.{polygonGood}
 use Rattle.cuts.specs.declared.Cut.the-variants.{Thread, ThreadInner, Drill}
 use Rattle.cuts.specs.Cut.{misses, drillAt, threadReach, drillReach, cutReach, cutGood, cleanCut}
 use Rattle.cuts.specs.Preview.{previewCut}
@@ -148,7 +148,7 @@ abbrev swept : Cutter
 swept = polygon Outer (ofBits binary64 0x3FE0000000000000) (zero64 ∷ four ∷ three ∷ four ∷ three ∷ twelve ∷ zero64 ∷ twelve ∷ [])
 
 pub shaped : ToolsJob bar 3 3 whole (nosed ∷ swept ∷ long ∷ [])
-unfolding stockOf onward demand cellsOf cleanSpec specGood cleanOf minusZero pick wholeUp cellsFit fitTo cellFits toolGood cutGood cleanCut segmentsGood goodTo segmentGood segmentAt cleanAt polygonGood usableTo Ieee.ofBits Ieee.ofFields Ieee.odd Ieee.eq Ieee.lt Ieee.le Ieee.div Ieee.sub Ieee.add Ieee.neg Ieee.sum Ieee.round Ieee.units Ieee.size Ieee.span Ieee.climb Ieee.fits
+unfolding stockOf onward demand cellsOf cleanSpec specGood cleanOf minusZero pick wholeUp cellsFit fitTo cellFits toolGood cutGood cleanCut segmentsGood goodTo segmentGood segmentAt cleanAt polygonGood usableTo allTo Ieee.ofBits Ieee.ofFields Ieee.odd Ieee.eq Ieee.lt Ieee.le Ieee.div Ieee.sub Ieee.add Ieee.neg Ieee.sum Ieee.round Ieee.units Ieee.size Ieee.span Ieee.climb Ieee.fits
 shaped =
     record {
       spec-held = job .spec-held;

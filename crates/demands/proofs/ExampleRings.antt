@@ -18,7 +18,7 @@ use Rattle.rings.specs.declared.StoredAs.the-variants as stored
 use Rattle.rings.specs.Ring as Ring
 use Rattle.rings.specs.Ring.{kept, around, split, subtract, subtractAll, inHand, clip, left}
 use Rattle.rings.specs.Store.{ringsOf, flatOf, storeAs, ringFits, apartAll, storeFits, countFits, badFrom, badRing, raisedBy}
-use Rattle.rings.specs.Remove.{roomFor, added, addedAll, countOf, removeAllIn, removeRings, raised, removeIn, removeRing, countsOf, ringsAfter, StoresAs}
+use Rattle.rings.specs.Remove.{roomFor, added, addedAll, countOf, removeAllIn, removeRings, storedNext, removeIn, removeRing, countsOf, ringsAfter, StoresAs}
 use Rattle.moves.specs.Move.{generationAfter, moveIn, moveOf, partsOf}
 use Rattle.text.specs.Parts.{intoFirst, partedAt}
 use Rattle.text.specs.Same.{sameBytes}
@@ -52,7 +52,7 @@ none-stored = record { numbers = empty; count = 0; generation = 0 }
 
 -- a ring taken by `remove_ring`
 pub ring-taken : RanRings bar none-stored (Ring.ring zero64 six two six ∷ []) (record { numbers = one; count = 1; generation = 1 })
-unfolding demand demandAt onward pick leastOf greatestOf sizeOf minusZero cleanOf over kept around split subtract subtractAll inHand clip left ringsOf flatOf storeAs ringFits apartAll storeFits countFits roomFor added raised removeIn removeRing countsOf ringsAfter cleanSpec specGood cellsOf wholeUp Ieee.ofBits Ieee.ofFields Ieee.odd Ieee.eq Ieee.ne Ieee.lt Ieee.le Ieee.div Ieee.sub Ieee.add Ieee.mul Ieee.neg Ieee.sum Ieee.round Ieee.units Ieee.ofInt Ieee.size Ieee.span Ieee.climb Ieee.toUnsigned
+unfolding demand demandAt onward pick leastOf greatestOf sizeOf minusZero cleanOf over kept around split subtract subtractAll inHand clip left ringsOf flatOf storeAs ringFits apartAll storeFits countFits roomFor added storedNext removeIn removeRing countsOf ringsAfter cleanSpec specGood cellsOf wholeUp Ieee.ofBits Ieee.ofFields Ieee.odd Ieee.eq Ieee.ne Ieee.lt Ieee.le Ieee.div Ieee.sub Ieee.add Ieee.mul Ieee.neg Ieee.sum Ieee.round Ieee.units Ieee.ofInt Ieee.size Ieee.span Ieee.climb Ieee.toUnsigned
 ring-taken = ring (record { answer = refl; store = refl }) done
 
 -- the same ring by a move of no changes

@@ -51,8 +51,8 @@ use Rattle.changes.proofs.Decided.{conclude-is}
 use Rattle.changes.specs.Difference.{otherCell, differenceOf}
 use Rattle.rings.specs.declared.Ring.{Ring}
 use Rattle.rings.specs.Ring.{filled, clip, left}
-use Rattle.rings.specs.Store.{extentOf, ringsOf, roomOf, countFits, storeFits, finiteRing, badRing}
-use Rattle.rings.specs.Remove.{roomFor, added, addedAll, raised, removeAllIn, removeRings, removeIn, removeRing}
+use Rattle.rings.specs.Store.{barRing, ringsOf, ringRoom, countFits, storeFits, finiteRing, badRing}
+use Rattle.rings.specs.Remove.{roomFor, added, addedAll, storedNext, removeAllIn, removeRings, removeIn, removeRing}
 use Rattle.moves.specs.Move.{generationAfter, moveIn, moveOf, partsOf}
 use Rattle.change_slices.specs.Move.{moveListOf}
 use Rattle.queries.specs.Envelope.{envelopeAt}
@@ -298,18 +298,18 @@ unfolding pick demand
 skips true h x = h
 skips {m = m} {n = n} false h x = asks-more {p = demand true n (answers x)} true m (λ _. asks-more true n (λ _. asks-none x))
 
-raised-asks : (room : ℕ) (ks : List Ring) (g : ℕ) (c : Ring) → Asks (raised room ks g c) (ask (ltb g lastGeneration) 12 ∷ ask (roomFor room ks c) 11 ∷ [])
-unfolding raised added
+raised-asks : (room : ℕ) (ks : List Ring) (g : ℕ) (c : Ring) → Asks (storedNext room ks g c) (ask (ltb g lastGeneration) 12 ∷ ask (roomFor room ks c) 11 ∷ [])
+unfolding storedNext added
 raised-asks room ks g c = asks-more (ltb g lastGeneration) 12 (λ _. asks-then (added room ks c) _ (asks-more (roomFor room ks c) 11 (λ _. asks-none _)) (λ _ _. asks-none _))
 
 remove-ring-asks : (spec : TurnStockSpec) (xs : List Float) (n g : ℕ) (q : Ring) → Asks (removeRing spec xs n g q) (removeAsks spec xs n g q)
 unfolding removeRing removeIn
 remove-ring-asks spec xs n g q =
-    let e = extentOf (cleanSpec spec) in
+    let e = barRing (cleanSpec spec) in
     asks-on (cellsOf spec) _ (spec-asks spec) (λ _ _.
     asks-more (countFits e xs n) 4 (λ _.
     asks-at (finiteRing q) 10 0
-    (skips (filled (clip e q)) (raised-asks (roomOf (length xs)) (ringsOf n xs) g (clip e q)) _)))
+    (skips (filled (clip e q)) (raised-asks (ringRoom (length xs)) (ringsOf n xs) g (clip e q)) _)))
 
 -- `remove_ring`: 1, 2, 4, 10, 12, 11; a ring that is empty after clipping skips 12 and 11
 pub remove-ring-exactly : (spec : TurnStockSpec) (xs : List Float) (n g : ℕ) (q : Ring) → Exactly (removeRing spec xs n g q) (removeAsks spec xs n g q)
@@ -332,10 +332,10 @@ added-asks e room ks (q ∷ qs) = asks-as (step (roomFor room ks (clip e q))) (b
 
 rings-asks : (spec : TurnStockSpec) (xs : List Float) (n : ℕ) (removed : List Float) → Asks (removeRings spec xs n removed) (removeRingsAsks spec xs n removed)
 unfolding removeRings removeAllIn
-rings-asks spec xs n removed = asks-more (leb n (roomOf (length xs))) 4 (λ _. added-asks _ _ _ _)
+rings-asks spec xs n removed = asks-more (leb n (ringRoom (length xs))) 4 (λ _. added-asks _ _ _ _)
 
 -- the same where the count is known not to be over the room
-rings-room : (spec : TurnStockSpec) (xs : List Float) (n : ℕ) (removed : List Float) → leb n (roomOf (length xs)) ≡ true → Asks (removeRings spec xs n removed) (ask (allStored spec xs n removed) 11 ∷ [])
+rings-room : (spec : TurnStockSpec) (xs : List Float) (n : ℕ) (removed : List Float) → leb n (ringRoom (length xs)) ≡ true → Asks (removeRings spec xs n removed) (ask (allStored spec xs n removed) 11 ∷ [])
 unfolding removeRings removeAllIn
 rings-room spec xs n removed e = asks-as (demand-true _ 4 _ e) (added-asks _ _ _ _)
 
@@ -351,21 +351,21 @@ unfolding partsOf
 parts-exactly spec cs given xs =
     exactly (asks-on (stockOf spec cs) _ (stock-asks spec cs) (λ _ _.
     asks-found (badRing given) 10
-    (rings-room spec xs 0 given (le-leb 0 (roomOf (length xs)) (omega arith)))))
+    (rings-room spec xs 0 given (le-leb 0 (ringRoom (length xs)) (omega arith)))))
 
 -- rings that pass refusal 4's test are no more than the room
-fits-room : (e : Ring) (xs : List Float) (n : ℕ) → countFits e xs n ≡ true → leb n (roomOf (length xs)) ≡ true
+fits-room : (e : Ring) (xs : List Float) (n : ℕ) → countFits e xs n ≡ true → leb n (ringRoom (length xs)) ≡ true
 unfolding countFits
-fits-room e xs n h = and-both (leb n (roomOf (length xs))) (storeFits e (ringsOf n xs)) h .0
+fits-room e xs n h = and-both (leb n (ringRoom (length xs))) (storeFits e (ringsOf n xs)) h .0
 
 move-asks : (spec : TurnStockSpec) (n : ℕ) (cs xs : List Float) (count g : ℕ) (l : List TurnChange) (removed : List Float) → stockOf spec cs ≡ answers n → Asks (moveIn spec n cs xs count g l removed) (moveInAsks spec cs xs count g l removed)
 unfolding moveIn
 move-asks spec n cs xs count g l removed e =
-    asks-more (countFits (extentOf (cleanSpec spec)) xs count) 4 (λ f.
+    asks-more (countFits (barRing (cleanSpec spec)) xs count) 4 (λ f.
     asks-found (badRing removed) 10
     (asks-on (passAll (cleanSpec spec) n cs l) _ (pass-asks (cleanSpec spec) (stockOf spec cs) n e cs l) (λ _ _.
     asks-more (leb (generationAfter spec g removed) lastGeneration) 12 (λ _.
-    asks-then (removeRings spec xs count removed) _ (rings-room spec xs count removed (fits-room (extentOf (cleanSpec spec)) xs count f)) (λ _ _. asks-none _)))))
+    asks-then (removeRings spec xs count removed) _ (rings-room spec xs count removed (fits-room (barRing (cleanSpec spec)) xs count f)) (λ _ _. asks-none _)))))
 
 -- `change_slices::apply_move`, of a list of changes: 1, 2, 3, 4, 10, 7, then change by change 8, 21, 22, 23, then 12, 11
 pub move-list-exactly : (spec : TurnStockSpec) (cs xs : List Float) (count g : ℕ) (l : List TurnChange) (removed : List Float) → Exactly (moveListOf spec cs xs count g l removed) (moveListAsks spec cs xs count g l removed)
@@ -385,7 +385,7 @@ move-exactly spec cs xs count g is ys k removed =
 -- `volume`: 1, 2, 3, 4
 pub volume-exactly : (spec : TurnStockSpec) (cs xs : List Float) (k : ℕ) → Exactly (volumeOf spec cs xs k) (volumeAsks spec cs xs k)
 unfolding volumeOf
-volume-exactly spec cs xs k = exactly (asks-on (stockOf spec cs) _ (stock-asks spec cs) (λ _ _. asks-more (countFits (extentOf (cleanSpec spec)) xs k) 4 (λ _. asks-none _)))
+volume-exactly spec cs xs k = exactly (asks-on (stockOf spec cs) _ (stock-asks spec cs) (λ _ _. asks-more (countFits (barRing (cleanSpec spec)) xs k) 4 (λ _. asks-none _)))
 
 -- `envelope_at`: 1, 2, 3, whatever z is
 pub envelope-at-exactly : (spec : TurnStockSpec) (cs : List Float) (z : Float) → Exactly (envelopeAt spec cs z) (stockAsks spec cs)

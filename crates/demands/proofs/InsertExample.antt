@@ -6,8 +6,8 @@ use lib.Ieee
 use lib.Ieee.{Float, binary64, ofBits}
 use Rattle.refusals.specs.Paper.{answers, demand}
 use Rattle.floats.specs.Pick.{pick}
-use Rattle.floats.specs.Numbers.{zero64, leastOf, greatestOf, minusZero, cleanOf}
-use Rattle.envelope.specs.Envelope.{usableTo, pointsGood, allTo, risesTo, fallsTo, orderOf, countTo, spanOf, uAt, vAt, across, segmentAt, higher, highestTo}
+use Rattle.floats.specs.Numbers.{zero64, leastOf, greatestOf, minusZero, cleanOf, usableTo, allTo}
+use Rattle.envelope.specs.Envelope.{pointsGood, risesTo, fallsTo, orderOf, countTo, spanOf, uAt, vAt, across, segmentAt, higher, highestTo}
 use Rattle.insert.specs.Insert.{polygonGood, touchAsks, erodedAsks, mostTo, mostOf, boreAt, sampleAt, both, withInside, sampledTo, movedOf, offsetOf, edgeAt, further, edgesTo, edgesOf, beyond, touchAt, withCandidate, withPoint, pointsTo, polygonTo, touchOf, touched, excessOf, penetrationOf, erodedOf}
 
 -- 10.0

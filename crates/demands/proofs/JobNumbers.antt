@@ -47,8 +47,8 @@ use Rattle.cuts.specs.Tool.{toolGood, previewTool}
 use Rattle.reach.specs.Reach.{actCell}
 use Rattle.rings.specs.declared.Ring.{Ring}
 use Rattle.rings.specs.Ring.{ring}
-use Rattle.rings.specs.Store.{ringsOf, extentOf, roomOf, storeAs, storeFits, countFits, finiteRing}
-use Rattle.rings.specs.Remove.{RingStore, roomFor, added, raised, removeIn, removeRing}
+use Rattle.rings.specs.Store.{ringsOf, barRing, ringRoom, storeAs, storeFits, countFits, finiteRing}
+use Rattle.rings.specs.Remove.{RingStore, roomFor, added, storedNext, removeIn, removeRing}
 use Rattle.rings.proofs.Taken.{ring-passes}
 use Rattle.stock.specs.declared.TurnChange.{TurnChange}
 use Rattle.changes.specs.Change.{changesTo}
@@ -218,7 +218,7 @@ pub record Running (j : Job) (cs rs : List Float) : Type 0 where
   pub held : HeldSpec (j .spec)
   pub good : Good (j .spec) (j .cells) (take (4 * j .cells) cs)
   pub few : j .cells ≤ maxCells
-  pub stored : countFits (extentOf (cleanSpec (j .spec))) rs (j .rings) ≡ true
+  pub stored : countFits (barRing (cleanSpec (j .spec))) rs (j .rings) ≡ true
 
 pub data Fitting (j : Job) (cs rs : List Float) : Type 0 where
   barless : j .cells ≡ 0 → Fitting j cs rs
@@ -239,7 +239,7 @@ over-long ks xs h = omega (arith, h, length-append ks (drop (length ks) xs), len
 
 none-stored : (e : Ring) (rs : List Float) → countFits e rs 0 ≡ true
 unfolding countFits ringsOf storeFits
-none-stored e rs = rw (le-leb 0 (roomOf (length rs)) (omega arith))
+none-stored e rs = rw (le-leb 0 (ringRoom (length rs)) (omega arith))
 
 goes-bar : (g : ℕ) (spec : TurnStockSpec) (cs rs : List Float) → HeldSpec spec → spec .«max_cells» ≡ maxCells → length cs ≡ 4 * maxCells → Goes g (barLine spec cs rs)
 unfolding barLine onward
@@ -258,7 +258,7 @@ goes-bar g spec cs rs hs most long = go (cellsOf spec) refl
           held = hs;
           good = subst (Good spec n) (sym (over-front (4 * n) (new n) cs wide)) (fresh-good spec n hs e);
           few = few;
-          stored = none-stored (extentOf (cleanSpec spec)) rs;
+          stored = none-stored (barRing (cleanSpec spec)) rs;
         })) (over-long (new n) cs (omega (arith, few, wide, long)) ∙ long))
 
 module _ (j : Job) (cs rs : List Float) (r : Running j cs rs) (long : length cs ≡ 4 * maxCells) where
@@ -309,7 +309,7 @@ module _ (j : Job) (cs rs : List Float) (r : Running j cs rs) (long : length cs 
 
   -- a ring
   ring-only : (q : Ring) → finiteRing q ≡ true → Only (j .generation) (removeRing (j .spec) rs (j .rings) (j .generation) q)
-  unfolding removeRing removeIn raised added
+  unfolding removeRing removeIn storedNext added
   ring-only q h =
       simp (papers, r .good .count, r .stored, h)
       (either (Only (j .generation)) _ _ _ (only-demand (j .generation) _ 12 _ (λ f. spent (ltb-false _ _ f)) (go (roomFor _ _ _) _)) accepted)

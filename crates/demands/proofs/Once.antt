@@ -111,7 +111,7 @@ use Rattle.changes.specs.Change.{Listed}
 use Rattle.queries.specs.declared.Seen.{Seen}
 use Rattle.queries.proofs.Outcomes.{same-seen}
 use Rattle.blocks.specs.Way.{RangeKept}
-use Rattle.blocks.specs.Renew.{Renewed, Open, Leaves}
+use Rattle.blocks.specs.Renew.{Renewed, Open, LeavesBlocks}
 use Rattle.nose.specs.declared.Sample.{Sample}
 use Rattle.nose.specs.Track.{Samples, samplePaper}
 use Rattle.polygon.specs.declared.Extent.{Extent}
@@ -348,7 +348,7 @@ filled-once spec r r' cs cs₁ cs₂ a b = (same-counted r r' (a .answer ∙ sym
 pub renewed-once : (spec : TurnStockSpec) (cs : List Float) (r r' : Counted) (bs bs₁ bs₂ : List Float) → Renewed spec cs r bs bs₁ → Renewed spec cs r' bs bs₂ → (r ≡ r') × (bs₁ ≡ bs₂)
 renewed-once spec cs r r' bs bs₁ bs₂ a b = (same-counted r r' (a .answer ∙ sym (b .answer)), a .numbers ∙ sym (b .numbers))
 
-pub left-once : (s : TurnStockSpec) (n : ℕ) (cs : List Float) (o : Open) (i r r' : ℕ) (bs₁ bs₂ : List Float) → Leaves s n cs o i r bs₁ → Leaves s n cs o i r' bs₂ → (r ≡ r') × (bs₁ ≡ bs₂)
+pub left-once : (s : TurnStockSpec) (n : ℕ) (cs : List Float) (o : Open) (i r r' : ℕ) (bs₁ bs₂ : List Float) → LeavesBlocks s n cs o i r bs₁ → LeavesBlocks s n cs o i r' bs₂ → (r ≡ r') × (bs₁ ≡ bs₂)
 left-once s n cs o i r r' bs₁ bs₂ a b = (a .block ∙ sym (b .block), a .numbers ∙ sym (b .numbers))
 
 pub kept-once : (spec : TurnStockSpec) (n : ℕ) (cs bs : List Float) (lo hi : Float) (r r' : Seen) → RangeKept spec n cs bs lo hi r → RangeKept spec n cs bs lo hi r' → r ≡ r'

@@ -11,12 +11,12 @@ use lib.Ieee.{Float, nan, inf, binary64, ofBits, fits, neg, le}
 use denote.Ref.{RefT, now}
 use Rattle.refusals.specs.Paper.{Paper, answers, refuses, only, demand, demand-true}
 use Rattle.floats.specs.Pick.{pick, pick-true, pick-false}
-use Rattle.floats.specs.Numbers.{zero64, million, leastOf, greatestOf, minusZero, cleanOf, usable}
+use Rattle.floats.specs.Numbers.{zero64, million, leastOf, greatestOf, minusZero, cleanOf, usable, usableTo, allTo}
 use Rattle.stock.proofs.Bins.{HeldList}
 use Rattle.envelope.specs.declared.held.Envelope.{Envelope}
 use Rattle.envelope.specs.declared.RadiusAt.{RadiusAt}
 use Rattle.envelope.specs.declared.RadiusRange.{RadiusRange}
-use Rattle.envelope.specs.Envelope.{uAt, vAt, allTo, usableTo, pointsGood, risesTo, fallsTo, orderOf, countTo, span, spanOf, wider, across, segmentAt, higher, highestTo, radiusAtOf, radiusAtPaper, Radii, taken, segmentOver, segmentIn, radiiTo, radiiOf, radiusRangeOf, radiusRangePaper}
+use Rattle.envelope.specs.Envelope.{uAt, vAt, pointsGood, risesTo, fallsTo, orderOf, countTo, span, spanOf, wider, across, segmentAt, higher, highestTo, radiusAtOf, radiusAtPaper, Radii, taken, segmentOver, segmentIn, radiiTo, radiiOf, radiusRangeOf, radiusRangePaper}
 use Rattle.envelope.specs.Halving.{keptOf, RadiusAtKept, RadiusRangeKept}
 use Rattle.envelope.specs.Full.{pointsOf, neighbours, segmentsOf, fullAt, fullRange}
 use Rattle.envelope.proofs.Steps.{clean-le}

@@ -18,7 +18,7 @@ use Rattle.rings.specs.declared.Removed.the-variants.{Stored}
 use Rattle.rings.specs.declared.StoredAs.the-variants as stored
 use Rattle.rings.specs.Ring.{covers, covered, filled, clip}
 use Rattle.rings.specs.Points.{Disjoint}
-use Rattle.rings.specs.Store.{extentOf, ringsOf, storeAs, countFits, ringsGood, raisedBy}
+use Rattle.rings.specs.Store.{barRing, ringsOf, storeAs, countFits, ringsGood, raisedBy}
 use Rattle.rings.specs.Remove as rings
 use Rattle.rings.specs.Remove.{RingStore, RingCount, countsOf, ringsAfter, removeRing, removeRings, StoresAs, Removes}
 use Rattle.rings.proofs.Flat.{rings-stored}
@@ -35,7 +35,7 @@ use Rattle.demands.proofs.Third.{perm-length}
 
 -- a ring as it is clipped to the stock
 abbrev clipped : TurnStockSpec → Ring → Ring
-clipped spec q = clip (extentOf (cleanSpec spec)) q
+clipped spec q = clip (barRing (cleanSpec spec)) q
 
 -- ---- one call of `remove_ring`
 
@@ -91,7 +91,7 @@ pub record LeftBy (p : Paper Left) (m h : ℕ) (cs' ys : List Float) : Type 0 wh
 pub left-by : {cs cs' xs ys : List Float} {p : Paper Left} {m h : ℕ} → Moves p (moved.Stored m h) cs cs' xs ys → LeftBy p m h cs' ys
 left-by {cs} {cs'} {xs} {ys} {p} {m} {h} a = go p (a .answer) (a .cells) (a .rings)
   where
-    go : (p : Paper Left) → answers (record { rings = m; generation = h }) ≡ moves.countsOf p → cs' ≡ moves.cellsAfter p cs → ys ≡ moves.ringsAfter p xs → LeftBy p m h cs' ys
+    go : (p : Paper Left) → answers (record { rings = m; generation = h }) ≡ moves.countsOf p → cs' ≡ moves.movedCells p cs → ys ≡ moves.movedRings p xs → LeftBy p m h cs' ys
     go (refuses r) b c d = absurd (no-answer r _ (sym b))
     go (answers l) b c d =
         let k : _≡_ {A = RingCount} (record { rings = m; generation = h }) (record { rings = length (l .rings); generation = l .generation }) = same-answer b in
@@ -110,23 +110,23 @@ run-covers {spec} (ring {q} {qs} {xs} {ys} {n} {g} {m} {h} a b) z r =
     ∙ or-assoc (covered (ringsOf n xs) z r) (covers (clipped spec q) z r) (covered (map (clipped spec) qs) z r)
 
 -- The store passes refusal 4's test at the end, if it did at the start.
-pub run-passes : {spec : TurnStockSpec} {s t : Store} {qs : List Ring} → RanRings spec s qs t → countFits (extentOf (cleanSpec spec)) (s .numbers) (s .count) ≡ true → countFits (extentOf (cleanSpec spec)) (t .numbers) (t .count) ≡ true
+pub run-passes : {spec : TurnStockSpec} {s t : Store} {qs : List Ring} → RanRings spec s qs t → countFits (barRing (cleanSpec spec)) (s .numbers) (s .count) ≡ true → countFits (barRing (cleanSpec spec)) (t .numbers) (t .count) ≡ true
 run-passes done f = f
 run-passes {spec} (ring {q} {qs} {xs} {ys} {n} {g} {m} {h} a b) f =
     let w = took a in
-    run-passes b (ap₂ (λ (y : List Float) (k : ℕ). countFits (extentOf (cleanSpec spec)) y k) (w .numbers) (w .count) ∙ ring-passes spec xs n g q (w .store) (w .rule))
+    run-passes b (ap₂ (λ (y : List Float) (k : ℕ). countFits (barRing (cleanSpec spec)) y k) (w .numbers) (w .count) ∙ ring-passes spec xs n g q (w .store) (w .rule))
 
 -- NO TWO STORED RINGS SHARE A POINT, so none is counted twice in the volume.
-pub run-disjoint : {spec : TurnStockSpec} {s t : Store} {qs : List Ring} → RanRings spec s qs t → countFits (extentOf (cleanSpec spec)) (s .numbers) (s .count) ≡ true → Disjoint (ringsOf (t .count) (t .numbers))
-run-disjoint {spec} {s} {t} a f = store-disjoint (extentOf (cleanSpec spec)) (ringsOf (t .count) (t .numbers)) (rings-pass (extentOf (cleanSpec spec)) (t .numbers) (t .count) (run-passes a f))
+pub run-disjoint : {spec : TurnStockSpec} {s t : Store} {qs : List Ring} → RanRings spec s qs t → countFits (barRing (cleanSpec spec)) (s .numbers) (s .count) ≡ true → Disjoint (ringsOf (t .count) (t .numbers))
+run-disjoint {spec} {s} {t} a f = store-disjoint (barRing (cleanSpec spec)) (ringsOf (t .count) (t .numbers)) (rings-pass (barRing (cleanSpec spec)) (t .numbers) (t .count) (run-passes a f))
 
 -- The generation rises by one for each ring that is not empty after clipping, covered or not.
-pub run-rises : {spec : TurnStockSpec} {s t : Store} {qs : List Ring} → RanRings spec s qs t → t .generation ≡ s .generation + raisedBy (extentOf (cleanSpec spec)) qs
+pub run-rises : {spec : TurnStockSpec} {s t : Store} {qs : List Ring} → RanRings spec s qs t → t .generation ≡ s .generation + raisedBy (barRing (cleanSpec spec)) qs
 unfolding raisedBy pick
 run-rises {s = s} done = sym (add-zero (s .generation))
 run-rises {spec} (ring {q} {qs} {xs} {ys} {n} {g} {m} {h} a b) =
     let w = took a in
-    run-rises b ∙ ap (λ (x : ℕ). x + raisedBy (extentOf (cleanSpec spec)) qs) (w .generation ∙ ring-taken spec xs n g q (w .store) (w .rule) .rises) ∙ one (filled (clipped spec q)) (raisedBy (extentOf (cleanSpec spec)) qs)
+    run-rises b ∙ ap (λ (x : ℕ). x + raisedBy (barRing (cleanSpec spec)) qs) (w .generation ∙ ring-taken spec xs n g q (w .store) (w .rule) .rises) ∙ one (filled (clipped spec q)) (raisedBy (barRing (cleanSpec spec)) qs)
   where
     one : (t : Bool) (k : ℕ) → pick t (g + 1) g + k ≡ g + (pick t 1 0 + k)
     one true k = omega arith
@@ -138,18 +138,18 @@ module _ {spec : TurnStockSpec} {s t t' : Store} {qs qs' : List Ring} (turn : Li
   run-either-order z r = run-covers a z r ∙ ap (λ (x : Bool). covered (ringsOf (s .count) (s .numbers)) z r || x) (covered-turns (clipped spec) z r turn) ∙ sym (run-covers b z r)
 
   pub run-same-generation : t .generation ≡ t' .generation
-  run-same-generation = run-rises a ∙ ap (λ (k : ℕ). s .generation + k) (raised-turns (extentOf (cleanSpec spec)) turn) ∙ sym (run-rises b)
+  run-same-generation = run-rises a ∙ ap (λ (k : ℕ). s .generation + k) (raised-turns (barRing (cleanSpec spec)) turn) ∙ sym (run-rises b)
 
 -- ---- a list of rings by one call of `remove_rings`, over a store that passes refusal 4's test
 
-module _ (spec : TurnStockSpec) (xs : List Float) (n : ℕ) (f : countFits (extentOf (cleanSpec spec)) xs n ≡ true) where
+module _ (spec : TurnStockSpec) (xs : List Float) (n : ℕ) (f : countFits (barRing (cleanSpec spec)) xs n ≡ true) where
   -- the store covers what it covered and what the clipped rings cover, and nothing else
   pub list-covers : (news : List Float) (l : List Ring) → removeRings spec xs n news ≡ answers l → (z r : Float) → covered l z r ≡ (covered (ringsOf n xs) z r || covered (map (clipped spec) (ringsOf (length news / 4) news)) z r)
   list-covers news l h = rings-cover spec xs n f news l h
 
   -- no two stored rings share a point
   pub list-disjoint : (news : List Float) (l : List Ring) → specGood (cleanSpec spec) ≡ true → ringsGood news ≡ true → removeRings spec xs n news ≡ answers l → Disjoint l
-  list-disjoint news l g o h = passed-disjoint (extentOf (cleanSpec spec)) xs l (rings-pass-again spec xs n f news l g o h)
+  list-disjoint news l g o h = passed-disjoint (barRing (cleanSpec spec)) xs l (rings-pass-again spec xs n f news l g o h)
 
   -- either order covers the same points
   pub list-either-order : (news news' : List Float) (l l' : List Ring) → List·Permᴰ (ringsOf (length news / 4) news) (ringsOf (length news' / 4) news') → removeRings spec xs n news ≡ answers l → removeRings spec xs n news' ≡ answers l'
@@ -238,11 +238,11 @@ moves-disjoint no-moves d = d
 moves-disjoint {spec} (made-move {v} {vs} {cs} {cs'} {xs} {ys} {n} {g} {m} {h} a b) d = moves-disjoint b (moved-call-disjoint spec cs xs n g (v .indices) (v .numbers) (v .count) (v .removed) m h cs' ys a)
 
 -- The generation rises by one for each move, and by one for each ring that is not empty after clipping.
-pub moves-rise : {spec : TurnStockSpec} {s t : Held} {vs : List Move} → RanMoves spec s vs t → t .store .generation ≡ s .store .generation + length vs + raisedBy (extentOf (cleanSpec spec)) (ringsIn vs)
+pub moves-rise : {spec : TurnStockSpec} {s t : Held} {vs : List Move} → RanMoves spec s vs t → t .store .generation ≡ s .store .generation + length vs + raisedBy (barRing (cleanSpec spec)) (ringsIn vs)
 unfolding ringsIn raisedBy generationAfter
 moves-rise {s = s} no-moves = let g = s .store .generation in omega arith
 moves-rise {spec} (made-move {v} {vs} {cs} {cs'} {xs} {ys} {n} {g} {m} {h} a b) =
-    let e = extentOf (cleanSpec spec) in
+    let e = barRing (cleanSpec spec) in
     let qs = ringsOf (length (v .removed) / 4) (v .removed) in
     let w = left-by a in
     let x : h ≡ g + 1 + raisedBy e qs = w .generation ∙ taken spec cs xs n g (v .indices) (v .numbers) (v .count) (v .removed) (w .left) (w .rule) .rises in
@@ -284,7 +284,7 @@ module _ {spec : TurnStockSpec} {s t t' : Held} {vs vs' : List Move} (turn : Lis
 
   pub moves-same-generation : t .store .generation ≡ t' .store .generation
   moves-same-generation =
-      moves-rise a ∙ ap₂ (λ (n k : ℕ). s .store .generation + n + k) (perm-length turn) (raised-turns (extentOf (cleanSpec spec)) (rings-turn turn)) ∙ sym (moves-rise b)
+      moves-rise a ∙ ap₂ (λ (n k : ℕ). s .store .generation + n + k) (perm-length turn) (raised-turns (barRing (cleanSpec spec)) (rings-turn turn)) ∙ sym (moves-rise b)
 
 -- ---- a stock rebuilt from its parts
 

@@ -46,7 +46,7 @@ use Rattle.changes.proofs.Proposal.{act-cuts}
 use Rattle.changes.proofs.Becomes.{difference-is}
 use Rattle.rings.specs.declared.Ring.{Ring}
 use Rattle.rings.specs.Ring.{covered, clip}
-use Rattle.rings.specs.Store.{extentOf, ringsOf}
+use Rattle.rings.specs.Store.{barRing, ringsOf}
 use Rattle.moves.specs.declared.Moved.the-variants.{Stored}
 use Rattle.moves.specs.Move.{Left, generationAfter, moveOf, Moves}
 use Rattle.moves.proofs.Answered.{answered}
@@ -171,14 +171,14 @@ previews-commit spec n t hs ht cs hc e gen k is is' xs xs' h p =
 -- WHAT A MOVE LEAVES: each change in its bin and no other bin touched; every point that was covered or that one of its rings covers, clipped to the stock; the generation
 -- raised by 1 for the commit and by 1 for each ring that is not empty after clipping.
 pub move-writes : (spec : TurnStockSpec) (cs xs : List Float) (count g : ℕ) (is : List ℕ) (ys : List Float) (k : ℕ) (removed : List Float) (a : Left) → moveOf spec cs xs count g is ys k removed ≡ answers a
-    → Writes (changesFrom is ys k) cs (a .cells) × ((z r : Float) → covered (a .rings) z r ≡ (covered (ringsOf count xs) z r || covered (map (clip (extentOf (cleanSpec spec))) (ringsOf (length removed / 4) removed)) z r)) × (a .generation ≡ generationAfter spec g removed)
+    → Writes (changesFrom is ys k) cs (a .cells) × ((z r : Float) → covered (a .rings) z r ≡ (covered (ringsOf count xs) z r || covered (map (clip (barRing (cleanSpec spec))) (ringsOf (length removed / 4) removed)) z r)) × (a .generation ≡ generationAfter spec g removed)
 move-writes spec cs xs count g is ys k removed a h =
     let t = taken spec cs xs count g is ys k removed a h in
     (subst (Writes (changesFrom is ys k) cs) (sym (t .cells)) (changes-written spec cs (t .bins) (changesFrom is ys k) (t .stock) (t .pass)), moved-covers spec cs xs count g is ys k removed a h, t .rises)
 
 -- the same of the call: what it leaves in the lent cells and rings
 pub move-call-writes : (spec : TurnStockSpec) (cs cs' xs xs' : List Float) (count g : ℕ) (is : List ℕ) (ys : List Float) (k : ℕ) (removed : List Float) (n h : ℕ) → Moves (moveOf spec cs xs count g is ys k removed) (Stored n h) cs cs' xs xs'
-    → Writes (changesFrom is ys k) cs cs' × ((z r : Float) → covered (ringsOf n xs') z r ≡ (covered (ringsOf count xs) z r || covered (map (clip (extentOf (cleanSpec spec))) (ringsOf (length removed / 4) removed)) z r)) × (h ≡ generationAfter spec g removed)
+    → Writes (changesFrom is ys k) cs cs' × ((z r : Float) → covered (ringsOf n xs') z r ≡ (covered (ringsOf count xs) z r || covered (map (clip (barRing (cleanSpec spec))) (ringsOf (length removed / 4) removed)) z r)) × (h ≡ generationAfter spec g removed)
 move-call-writes spec cs cs' xs xs' count g is ys k removed n h m =
     let t = left-by m in
     let w = move-writes spec cs xs count g is ys k removed (t .left) (t .rule) in

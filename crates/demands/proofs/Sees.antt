@@ -15,7 +15,7 @@ use Rattle.stock.specs.declared.TurnChange.{TurnChange}
 use Rattle.stock.specs.Spec.{cleanSpec}
 use Rattle.stock.specs.Cell.{cellAt, stockOf}
 use Rattle.stock.proofs.Count.{same-answer, no-answer, demanded, and-both, stocked, checked}
-use Rattle.rings.proofs.Edges.{of-true}
+use Rattle.floats.proofs.Bools.{so}
 use Rattle.changes.specs.Change.{changesFrom}
 use Rattle.changes.specs.declared.Applied.the-variants.{Generation}
 use Rattle.changes.specs.Commit.{Committed, onlyRemoves, passAll, putAll, commitIn, applyOf, generationOf, cellsAfter, Applies}
@@ -36,7 +36,7 @@ less-of c c' r =
     let D = le (c .inner .«upper_mm») (c' .inner .«upper_mm») in
     let r3 = and-both (A && B && C) D r in
     let r2 = and-both (A && B) C (r3 .0) in
-    record { outer = of-true A (and-both A B (r2 .0) .0); inner = of-true C (r2 .1) }
+    record { outer = so (and-both A B (r2 .0) .0); inner = so (r2 .1) }
 
 -- a list of changes that pass
 passed-sees : (spec : TurnStockSpec) (cs : List Float) (n : ℕ) (l : List TurnChange) → stockOf spec cs ≡ answers n → passAll (cleanSpec spec) n cs l ≡ answers tt

@@ -34,7 +34,7 @@ use Rattle.changes.specs.Commit.{onlyRemoves, firstFall}
 use Rattle.changes.specs.Difference.{otherCell}
 use Rattle.rings.specs.declared.Ring.{Ring}
 use Rattle.rings.specs.Ring.{filled, clip, left}
-use Rattle.rings.specs.Store.{extentOf, ringsOf, roomOf, countFits, finiteRing, badRing}
+use Rattle.rings.specs.Store.{barRing, ringsOf, ringRoom, countFits, finiteRing, badRing}
 use Rattle.rings.specs.Remove.{roomFor}
 use Rattle.moves.specs.Move.{generationAfter}
 use Rattle.blocks.specs.Block.{blocksIn, matchesOf}
@@ -208,12 +208,12 @@ differenceAsks spec cs ds room = stockAsks spec cs ++ (ask (ofAnswer (stockOf sp
 -- 1, 2, 4, 10, 12, 11; a ring that is empty after clipping skips 12 and 11
 abbrev pub removeAsks : TurnStockSpec → List Float → ℕ → ℕ → Ring → List Asked
 removeAsks spec xs n g q =
-    let e = extentOf (cleanSpec spec) in
+    let e = barRing (cleanSpec spec) in
     specAsks spec
     ++ (ask (countFits e xs n) 4
     ∷ askAt (finiteRing q) 10 0
     ∷ ask (not (filled (clip e q)) || ltb g lastGeneration) 12
-    ∷ ask (not (filled (clip e q)) || roomFor (roomOf (length xs)) (ringsOf n xs) (clip e q)) 11
+    ∷ ask (not (filled (clip e q)) || roomFor (ringRoom (length xs)) (ringsOf n xs) (clip e q)) 11
     ∷ [])
 
 -- one ring after the other: never over 256 pieces in hand, and room for what is left of each, beside what the store then holds
@@ -223,11 +223,11 @@ roomForAll e room ks (q ∷ qs) = roomFor room ks (clip e q) && roomForAll e roo
 
 -- the same of lent rings and n stored ones
 abbrev pub allStored : TurnStockSpec → List Float → ℕ → List Float → Bool
-allStored spec xs n removed = roomForAll (extentOf (cleanSpec spec)) (roomOf (length xs)) (ringsOf n xs) (ringsOf (length removed / 4) removed)
+allStored spec xs n removed = roomForAll (barRing (cleanSpec spec)) (ringRoom (length xs)) (ringsOf n xs) (ringsOf (length removed / 4) removed)
 
 -- 4 for the count alone, 11: rings of a stock that is checked already
 abbrev pub removeRingsAsks : TurnStockSpec → List Float → ℕ → List Float → List Asked
-removeRingsAsks spec xs n removed = ask (leb n (roomOf (length xs))) 4 ∷ ask (allStored spec xs n removed) 11 ∷ []
+removeRingsAsks spec xs n removed = ask (leb n (ringRoom (length xs))) 4 ∷ ask (allStored spec xs n removed) 11 ∷ []
 
 -- 1, 2, 3, 10, 11
 abbrev pub partsAsks : TurnStockSpec → List Float → List Float → List Float → List Asked
@@ -236,7 +236,7 @@ partsAsks spec cs given xs = stockAsks spec cs ++ (askNone (badRing given) 10 �
 -- 4, 10, 7, then 8, 21, 22, 23 change by change, 12, 11; behind the tests of a stock
 abbrev pub moveInAsks : TurnStockSpec → List Float → List Float → ℕ → ℕ → List TurnChange → List Float → List Asked
 moveInAsks spec cs xs count g l removed =
-    ask (countFits (extentOf (cleanSpec spec)) xs count) 4
+    ask (countFits (barRing (cleanSpec spec)) xs count) 4
     ∷ askNone (badRing removed) 10
     ∷ passAsks (cleanSpec spec) (stockOf spec cs) cs l
     ++ (ask (leb (generationAfter spec g removed) lastGeneration) 12 ∷ ask (allStored spec xs count removed) 11 ∷ [])
@@ -251,7 +251,7 @@ moveAsks spec cs xs count g is ys k removed = stockAsks spec cs ++ (ask (leb k (
 
 -- ---- volume: 1, 2, 3, 4. `envelope_at` asks as a stock does.
 abbrev pub volumeAsks : TurnStockSpec → List Float → List Float → ℕ → List Asked
-volumeAsks spec cs xs k = stockAsks spec cs ++ (ask (countFits (extentOf (cleanSpec spec)) xs k) 4 ∷ [])
+volumeAsks spec cs xs k = stockAsks spec cs ++ (ask (countFits (barRing (cleanSpec spec)) xs k) 4 ∷ [])
 
 -- a stock with its kept numbers
 abbrev pub keptAsks : TurnStockSpec → List Float → List Float → List Asked

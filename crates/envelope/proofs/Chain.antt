@@ -8,11 +8,13 @@ use native.Mathlib.Nat.{add-zero, eq-or-lt-of-le, le-refl, le-trans}
 use native.Mathlib.Omega.{arith}
 use lib.Dec.{T}
 use lib.Ieee.{Float, nan, inf, fin, binary64, le, lt, eq, fits, isNan}
+use Rattle.floats.specs.Numbers.{allTo}
 use Rattle.floats.specs.Kinds.{Number}
 use Rattle.floats.proofs.Keys.{key, lt-key, le-key}
 use Rattle.envelope.specs.declared.Test.{Test}
 use Rattle.envelope.specs.declared.Test.the-variants.{Below, AtMost, Above, AtLeast}
-use Rattle.envelope.specs.Envelope.{uAt, count, allTo, risesTo, fallsTo, rises, falls, passes}
+use Rattle.envelope.specs.Envelope.{uAt, count, risesTo, fallsTo, rises, falls, passes}
+use Rattle.floats.proofs.Bools.{so}
 
 -- ---- Bools
 pub both : (a b : Bool) → (a && b) ≡ true → (a ≡ true) × (b ≡ true)
@@ -22,9 +24,6 @@ both false b e = (e, absurd (false≢true e))
 pub is : (b : Bool) → T b → b ≡ true
 is true t = refl
 is false t = absurd t
-
-pub so : {b : Bool} → b ≡ true → T b
-so e = subst T (sym e) tt
 
 -- what holds of every number below k holds of i
 pub all-at : (test : ℕ → Bool) (k i : ℕ) → allTo test k ≡ true → i < k → test i ≡ true

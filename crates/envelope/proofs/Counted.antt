@@ -19,7 +19,8 @@ use Rattle.envelope.specs.Envelope.{uAt, count, rises, falls, orderOf, p
 use Rattle.envelope.specs.Halving.{halve, splitOf, isZ, halvedSpan}
 use Rattle.envelope.proofs.Halves.{mid, done, step, split-le}
 use Rattle.envelope.proofs.Kept.{Lies, order-mixed}
-use Rattle.envelope.proofs.Chain.{K, Holds, test-key, runs, closed, closed-any, is, so}
+use Rattle.envelope.proofs.Chain.{K, Holds, test-key, runs, closed, closed-any, is}
+use Rattle.floats.proofs.Bools.{so}
 
 not-le : {a b : ℕ} → (a ≤ b → ⊥) → b < a
 not-le h = omega arith

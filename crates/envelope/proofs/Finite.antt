@@ -21,7 +21,8 @@ use Rattle.refusals.specs.Paper.{answers, demand, only}
 use Rattle.envelope.specs.declared.segments.Point.{Point}
 use Rattle.envelope.specs.declared.Span.{Span}
 use Rattle.envelope.specs.Envelope.{uAt, vAt, count, pointsGood, spanOf, wider, across, segmentAt, higher, highestTo, highestIn, highestAt, radiusAtOf, Radii, taken, segmentOver, segmentIn, radiiTo, radiiIn, radiiOf, radiusRangeOf}
-use Rattle.envelope.proofs.Chain.{both, so}
+use Rattle.envelope.proofs.Chain.{both}
+use Rattle.floats.proofs.Bools.{so}
 use Rattle.envelope.proofs.Rules.{usable-plain, good-usable, refused-not}
 
 -- a finite number, at most 2 ^ k in size, that is not -0.0

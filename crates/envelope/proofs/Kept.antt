@@ -10,11 +10,11 @@ use lib.IntN.{ℤ, pos, negsuc}
 use lib.Ieee.{Float, le}
 use borrow.Author.Tests.{eq-eqb, ne-eqb, le-leb, lt-leb, leb-true}
 use Rattle.floats.specs.Pick.{pick}
-use Rattle.floats.specs.Numbers.{cleanOf, usable}
+use Rattle.floats.specs.Numbers.{cleanOf, usable, usableTo, allTo}
 use Rattle.refusals.specs.Paper.{Reason, answers, refuses, only, demand}
 use Rattle.envelope.specs.declared.Span.{Span}
 use Rattle.envelope.specs.declared.Test.the-variants.{Below, AtMost, Above, AtLeast}
-use Rattle.envelope.specs.Envelope.{count, allTo, usableTo, pointsGood, risesTo, fallsTo, rises, falls, orderOf, span, allPoints, wider, numbersOf}
+use Rattle.envelope.specs.Envelope.{count, pointsGood, risesTo, fallsTo, rises, falls, orderOf, span, allPoints, wider, partNumbers}
 use Rattle.envelope.specs.Halving.{scanOf, splitOf, isZ, keptOf, accepted, halvedSpan, straight, halvedPart, keptWithin}
 use Rattle.envelope.proofs.Steps.{is-not}
 use Rattle.envelope.proofs.Halves.{split-le}
@@ -161,12 +161,12 @@ module _ (ps : List Float) (z : ℤ) (lo hi : Float) where
           rw s at (l .1)
       go false l e = let x : _≡_ {A = ℕ} 0 1 = cc in omega arith
 
-  pub within-numbers : (a n : ℕ) → answers (span a (a + n)) ≡ keptWithin ps z lo hi → take (2 * a + 2 * n - 2 * a) (drop (2 * a) ps) ≡ numbersOf ps (keptWithin ps z lo hi)
-  unfolding numbersOf
+  pub within-numbers : (a n : ℕ) → answers (span a (a + n)) ≡ keptWithin ps z lo hi → take (2 * a + 2 * n - 2 * a) (drop (2 * a) ps) ≡ partNumbers ps (keptWithin ps z lo hi)
+  unfolding partNumbers
   within-numbers a n e =
       let g : 2 * a + 2 * n - 2 * a ≡ 2 * (a + n - a) = omega arith in
       rw (← e, g)
 
-  pub within-none : (n : Reason) → refuses n ≡ keptWithin ps z lo hi → [] ≡ numbersOf ps (keptWithin ps z lo hi)
-  unfolding numbersOf
+  pub within-none : (n : Reason) → refuses n ≡ keptWithin ps z lo hi → [] ≡ partNumbers ps (keptWithin ps z lo hi)
+  unfolding partNumbers
   within-none n e = rw (← e)

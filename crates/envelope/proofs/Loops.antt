@@ -10,7 +10,7 @@ use lib.Ieee.{Float, nan}
 use Rattle.refusals.specs.Paper.{answers}
 use Rattle.envelope.specs.declared.segments.Point.{Point}
 use Rattle.envelope.specs.declared.Span.{Span}
-use Rattle.envelope.specs.Envelope.{uAt, vAt, pointAt, count, numbersOf}
+use Rattle.envelope.specs.Envelope.{uAt, vAt, pointAt, count, partNumbers}
 use Rattle.envelope.specs.Full.{pointsOf, Segment, neighbours, segmentsOf}
 
 -- ---- a loop over numbered steps, from a on
@@ -93,14 +93,14 @@ module _ {A : Type 0} where
 -- ---- the part that a span has of the points
 module _ (ps : List Float) (s : Span) where
   abbrev pub part : List Float
-  part = numbersOf ps (answers s)
+  part = partNumbers ps (answers s)
 
   part-count : s .end ≤ count ps → count part ≡ s .end - s .start
-  unfolding numbersOf
+  unfolding partNumbers
   part-count h = rw (length-take (2 * (s .end - s .start)) (drop (2 * s .start) ps), length-drop (2 * s .start) ps) (omega arith)
 
   part-point : (i : ℕ) → i < s .end - s .start → pointAt part i ≡ pointAt ps (s .start + i)
-  unfolding numbersOf uAt vAt
+  unfolding partNumbers uAt vAt
   part-point i h =
       let e : 2 * s .start + 2 * i ≡ 2 * (s .start + i) = omega arith in
       let g : 2 * s .start + (2 * i + 1) ≡ 2 * (s .start + i) + 1 = omega arith in

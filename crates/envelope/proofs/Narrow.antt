@@ -20,10 +20,11 @@ use Rattle.refusals.specs.Paper.{answers}
 use Rattle.envelope.specs.declared.segments.Point.{Point}
 use Rattle.envelope.specs.declared.Span.{Span}
 use Rattle.envelope.specs.declared.Test.the-variants.{Below, AtMost, Above, AtLeast}
-use Rattle.envelope.specs.Envelope.{uAt, pointAt, count, rises, falls, orderOf, howMany, span, allPoints, spanOf, numbersOf, wider, segmentAt, higher, highestTo, highestIn, Radii, segmentOver, segmentIn, radiiTo, radiiIn}
+use Rattle.envelope.specs.Envelope.{uAt, pointAt, count, rises, falls, orderOf, howMany, span, allPoints, spanOf, partNumbers, wider, segmentAt, higher, highestTo, highestIn, Radii, segmentOver, segmentIn, radiiTo, radiiIn}
 use Rattle.envelope.specs.Halving.{halvedSpan}
 use Rattle.envelope.specs.Full.{pointsOf, Segment, segmentsOf, fullAt, fullRange}
-use Rattle.envelope.proofs.Chain.{is, so}
+use Rattle.envelope.proofs.Chain.{is}
+use Rattle.floats.proofs.Bools.{so}
 use Rattle.envelope.proofs.Counted.{many-pass, many-fail, many-le, span-counted}
 use Rattle.envelope.proofs.Loops.{loop, narrowed, segment, points-loop, segments-loop, part, part-points, part-segments}
 
@@ -127,12 +128,12 @@ module _ (ps : List Float) (num : Numbered ps) (lo hi : Float) (nlo : Number bin
 
 -- THE LAW: whatever is gathered from segment to segment, where a segment wholly below lo or wholly above hi changes nothing, the segments of the part, one point wider on each side, give what all segments give. The order is z, whichever it is.
 pub narrow-full : (ps : List Float) → Numbered ps → (z : ℤ) → z ≡ orderOf ps → (lo hi : Float) → Number binary64 lo → Number binary64 hi → {A : Type 0} (f : A → Segment → A) → ((r : A) (g : Segment) → Apart lo hi g → f r g ≡ r) → (a : A)
-    → foldl f a (segmentsOf (numbersOf ps (answers (wider (halvedSpan ps z lo hi) (count ps))))) ≡ foldl f a (segmentsOf ps)
+    → foldl f a (segmentsOf (partNumbers ps (answers (wider (halvedSpan ps z lo hi) (count ps))))) ≡ foldl f a (segmentsOf ps)
 narrow-full ps num z e lo hi nlo nhi f h a = rw (e, span-counted ps num lo hi nlo nhi) (segments-narrow ps num lo hi nlo nhi f h a)
 
 -- the same of points, where a point below lo or above hi changes nothing: those of the part itself
 pub points-full : (ps : List Float) → Numbered ps → (z : ℤ) → z ≡ orderOf ps → (lo hi : Float) → Number binary64 lo → Number binary64 hi → {A : Type 0} (f : A → Point → A) → ((r : A) (p : Point) → Off lo hi p → f r p ≡ r) → (a : A)
-    → foldl f a (pointsOf (numbersOf ps (answers (halvedSpan ps z lo hi)))) ≡ foldl f a (pointsOf ps)
+    → foldl f a (pointsOf (partNumbers ps (answers (halvedSpan ps z lo hi)))) ≡ foldl f a (pointsOf ps)
 points-full ps num z e lo hi nlo nhi f h a = rw (e, span-counted ps num lo hi nlo nhi) (points-narrow ps num lo hi nlo nhi f h a)
 
 -- ---- the two queries

@@ -12,7 +12,7 @@ use lib.IntN.{ℤ, pos, negsuc}
 use lib.Ieee.{Float, nan, binary64, le, neg, fits}
 use borrow.Author.Tests.{le-leb}
 use Rattle.floats.specs.Pick.{pick}
-use Rattle.floats.specs.Numbers.{million, cleanOf, usable}
+use Rattle.floats.specs.Numbers.{million, cleanOf, usable, usableTo}
 use Rattle.floats.specs.Kinds.{Number, Plain}
 use Rattle.floats.proofs.Order.{number-of, le-trans}
 use Rattle.floats.proofs.Cleared.{clean-plain}
@@ -20,11 +20,12 @@ use Rattle.floats.proofs.Within.{number-l}
 use Rattle.refusals.specs.Paper.{Paper, Reason, answers, refuses, only, demand}
 use Rattle.envelope.specs.declared.Span.{Span}
 use Rattle.refusals.specs.Limits.{envelopeLimit}
-use Rattle.envelope.specs.Envelope.{uAt, vAt, count, usableTo, pointsGood, rises, falls, orderOf, orderedOf, span, spanOf, partOf, withinOf, numbersOf, wider, highestIn, highestAt, radiusAtOf, Radii, radiiIn, radiiOf, radiusRangeOf}
+use Rattle.envelope.specs.Envelope.{uAt, vAt, count, pointsGood, rises, falls, orderOf, orderedOf, span, spanOf, partOf, withinOf, partNumbers, wider, highestIn, highestAt, radiusAtOf, Radii, radiiIn, radiiOf, radiusRangeOf}
 use Rattle.envelope.specs.Halving.{isZ, keptOf, Kept, Ruled, accepted, keptOrder, halvedSpan, straight, halvedPart, keptWithin, halvedAt, keptAt, halvedRadii, keptRange}
 use Rattle.envelope.specs.Full.{fullAt, fullRange}
 use Rattle.envelope.proofs.Kept.{Lies}
-use Rattle.envelope.proofs.Chain.{both, so, all-at}
+use Rattle.envelope.proofs.Chain.{both, all-at}
+use Rattle.floats.proofs.Bools.{so}
 use Rattle.envelope.proofs.Counted.{span-any, span-counted, span-lies, span-exactly}
 use Rattle.envelope.proofs.Narrow.{highest-full, radii-full}
 
@@ -137,8 +138,8 @@ module _ (ps : List Float) (held : (i : ℕ) → T (fits binary64 (getD ps i nan
     pub within-kept : (r : Paper Span) → r ≡ keptWithin ps z lo hi → Kept ps z r (keptWithin ps z lo hi) (withinOf ps lo hi)
     within-kept r e = record { found = e; ruled = λ g. e ∙ (ap (λ y. keptWithin ps y lo hi) g ∙ within-rule ps held lo hi flo fhi) }
 
-    pub numbers-kept : (r : List Float) → r ≡ numbersOf ps (keptWithin ps z lo hi) → Kept ps z r (numbersOf ps (keptWithin ps z lo hi)) (numbersOf ps (withinOf ps lo hi))
-    numbers-kept r e = record { found = e; ruled = λ g. e ∙ ap (numbersOf ps) (ap (λ y. keptWithin ps y lo hi) g ∙ within-rule ps held lo hi flo fhi) }
+    pub numbers-kept : (r : List Float) → r ≡ partNumbers ps (keptWithin ps z lo hi) → Kept ps z r (partNumbers ps (keptWithin ps z lo hi)) (partNumbers ps (withinOf ps lo hi))
+    numbers-kept r e = record { found = e; ruled = λ g. e ∙ ap (partNumbers ps) (ap (λ y. keptWithin ps y lo hi) g ∙ within-rule ps held lo hi flo fhi) }
 
     pub range-kept : (r : Paper (Option Radii)) → r ≡ keptRange ps z lo hi → Kept ps z r (keptRange ps z lo hi) (radiusRangeOf ps lo hi)
     range-kept r e = record { found = e; ruled = λ g. e ∙ (ap (λ y. keptRange ps y lo hi) g ∙ range-rule ps held lo hi flo fhi) }

@@ -14,12 +14,12 @@ use mir.Val.{SFits, ofZ, toZ}
 use mir.Facts.{toZ-ofZ}
 use borrow.Author.Tests.{eqb-true}
 use Rattle.floats.specs.Pick.{pick}
-use Rattle.floats.specs.Numbers.{cleanOf, usable}
+use Rattle.floats.specs.Numbers.{cleanOf, usable, usableTo, allTo}
 use Rattle.floats.specs.Kinds.{Number}
 use Rattle.floats.proofs.Keys.{same-test}
 use Rattle.floats.proofs.Order.{to-le, of-le, number-of}
 use Rattle.floats.proofs.Cleared.{clean-key, clean-plain}
-use Rattle.envelope.specs.Envelope.{uAt, pointAt, allTo, usableTo, risesTo, fallsTo, higher, segmentAt, highestTo, segmentIn, radiiTo}
+use Rattle.envelope.specs.Envelope.{uAt, pointAt, risesTo, fallsTo, higher, segmentAt, highestTo, segmentIn, radiiTo}
 use Rattle.envelope.specs.Halving.{isZ}
 
 -- ---- one turn more

@@ -8,7 +8,7 @@ use lib.ListN.{length, getD, take, drop}
 use lib.IntN.{ℤ, pos, negsuc}
 use lib.Ieee.{Float, nan, le, lt, eq}
 use Rattle.floats.specs.Pick.{pick}
-use Rattle.floats.specs.Numbers.{_+₆₄_, _-₆₄_, _*₆₄_, _/₆₄_, leastOf, greatestOf, cleanOf, usable}
+use Rattle.floats.specs.Numbers.{_+₆₄_, _-₆₄_, _*₆₄_, _/₆₄_, leastOf, greatestOf, cleanOf, usable, usableTo, allTo}
 use Rattle.refusals.specs.Number.{reasonOf}
 use Rattle.refusals.specs.Limits.{envelopeLimit}
 use Rattle.refusals.specs.Paper.{Paper, answers, refuses, demand, onward}
@@ -45,15 +45,6 @@ abbrev pub pointAt : List Float → ℕ → Point
 pointAt ps i = record { u = uAt ps i; v = vAt ps i }
 
 -- ---- refusal 14
--- the test holds of every number below k
-unfoldable pub allTo : (ℕ → Bool) → ℕ → Bool
-allTo test zero = true
-allTo test (suc i) = allTo test i && test i
-
--- each of the first k numbers is finite and at most 1e6 in size
-unfoldable pub usableTo : List Float → ℕ → Bool
-usableTo ps k = allTo (λ i. usable (getD ps i nan)) k
-
 -- whole points, not too many, every number finite and at most 1e6 in size
 unfoldable pub pointsGood : List Float → Bool
 pointsGood ps = eqb (length ps % 2) 0 && leb (count ps) envelopeLimit && usableTo ps (length ps)
@@ -129,9 +120,9 @@ unfoldable pub withinOf : List Float → Float → Float → Paper Span
 withinOf ps lo hi = demand (pointsGood ps && (usable lo && usable hi)) 14 (answers (partOf ps (cleanOf lo) (cleanOf hi)))
 
 -- the numbers of the part as they were lent; none where it is refused
-unfoldable pub numbersOf : List Float → Paper Span → List Float
-numbersOf ps (answers s) = take (2 * (s .end - s .start)) (drop (2 * s .start) ps)
-numbersOf ps (refuses n) = []
+unfoldable pub partNumbers : List Float → Paper Span → List Float
+partNumbers ps (answers s) = take (2 * (s .end - s .start)) (drop (2 * s .start) ps)
+partNumbers ps (refuses n) = []
 
 -- what the answer of `within_span` says, case by case: the first point, and how many
 abbrev pub spannedPaper : Spanned → Paper Span

@@ -10,7 +10,7 @@ use lib.ListN.{length}
 use lib.IntN.{ℤ, pos, negsuc}
 use lib.Ieee.{Float, le}
 use Rattle.floats.specs.Pick.{pick}
-use Rattle.floats.specs.Numbers.{cleanOf, usable}
+use Rattle.floats.specs.Numbers.{cleanOf, usable, usableTo}
 use Rattle.refusals.specs.Paper.{Paper, answers, demand}
 use Rattle.envelope.specs.declared.Span.{Span}
 use Rattle.envelope.specs.declared.Test.{Test}
@@ -24,7 +24,7 @@ use Rattle.envelope.specs.declared.Ordered.{Ordered}
 use Rattle.envelope.specs.declared.Spanned.{Spanned}
 use Rattle.envelope.specs.declared.RadiusAt.{RadiusAt}
 use Rattle.envelope.specs.declared.RadiusRange.{RadiusRange}
-use Rattle.envelope.specs.Envelope.{count, uAt, usableTo, pointsGood, rises, falls, orderOf, orderedOf, orderedPaper, passes, span, allPoints, spanOf, withinOf, numbersOf, spannedPaper, wider, highestIn, highestAt, radiusAtOf, radiusAtPaper, Radii, radiiIn, radiusRangeOf, radiusRangePaper}
+use Rattle.envelope.specs.Envelope.{count, uAt, pointsGood, rises, falls, orderOf, orderedOf, orderedPaper, passes, span, allPoints, spanOf, withinOf, partNumbers, spannedPaper, wider, highestIn, highestAt, radiusAtOf, radiusAtPaper, Radii, radiiIn, radiusRangeOf, radiusRangePaper}
 
 -- what one pass over the points finds
 abbrev pub scanOf : List Float → Scanned
@@ -101,7 +101,7 @@ abbrev pub SpanKept : List Float → ℤ → Float → Float → Spanned → Typ
 SpanKept ps z lo hi r = Kept ps z (spannedPaper r) (keptWithin ps z lo hi) (withinOf ps lo hi)
 
 abbrev pub WithinKept : List Float → ℤ → Float → Float → List Float → Type 0
-WithinKept ps z lo hi r = Kept ps z r (numbersOf ps (keptWithin ps z lo hi)) (numbersOf ps (withinOf ps lo hi))
+WithinKept ps z lo hi r = Kept ps z r (partNumbers ps (keptWithin ps z lo hi)) (partNumbers ps (withinOf ps lo hi))
 
 -- ---- the radius
 -- a radius, or none
@@ -124,9 +124,9 @@ abbrev pub RadiusAtKept : List Float → ℤ → Float → RadiusAt → Type 0
 RadiusAtKept ps z u r = Kept ps z (radiusAtPaper r) (keptAt ps z u) (radiusAtOf ps u)
 
 -- two radii, or none
-unfoldable pub extentOf : Extent → Option Radii
-extentOf (extent.From a b) = some (record { lowest = a; highest = b })
-extentOf extent.Nowhere = none
+unfoldable pub extentRadii : Extent → Option Radii
+extentRadii (extent.From a b) = some (record { lowest = a; highest = b })
+extentRadii extent.Nowhere = none
 
 unfoldable pub halvedRadii : List Float → ℤ → Float → Float → Option Radii
 halvedRadii ps z lo hi = pick (le lo hi) (radiiIn ps (wider (halvedSpan ps z lo hi) (count ps)) lo hi) none

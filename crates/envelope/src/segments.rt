@@ -4,7 +4,7 @@ ghost use mathlib.Core.Path.{_≡_};
 ghost use Prim.Native.Nat.{_+_, _*_, _≤_};
 ghost use lib.ListN.{length};
 ghost use Rattle.envelope.specs.Envelope.{pointAt, across, segmentAt, higher, highestIn, taken, segmentOver, segmentIn, radiiIn};
-ghost use Rattle.envelope.specs.Halving.{radiusOf, extentOf};
+ghost use Rattle.envelope.specs.Halving.{radiusOf, extentRadii};
 use super::Radius;
 use super::Span;
 
@@ -87,7 +87,7 @@ pub fn highest_in(points: &[f64], s: Span, u: f64) -> Radius
 }
 
 fn taken(r: Extent, v: f64) -> Extent
-    ensures { λ x. ⌜ extentOf x ≡ taken (extentOf r) v ⌝ }
+    ensures { λ x. ⌜ extentRadii x ≡ taken (extentRadii r) v ⌝ }
 {
     match r {
         Extent::Nowhere => Extent::From(v, v),
@@ -97,7 +97,7 @@ fn taken(r: Extent, v: f64) -> Extent
 
 // The radii with those of the segment from p to q between a and b.
 fn segment_over(r: Extent, p: Point, q: Point, a: f64, b: f64) -> Extent
-    ensures { λ x. ⌜ extentOf x ≡ segmentOver (extentOf r) p q a b ⌝ }
+    ensures { λ x. ⌜ extentRadii x ≡ segmentOver (extentRadii r) p q a b ⌝ }
 {
     if b < a {
         return r;
@@ -109,7 +109,7 @@ fn segment_over(r: Extent, p: Point, q: Point, a: f64, b: f64) -> Extent
 }
 
 fn segment_in(r: Extent, p: Point, q: Point, lo: f64, hi: f64) -> Extent
-    ensures { λ x. ⌜ extentOf x ≡ segmentIn (extentOf r) p q lo hi ⌝ }
+    ensures { λ x. ⌜ extentRadii x ≡ segmentIn (extentRadii r) p q lo hi ⌝ }
 {
     let a = floats::greatest(floats::least(p.u, q.u), lo);
     let b = floats::least(floats::greatest(p.u, q.u), hi);
@@ -119,7 +119,7 @@ fn segment_in(r: Extent, p: Point, q: Point, lo: f64, hi: f64) -> Extent
 // The lowest and the highest radius over lo..hi over the segments between the points of the span.
 pub fn extent_in(points: &[f64], s: Span, lo: f64, hi: f64) -> Extent
     requires { ⌜ 2 * s .end ≤ length (now points) ⌝ }
-    ensures { λ r. ⌜ extentOf r ≡ radiiIn (now (points .entry)) s lo hi ⌝ }
+    ensures { λ r. ⌜ extentRadii r ≡ radiiIn (now (points .entry)) s lo hi ⌝ }
 {
     let start = s.start;
     let end = s.end;

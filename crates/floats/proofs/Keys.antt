@@ -14,6 +14,7 @@ use lib.Pow.{pow-add, pow-pos, pow-lt}
 use lib.Ieee.{Float, nan, inf, fin, Format, prec, emax, low, up, down, below, level, lt, eq, le, fits, isNan}
 use lib.Ieee.Fits.{and-i, and-l, and-r, down-pos, eq→eqb}
 use Rattle.floats.specs.Kinds.{Number}
+use Rattle.floats.proofs.Bools.{or-l, or-r}
 
 -- ---- the key
 
@@ -142,14 +143,6 @@ module _ (l c : ℕ) (L : 0 < l) (C : 0 < c) where
   scale-level s t a b p q x y = ap₂ (λ (u v : Bool). u && (Bool·beq s t || v)) (scale-eqb a b p q x y) (scale-eqb a 0 p 0 x zeros)
 
 -- ---- a comparison of two signed numbers is that of their distances from a bound
-
-or-l : (a b : Bool) → T a → T (a || b)
-or-l true b t = tt
-or-l false b t = absurd t
-
-or-r : (a b : Bool) → T b → T (a || b)
-or-r true b t = tt
-or-r false b t = t
 
 or-e : (a b : Bool) → T (a || b) → T a ⊎ T b
 or-e true b t = inl tt

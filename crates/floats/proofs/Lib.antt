@@ -1,3 +1,4 @@
+pub mod Bools
 pub mod Keys
 pub mod Order
 pub mod Lattice
@@ -5,9 +6,11 @@ pub mod Exact
 pub mod Cleared
 pub mod Signs
 pub mod Folds
-pub mod Mirror
 pub mod Rounded
 pub mod Signed
 pub mod Within
 pub mod Ratio
 pub mod Zeros
+pub mod Anywhere
+pub mod Bounding
+pub mod FiniteTest

@@ -1,6 +1,8 @@
 -- The numbers of 01: the operations of f64, the least and the greatest by comparison, -0.0 read as +0.0, and which arguments are in range. Assumes nothing.
-use Prim.Native.Nat.{zero, suc}
-use mathlib.Core.Bool.{Bool, false, _&&_}
+use Prim.Native.Nat.{ℕ, zero, suc}
+use mathlib.Core.Bool.{Bool, true, false, _&&_}
+use mathlib.Core.List.{List}
+use lib.ListN.{getD}
 use lib.Ieee.{Float, nan, inf, fin, binary64, add, sub, mul, div, neg, lt, le, eq, ofBits}
 use Rattle.floats.specs.Pick.{pick}
 
@@ -57,3 +59,12 @@ cleanOf x = pick (eq x zero64) zero64 x
 -- ---- every argument is finite, with absolute value at most 1e6
 abbrev pub usable : Float → Bool
 usable x = le (neg million) x && le x million
+
+-- a test holds of every number below k
+unfoldable pub allTo : (ℕ → Bool) → ℕ → Bool
+allTo test zero = true
+allTo test (suc i) = allTo test i && test i
+
+-- each of the first k numbers of a list is usable
+unfoldable pub usableTo : List Float → ℕ → Bool
+usableTo xs k = allTo (λ i. usable (getD xs i nan)) k

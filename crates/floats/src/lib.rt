@@ -2,9 +2,10 @@
 // are arguments.
 //
 // The laws of proofs/ are what every other crate leans on: the order of all values that are no NaN
-// (Keys, Order), least and greatest as its lattice and folds over them in any order (Lattice,
-// Folds), what rounding does to an order and to a size (Rounded, Signed, Within, Ratio), and which
-// results are not -0.0 (Exact, Zeros, Mirror).
+// (Keys, Order) and of any floats (Anywhere, Bounding), least and greatest as its lattice and folds over
+// them in any order (Lattice, Folds), what rounding does to an order and to a size (Rounded, Signed,
+// Within, Ratio), which results are finite (FiniteTest) and which are not -0.0 (Exact, Zeros), and a Bool
+// beside what it says (Bools).
 ghost use mathlib.Core.Path.{_≡_};
 ghost use Rattle.floats.specs.Numbers.{leastOf, greatestOf, sizeOf, minusZero, cleanOf, usable};
 

@@ -17,7 +17,8 @@ use Rattle.floats.specs.Kinds.{Number}
 use Rattle.floats.proofs.Order.{lt-trans, lt-never}
 use Rattle.envelope.specs.declared.Span.{Span}
 use Rattle.envelope.specs.Envelope.{count, uAt, spanOf, higher}
-use Rattle.envelope.proofs.Chain.{is, so}
+use Rattle.envelope.proofs.Chain.{is}
+use Rattle.floats.proofs.Bools.{so}
 use Rattle.insert.specs.declared.Which.{Which}
 use Rattle.insert.specs.declared.Which.the-variants.{Least, Greatest}
 use Rattle.insert.specs.declared.candidates.Trial.{Trial}

@@ -24,7 +24,8 @@ use Rattle.floats.proofs.Cleared.{clean-keeps}
 use Rattle.floats.proofs.Within.{finite-within, number-within, within-weaken, within-between, within-add, within-sub}
 use Rattle.floats.proofs.Zeros.{add-plain, sub-plain}
 use Rattle.envelope.specs.Envelope.{count, uAt, vAt, pointAt, pointsGood, spanOf, across, highestAt}
-use Rattle.envelope.proofs.Chain.{both, so}
+use Rattle.envelope.proofs.Chain.{both}
+use Rattle.floats.proofs.Bools.{so}
 use Rattle.envelope.proofs.Rules.{refused-not}
 use Rattle.envelope.proofs.Finite.{Sized, usable-sized, weaken, Held, across-sized, u-sized, v-sized, highest-at-sized}
 use Rattle.insert.specs.declared.Which.{Which}

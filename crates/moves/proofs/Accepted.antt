@@ -18,7 +18,7 @@ use Rattle.changes.specs.Change.{roomOf, changesFrom}
 use Rattle.rings.specs.declared.Ring.{Ring}
 use Rattle.rings.specs.Ring.{covered, filled, clip}
 use Rattle.rings.specs.Points.{Disjoint}
-use Rattle.rings.specs.Store.{extentOf, ringsOf, storeAs, storeFits, countFits, ringsGood, raisedBy}
+use Rattle.rings.specs.Store.{barRing, ringsOf, storeAs, storeFits, countFits, ringsGood, raisedBy}
 use Rattle.rings.specs.Remove.{removeRings}
 use Rattle.rings.proofs.Flat.{rings-stored}
 use Rattle.rings.proofs.Bad.{none-good}
@@ -40,7 +40,7 @@ pub record Taken (spec : TurnStockSpec) (cs xs : List Float) (count g : ℕ) (is
   pub bins : ℕ
   pub stock : stockOf spec cs ≡ answers bins
   pub room : k ≤ roomOf (length is) (length ys)
-  pub fits : countFits (extentOf (cleanSpec spec)) xs count ≡ true
+  pub fits : countFits (barRing (cleanSpec spec)) xs count ≡ true
   pub good : ringsGood removed ≡ true
   pub pass : passAll (cleanSpec spec) bins cs (changesFrom is ys k) ≡ answers tt
   pub last : generationAfter spec g removed ≤ lastGeneration
@@ -94,17 +94,17 @@ module _ (spec : TurnStockSpec) (cs xs : List Float) (count g : ℕ) (is : List 
         ap (stockOf spec) (t .cells) ∙ passed-stock spec cs (t .bins) (changesFrom is ys k) (t .stock) (t .pass) ∙ sym (t .stock)
 
     -- its rings pass refusal 4's test again
-    pub move-passes : countFits (extentOf (cleanSpec spec)) (storeAs xs (a .rings)) (length (a .rings)) ≡ true
+    pub move-passes : countFits (barRing (cleanSpec spec)) (storeAs xs (a .rings)) (length (a .rings)) ≡ true
     move-passes =
         let t = taken removed a h in
         rings-pass-again spec xs count (t .fits) removed (a .rings) (checked spec (t .bins) (stocked spec cs (t .bins) (t .stock) .count) .good) (t .good) (t .rule)
 
     -- no two of them share a point
     pub move-disjoint : Disjoint (a .rings)
-    move-disjoint = passed-disjoint (extentOf (cleanSpec spec)) xs (a .rings) move-passes
+    move-disjoint = passed-disjoint (barRing (cleanSpec spec)) xs (a .rings) move-passes
 
     -- they cover what was covered and what the clipped rings of the move cover, and nothing else
-    pub move-covers : (z r : Float) → covered (a .rings) z r ≡ (covered (ringsOf count xs) z r || covered (map (clip (extentOf (cleanSpec spec))) (ringsOf (length removed / 4) removed)) z r)
+    pub move-covers : (z r : Float) → covered (a .rings) z r ≡ (covered (ringsOf count xs) z r || covered (map (clip (barRing (cleanSpec spec))) (ringsOf (length removed / 4) removed)) z r)
     move-covers = let t = taken removed a h in rings-cover spec xs count (t .fits) removed (a .rings) (t .rule)
 
   -- two orders of the rings of a move, both accepted: the same cells, the same generation, and the same points covered
@@ -114,7 +114,7 @@ module _ (spec : TurnStockSpec) (cs xs : List Float) (count g : ℕ) (is : List 
 
     pub either-generation : a .generation ≡ a' .generation
     unfolding generationAfter
-    either-generation = taken removed a h .rises ∙ ap (λ (n : ℕ). g + 1 + n) (raised-turns (extentOf (cleanSpec spec)) turn) ∙ sym (taken removed' a' h' .rises)
+    either-generation = taken removed a h .rises ∙ ap (λ (n : ℕ). g + 1 + n) (raised-turns (barRing (cleanSpec spec)) turn) ∙ sym (taken removed' a' h' .rises)
 
     pub either-covers : (z r : Float) → covered (a .rings) z r ≡ covered (a' .rings) z r
     either-covers = rings-either-order spec xs count (taken removed a h .fits) removed removed' (a .rings) (a' .rings) turn (taken removed a h .rule) (taken removed' a' h' .rule)

@@ -21,8 +21,9 @@ use Rattle.stock.proofs.Count.{demanded, none-demanded, and-both, stocked, stoc
 use Rattle.stock.proofs.EachFits.{stock-fits, fits-stock}
 use Rattle.stock.proofs.SameCells.{fits-same}
 use Rattle.stock.proofs.Stored.{stored-same, stored-other}
-use Rattle.rings.proofs.Anywhere.{le-chain, eq-turns}
-use Rattle.rings.proofs.Edges.{of-true, eq-le}
+use Rattle.floats.proofs.Anywhere.{le-chain, eq-turns}
+use Rattle.floats.proofs.Bounding.{eq-le}
+use Rattle.floats.proofs.Bools.{so}
 use Rattle.changes.specs.Commit.{onlyRemoves, appliesTo, passes, eachFrom, firstFall, passAll, putAll}
 use Rattle.changes.proofs.Passed.{put-length}
 use Rattle.moves.proofs.Answered.{answered, unplaced}
@@ -79,10 +80,10 @@ passed-stock spec cs n l e h =
 -- ---- changes that pass only remove: outer bounds fall and inner bounds rise, in every bin
 
 at-most : (x y z : Float) → le x y ≡ true → eq z y ≡ true → le x z ≡ true
-at-most x y z p q = is-true (le x z) (le-chain x y z (of-true (le x y) p) (eq-turns z y (of-true (eq z y) q)))
+at-most x y z p q = is-true (le x z) (le-chain x y z (so p) (eq-turns z y (so q)))
 
 at-least : (x y z : Float) → le x y ≡ true → eq z x ≡ true → le z y ≡ true
-at-least x y z p q = is-true (le z y) (le-chain z x y (eq-le z x (of-true (eq z x) q)) (of-true (le x y) p))
+at-least x y z p q = is-true (le z y) (le-chain z x y (eq-le z x (so q)) (so p))
 
 -- a change whose before-cell is the cell's, by number
 same-removes : (c b a : TurnCell) → sameCell c b ≡ true → onlyRemoves b a ≡ true → onlyRemoves c a ≡ true
@@ -116,7 +117,7 @@ none-removed c e =
     rw (self _ (e1 .1), self _ (e1 .0), self _ (e2 .1), self _ (e3 .1)) refl
   where
     self : (x : Float) → eq x x ≡ true → le x x ≡ true
-    self x q = is-true (le x x) (eq-le x x (of-true (eq x x) q))
+    self x q = is-true (le x x) (eq-le x x (so q))
 
 pub passed-removes : (spec : TurnStockSpec) (cs : List Float) (n : ℕ) (l : List TurnChange) → stockOf spec cs ≡ answers n → passAll (cleanSpec spec) n cs l ≡ answers tt
     → (i : ℕ) → i < n → onlyRemoves (cellAt cs i) (cellAt (putAll cs l) i) ≡ true

@@ -20,7 +20,7 @@ use Rattle.changes.specs.Change.{roomOf, changesFrom}
 use Rattle.rings.specs.declared.Ring.{Ring}
 use Rattle.rings.specs.declared.StoredAs.{StoredAs}
 use Rattle.rings.specs.declared.StoredAs.the-variants as stored
-use Rattle.rings.specs.Store.{extentOf, ringsOf, storeAs, countFits, badRing, raisedBy}
+use Rattle.rings.specs.Store.{barRing, ringsOf, storeAs, countFits, badRing, raisedBy}
 use Rattle.rings.specs.Remove.{removeRings, storedPaper, StoresAs}
 use Rattle.rings.proofs.Adding.{accepted, refused}
 use Rattle.changes.specs.declared.Passing.{Passing}
@@ -29,13 +29,13 @@ use Rattle.changes.specs.Commit.{passAll, passingPaper, firstRefusal, putAll, p
 use Rattle.changes.proofs.Written.{refusal-held, put-held}
 use Rattle.moves.specs.declared.Moved.{Moved}
 use Rattle.moves.specs.declared.Moved.the-variants as moved
-use Rattle.moves.specs.Move.{Left, generationAfter, moveIn, moveOf, movedPaper, countsOf, cellsAfter, ringsAfter, Moves}
+use Rattle.moves.specs.Move.{Left, generationAfter, moveIn, moveOf, movedPaper, countsOf, movedCells, movedRings, Moves}
 
 -- ---- what is answered and left
 
 -- refused: cells and rings stay
 pub left-as : (p : Paper Left) (r : Moved) (x : Reason) (cs xs xs' : List Float) → movedPaper r ≡ refuses x → p ≡ refuses x → xs' ≡ xs → Moves p r cs cs xs xs'
-left-as p r x cs xs xs' a e f = record { answer = a ∙ sym (ap countsOf e); cells = sym (ap (λ (q : Paper Left). cellsAfter q cs) e); rings = f ∙ sym (ap (λ (q : Paper Left). ringsAfter q xs) e) }
+left-as p r x cs xs xs' a e f = record { answer = a ∙ sym (ap countsOf e); cells = sym (ap (λ (q : Paper Left). movedCells q cs) e); rings = f ∙ sym (ap (λ (q : Paper Left). movedRings q xs) e) }
 
 pub left : (p : Paper Left) (x : Refusal) (cs xs xs' : List Float) → p ≡ refuses (reasonOf x) → xs' ≡ xs → Moves p (moved.Refused x) cs cs xs xs'
 left p x cs xs xs' e f = left-as p (moved.Refused x) (reasonOf x) cs xs xs' refl e f
@@ -45,8 +45,8 @@ pub done : (p : Paper Left) (a : Left) (m g : ℕ) (cs cs' xs xs' : List Float) 
 done p a m g cs cs' xs xs' e em eg ec ex =
     record {
       answer = ap (λ (k : ℕ). answers (record { rings = k; generation = g })) em ∙ ap (λ (k : ℕ). answers (record { rings = length (a .rings); generation = k })) eg ∙ sym (ap countsOf e);
-      cells = ec ∙ sym (ap (λ (q : Paper Left). cellsAfter q cs) e);
-      rings = ex ∙ sym (ap (λ (q : Paper Left). ringsAfter q xs) e);
+      cells = ec ∙ sym (ap (λ (q : Paper Left). movedCells q cs) e);
+      rings = ex ∙ sym (ap (λ (q : Paper Left). movedRings q xs) e);
     }
 
 -- a rule that comes to another has its outcome
@@ -73,11 +73,11 @@ put-is is ys k cs cs' h e = e ∙ put-held is ys k h cs
 
 -- ---- the rule of a move on checked cells, refusal by refusal
 module _ (spec : TurnStockSpec) (n : ℕ) (cs xs : List Float) (count g : ℕ) (l : List TurnChange) (removed : List Float) where
-  pub refuses-4 : countFits (extentOf (cleanSpec spec)) xs count ≡ false → moveIn spec n cs xs count g l removed ≡ refuses (only 4)
+  pub refuses-4 : countFits (barRing (cleanSpec spec)) xs count ≡ false → moveIn spec n cs xs count g l removed ≡ refuses (only 4)
   unfolding moveIn
   refuses-4 e = simp (papers, e)
 
-  module _ (fit : countFits (extentOf (cleanSpec spec)) xs count ≡ true) where
+  module _ (fit : countFits (barRing (cleanSpec spec)) xs count ≡ true) where
     pub refuses-10 : (k : ℕ) → badRing removed ≡ some k → moveIn spec n cs xs count g l removed ≡ refuses (at 10 k)
     unfolding moveIn
     refuses-10 k e = demand-true _ _ _ fit ∙ demandNone-some _ _ _ _ e
@@ -87,7 +87,7 @@ module _ (spec : TurnStockSpec) (n : ℕ) (cs xs : List Float) (count g : ℕ) (
       unfolding moveIn
       refuses-change r e = simp (papers, fit, good, e)
 
-      module _ (pass : passAll (cleanSpec spec) n cs l ≡ answers tt) (raised : ℕ) (rise : raised ≡ raisedBy (extentOf (cleanSpec spec)) (ringsOf (length removed / 4) removed)) where
+      module _ (pass : passAll (cleanSpec spec) n cs l ≡ answers tt) (raised : ℕ) (rise : raised ≡ raisedBy (barRing (cleanSpec spec)) (ringsOf (length removed / 4) removed)) where
         after : generationAfter spec g removed ≡ g + 1 + raised
         unfolding generationAfter
         after = ap (λ (k : ℕ). g + 1 + k) (sym rise)

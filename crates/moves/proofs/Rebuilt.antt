@@ -15,7 +15,7 @@ use Rattle.stock.proofs.Count.{none-demanded, checked, stocked}
 use Rattle.rings.specs.declared.Ring.{Ring}
 use Rattle.rings.specs.Ring.{covered, clip}
 use Rattle.rings.specs.Points.{Disjoint}
-use Rattle.rings.specs.Store.{extentOf, ringsOf, roomOf, storeAs, storeFits, countFits, ringsGood}
+use Rattle.rings.specs.Store.{barRing, ringsOf, ringRoom, storeAs, storeFits, countFits, ringsGood}
 use Rattle.rings.specs.Remove.{removeRings}
 use Rattle.rings.proofs.Bad.{none-good}
 use Rattle.rings.proofs.Taken.{rings-pass-again, rings-cover, rings-either-order}
@@ -26,7 +26,7 @@ use Rattle.moves.proofs.Accepted.{passed-disjoint}
 -- an empty store passes refusal 4's test
 none-fits : (e : Ring) (xs : List Float) → countFits e xs 0 ≡ true
 unfolding countFits storeFits ringsOf
-none-fits e xs = ap (λ (b : Bool). b && true) (le-leb 0 (roomOf (length xs)) (omega arith))
+none-fits e xs = ap (λ (b : Bool). b && true) (le-leb 0 (ringRoom (length xs)) (omega arith))
 
 -- what accepted parts say of the rule
 pub record Parts (spec : TurnStockSpec) (cs given xs : List Float) (l : List Ring) : Type 0 where
@@ -45,19 +45,19 @@ module _ (spec : TurnStockSpec) (cs xs : List Float) where
 
   module _ (given : List Float) (l : List Ring) (h : partsOf spec cs given xs ≡ answers l) where
     -- the rings pass refusal 4's test
-    pub parts-pass : countFits (extentOf (cleanSpec spec)) (storeAs xs l) (length l) ≡ true
-    parts-pass = let t = parts given l h in rings-pass-again spec xs 0 (none-fits (extentOf (cleanSpec spec)) xs) given l (checked spec (t .bins) (stocked spec cs (t .bins) (t .stock) .count) .good) (t .good) (t .rule)
+    pub parts-pass : countFits (barRing (cleanSpec spec)) (storeAs xs l) (length l) ≡ true
+    parts-pass = let t = parts given l h in rings-pass-again spec xs 0 (none-fits (barRing (cleanSpec spec)) xs) given l (checked spec (t .bins) (stocked spec cs (t .bins) (t .stock) .count) .good) (t .good) (t .rule)
 
     -- no two of them share a point
     pub parts-disjoint : Disjoint l
-    parts-disjoint = passed-disjoint (extentOf (cleanSpec spec)) xs l parts-pass
+    parts-disjoint = passed-disjoint (barRing (cleanSpec spec)) xs l parts-pass
 
     -- they cover what the clipped rings given cover, and nothing else
-    pub parts-cover : (z r : Float) → covered l z r ≡ covered (map (clip (extentOf (cleanSpec spec))) (ringsOf (length given / 4) given)) z r
+    pub parts-cover : (z r : Float) → covered l z r ≡ covered (map (clip (barRing (cleanSpec spec))) (ringsOf (length given / 4) given)) z r
     unfolding covered ringsOf
-    parts-cover = rings-cover spec xs 0 (none-fits (extentOf (cleanSpec spec)) xs) given l (parts given l h .rule)
+    parts-cover = rings-cover spec xs 0 (none-fits (barRing (cleanSpec spec)) xs) given l (parts given l h .rule)
 
   -- two orders of the rings given, both accepted, cover the same points
   pub parts-either-order : (given given' : List Float) (l l' : List Ring) → List·Permᴰ (ringsOf (length given / 4) given) (ringsOf (length given' / 4) given') → partsOf spec cs given xs ≡ answers l
       → partsOf spec cs given' xs ≡ answers l' → (z r : Float) → covered l z r ≡ covered l' z r
-  parts-either-order given given' l l' d h h' = rings-either-order spec xs 0 (none-fits (extentOf (cleanSpec spec)) xs) given given' l l' d (parts given l h .rule) (parts given' l' h' .rule)
+  parts-either-order given given' l l' d h h' = rings-either-order spec xs 0 (none-fits (barRing (cleanSpec spec)) xs) given given' l l' d (parts given l h .rule) (parts given' l' h' .rule)

@@ -16,7 +16,7 @@ use Rattle.stock.specs.Spec.{cleanSpec}
 use Rattle.stock.specs.Cell.{stockOf}
 use Rattle.changes.specs.Change.{roomOf, changesFrom}
 use Rattle.rings.specs.declared.Ring.{Ring}
-use Rattle.rings.specs.Store.{extentOf, ringsOf, storeAs, countFits, badRing, raisedBy}
+use Rattle.rings.specs.Store.{barRing, ringsOf, storeAs, countFits, badRing, raisedBy}
 use Rattle.rings.specs.Remove.{RingCount, removeRings}
 use Rattle.changes.specs.Commit.{passAll, putAll}
 use Rattle.moves.specs.declared.Moved.{Moved}
@@ -32,12 +32,12 @@ pub record Left : Type 0 where
 
 -- 1 for the commit, and 1 for each ring that is not empty after clipping
 unfoldable pub generationAfter : TurnStockSpec → ℕ → List Float → ℕ
-generationAfter spec g removed = g + 1 + raisedBy (extentOf (cleanSpec spec)) (ringsOf (length removed / 4) removed)
+generationAfter spec g removed = g + 1 + raisedBy (barRing (cleanSpec spec)) (ringsOf (length removed / 4) removed)
 
 -- a move on n checked cells: 4, 10, 7, then 8, 21, 22, 23 change by change, then 12, 11
 unfoldable pub moveIn : TurnStockSpec → ℕ → List Float → List Float → ℕ → ℕ → List TurnChange → List Float → Paper Left
 moveIn spec n cs xs count g l removed =
-    demand (countFits (extentOf (cleanSpec spec)) xs count) 4
+    demand (countFits (barRing (cleanSpec spec)) xs count) 4
     (demandNone (badRing removed) 10
     (onward (passAll (cleanSpec spec) n cs l) (λ _.
     demand (leb (generationAfter spec g removed) lastGeneration) 12
@@ -64,20 +64,20 @@ countsOf (answers a) = answers (record { rings = length (a .rings); generation =
 countsOf (refuses n) = refuses n
 
 -- a refusal leaves the cells
-abbrev pub cellsAfter : Paper Left → List Float → List Float
-cellsAfter (answers a) cs = a .cells
-cellsAfter (refuses n) cs = cs
+abbrev pub movedCells : Paper Left → List Float → List Float
+movedCells (answers a) cs = a .cells
+movedCells (refuses n) cs = cs
 
 -- the rings at the front and the rest as it was; a refusal leaves them
-abbrev pub ringsAfter : Paper Left → List Float → List Float
-ringsAfter (answers a) xs = storeAs xs (a .rings)
-ringsAfter (refuses n) xs = xs
+abbrev pub movedRings : Paper Left → List Float → List Float
+movedRings (answers a) xs = storeAs xs (a .rings)
+movedRings (refuses n) xs = xs
 
 -- the answer, the lent cells and the lent rings after a move
 pub record Moves (p : Paper Left) (r : Moved) (cs cs' xs xs' : List Float) : Type 0 where
   pub answer : movedPaper r ≡ countsOf p
-  pub cells : cs' ≡ cellsAfter p cs
-  pub rings : xs' ≡ ringsAfter p xs
+  pub cells : cs' ≡ movedCells p cs
+  pub rings : xs' ≡ movedRings p xs
 
 -- of lent cells and rings, at both moments
 abbrev pub MovesLent : Paper Left → Moved → Lent Float → Lent Float → Type 0

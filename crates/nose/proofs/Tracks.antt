@@ -29,6 +29,7 @@ use Rattle.nose.specs.declared.Track.{Track}
 use Rattle.nose.specs.Capsule.{endAt, lineAt, sideAt, normalOf, capsuleMinR}
 use Rattle.nose.specs.Nose.{segmentAt, segmentCount, lowWith, highWith, withSegment, noseTo, noseReach, noseAct}
 use Rattle.nose.specs.Track.{normalHeld, capsuleOf, endOn, sideOn, capsuleAt, alikeOf, trackOf, sampleAt, stepOf, withTrack}
+use Rattle.floats.proofs.Bools.{so}
 
 -- ---- a capsule
 -- the lower of a radius and none is the radius
@@ -60,10 +61,6 @@ unfolding capsuleMinR
 capsule-is a b rn c = capsule-by a b rn c (normalOf a b)
 
 -- ---- a number that is no zero is written in one way
--- a test that is true holds
-so : {b : Bool} → b ≡ true → T b
-so e = subst T (sym e) tt
-
 -- either zero equals zero
 zero-eq : (s : Bool) (e : ℤ) → T (eq (fin s 0 e) zero64)
 unfolding eq ofBits

@@ -9,7 +9,7 @@ use lib.IntN.{pos, negsuc}
 use lib.Ieee.{Float, nan, inf, fin, odd, isNan, ofBits, binary64, size}
 use lib.Ieee.Digits.{size-lt}
 use Rattle.refusals.specs.Paper.{Paper, answers, refuses, only}
-use Rattle.numbers.specs.Root.{raised, rootBelow, wholeRoot, rootIn, rootOf, unitsOf}
+use Rattle.numbers.specs.Root.{stepUp, rootBelow, wholeRoot, rootIn, rootOf, unitsOf}
 use Rattle.numbers.specs.RootBits.{nearestRoot}
 
 refused : (r : Float) → answers r ≡ refuses (only 5) → ⊥
@@ -46,7 +46,7 @@ sq-suc a = rw suc-mul (rw mul-suc (omega arith))
 abbrev pub Holds : ℕ → ℕ → Type 0
 Holds n r = (r * r ≤ n) × (n < suc r * suc r)
 
-raised-holds : (n r : ℕ) → r * r ≤ n → n < suc (suc r) * suc (suc r) → Holds n (raised n r)
+raised-holds : (n r : ℕ) → r * r ≤ n → n < suc (suc r) * suc (suc r) → Holds n (stepUp n r)
 raised-holds n r lo hi = go (leb (suc r * suc r) n) (leb→le (suc r * suc r) n) (nleb→lt (suc r * suc r) n)
   where
     go : (b : Bool) → (T b → suc r * suc r ≤ n) → (T (not b) → n < suc r * suc r) → Holds n (cond b (suc r) r)

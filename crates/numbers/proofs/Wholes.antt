@@ -23,9 +23,7 @@ use Rattle.floats.proofs.Order.{to-le, of-le, lt-never, nlt→le, le→nlt}
 use Rattle.floats.proofs.Exact.{round-held, fits-small, zero-key}
 use Rattle.floats.proofs.Signed.{number-zero, of-positive, sub-self}
 use Rattle.numbers.specs.Whole.{wholePart, ceilingOf, atMost, wholeUp}
-
-truth : {b : Bool} → b ≡ true → T b
-truth e = subst T (sym e) tt
+use Rattle.floats.proofs.Bools.{so}
 
 lie : {b : Bool} → b ≡ false → T b → ⊥
 lie e t = subst T e t
@@ -101,15 +99,15 @@ zero-size m e h l = go (eq-zero-or-pos (m * up e))
 
 pub above : (q : Float) → T (fits binary64 q) → le q zero64 ≡ false → lt q two64 ≡ true → Above q
 unfolding lt ofBits ofFields odd
-above nan h a b = absurd (truth b)
+above nan h a b = absurd (so b)
 above (inf true) h a b = absurd (lie a (unfold le lt eq in tt))
-above (inf false) h a b = absurd (truth b)
+above (inf false) h a b = absurd (so b)
 above (fin true m e) h a b = absurd (lie a (minus-low m e h))
 above (fin false m e) h a b = record {
   sig = m;
   exp = e;
   is = refl;
-  below = subst (λ (x : ℕ). x < 1 * 2 ^ 64 * down e) (mul-one (m * up e)) (ltb→lt (m * up e * 1) (1 * 2 ^ 64 * down e) (truth b));
+  below = subst (λ (x : ℕ). x < 1 * 2 ^ 64 * down e) (mul-one (m * up e)) (ltb→lt (m * up e * 1) (1 * 2 ^ 64 * down e) (so b));
 }
 
 -- ---- the whole part
@@ -137,15 +135,15 @@ part-of q a =
 
 pub part-over : (q : Float) → T (fits binary64 q) → le two64 q ≡ true → 2 ^ 64 - 1 ≡ wholePart q
 unfolding toUnsigned ofBits ofFields odd
-part-over nan h l = absurd (unfold le lt eq in truth l)
-part-over (inf true) h l = absurd (unfold le lt eq in truth l)
+part-over nan h l = absurd (unfold le lt eq in so l)
+part-over (inf true) h l = absurd (unfold le lt eq in so l)
 part-over (inf false) h l = refl
 part-over (fin true m e) h l =
-    absurd (le-not-lt (of-le number64 (number true m e h) (truth l)))
+    absurd (le-not-lt (of-le number64 (number true m e h) (so l)))
   where
     le-not-lt : key binary64 (fin false 1 (pos 64)) ≤ key binary64 (fin true m e) → ⊥
     le-not-lt g = omega (arith, key-fin binary64 true m e, key-fin binary64 false 1 (pos 64), of-positive number64 (unfold lt in tt))
-part-over (fin false m e) h l = sym (min-eq-right (le-of-lt-succ (le-div-iff-mul-le (down-pos e) .1 (wide (le-sides (truth l))))))
+part-over (fin false m e) h l = sym (min-eq-right (le-of-lt-succ (le-div-iff-mul-le (down-pos e) .1 (wide (le-sides (so l))))))
   where
     le-sides : T (le (fin false 1 (pos 64)) (fin false m e)) → 1 * 2 ^ 64 * down e ≤ m * up e * 1
     le-sides t = nltb→le (m * up e * 1) (1 * 2 ^ 64 * down e) (unfold lt in le→nlt number64 (number false m e h) t)
@@ -215,7 +213,7 @@ module _ (q : Float) (h : T (fits binary64 q)) (a : Above q) (limit t : ℕ) (e 
       sym (up-is ∙ pick-false _ _ _ (lt-leb _ _ (lt-of-lt-of-le (subst (λ (n : ℕ). limit < n) floor l) c)))
 
   raised-is : lt (ofInt binary64 (pos t)) q ≡ true → (a .sig * up (a .exp) + (down (a .exp) - 1)) / down (a .exp) ≡ t + 1
-  raised-is b = raised-odd (a .sig * up (a .exp)) (down (a .exp)) (down-pos (a .exp)) (subst (λ (n : ℕ). n * down (a .exp) < a .sig * up (a .exp)) floor (ltb→lt (t * down (a .exp)) (a .sig * up (a .exp)) (truth (sym test-is ∙ b)))) ∙ ap (λ (n : ℕ). n + 1) (sym floor)
+  raised-is b = raised-odd (a .sig * up (a .exp)) (down (a .exp)) (down-pos (a .exp)) (subst (λ (n : ℕ). n * down (a .exp) < a .sig * up (a .exp)) floor (ltb→lt (t * down (a .exp)) (a .sig * up (a .exp)) (so (sym test-is ∙ b)))) ∙ ap (λ (n : ℕ). n + 1) (sym floor)
 
   pub up-next : lt (ofInt binary64 (pos t)) q ≡ true → t < limit → some (t + 1) ≡ wholeUp q limit
   up-next b l = sym (up-is ∙ ap (λ (n : ℕ). pick (leb n limit) (some n) none) (raised-is b) ∙ pick-true _ _ _ (le-leb (t + 1) limit (omega arith)))
@@ -232,15 +230,15 @@ module _ (q : Float) (h : T (fits binary64 q)) (a : Above q) (limit t : ℕ) (e 
 -- q is at most 0
 pub up-zero : (q : Float) (limit : ℕ) → T (fits binary64 q) → le q zero64 ≡ true → eq (sub binary64 q q) zero64 ≡ true → some 0 ≡ wholeUp q limit
 unfolding wholeUp
-up-zero nan limit h a b = absurd (unfold le lt eq in truth a)
-up-zero (inf s) limit h a b = absurd (inf-less s (truth b))
+up-zero nan limit h a b = absurd (unfold le lt eq in so a)
+up-zero (inf s) limit h a b = absurd (inf-less s (so b))
   where
     inf-less : (s : Bool) → T (eq (sub binary64 (inf s) (inf s)) zero64) → ⊥
     inf-less true t = unfold sub add neg eq in t
     inf-less false t = unfold sub add neg eq in t
 up-zero (fin true m e) limit h a b = sym (pick-true _ _ _ (le-leb 0 limit zero-le))
 up-zero (fin false m e) limit h a b =
-    let z = zero-size m e h (subst (λ (x : Float). T (le (fin false m e) x)) zero-is (truth a)) in
+    let z = zero-size m e h (subst (λ (x : Float). T (le (fin false m e) x)) zero-is (so a)) in
     let n : (m * up e + (down e - 1)) / down e ≡ 0 = div-eq-of-lt (let p = down-pos e in omega arith) in
     sym (ap (λ (n : ℕ). pick (leb n limit) (some n) none) n ∙ pick-true _ _ _ (le-leb 0 limit zero-le))
 

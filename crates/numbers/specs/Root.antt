@@ -11,13 +11,13 @@ use Rattle.numbers.specs.declared.Rooted.{Rooted}
 use Rattle.numbers.specs.declared.Rooted.the-variants.{Root, Refused}
 
 -- r, or the next number up where its square is at most n
-abbrev pub raised : ℕ → ℕ → ℕ
-raised n r = cond (leb (suc r * suc r) n) (suc r) r
+abbrev pub stepUp : ℕ → ℕ → ℕ
+stepUp n r = cond (leb (suc r * suc r) n) (suc r) r
 
 -- the root of an n below 4 ^ k, cut to a whole number: twice the root of n / 4, or one more
 unfoldable pub rootBelow : ℕ → ℕ → ℕ
 rootBelow zero n = zero
-rootBelow (suc k) n = raised n (rootBelow k (n / 4) * 2)
+rootBelow (suc k) n = stepUp n (rootBelow k (n / 4) * 2)
 
 -- the greatest whole number whose square is at most n (`whole-root`, `whole-root-only`)
 unfoldable pub wholeRoot : ℕ → ℕ

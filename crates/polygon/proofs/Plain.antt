@@ -9,7 +9,7 @@ use lib.ListN.{length}
 use lib.Ieee.{Float, binary64, fits, le}
 use Rattle.refusals.specs.Limits.{pointLimit}
 use Rattle.floats.specs.Pick.{pick}
-use Rattle.floats.specs.Numbers.{zero64, leastOf, greatestOf, cleanOf, usable}
+use Rattle.floats.specs.Numbers.{zero64, leastOf, greatestOf, cleanOf, usable, usableTo}
 use Rattle.floats.specs.Kinds.{Finite, Within}
 use Rattle.floats.proofs.Lattice.{least-keeps, greatest-keeps}
 use Rattle.floats.proofs.Within.{finite-within, within-weaken, within-add}
@@ -22,7 +22,7 @@ use Rattle.reach.specs.Reach.{Reached, passed, reachFrom}
 use Rattle.reach.specs.Kinds.{SomeOf, ReachOf}
 use Rattle.reach.proofs.Reaches.{lower-keeps, upper-keeps, some-pick, some-map, reach-pick, reach-sized}
 use Rattle.stock.proofs.Bins.{Sized, HeldList}
-use Rattle.polygon.specs.Polygon.{usableTo, polygonGood, lowestOf, Span, extentOf, spans, lowsFrom, raised, highFrom, lowIn, highIn, skips, sweptReach, reachOver, polygonReach, polygonAct}
+use Rattle.polygon.specs.Polygon.{polygonGood, lowestOf, Span, extentOf, spans, lowsFrom, raised, highFrom, lowIn, highIn, skips, sweptReach, reachOver, polygonReach, polygonAct}
 use Rattle.polygon.proofs.First.{and-both}
 use Rattle.polygon.proofs.Sizes.{EndsOf, usable-within, clean-within, lowest-within, lows-within, extent-within}
 

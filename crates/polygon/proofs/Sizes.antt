@@ -13,7 +13,7 @@ use lib.Ieee.{Float, binary64, emax, fits, neg, lt, le, eq, ofBits}
 use lib.Ieee.Fits.{and-l, and-r}
 use borrow.Author.Tests.{ltb-true, ltb-false}
 use Rattle.floats.specs.Pick.{pick}
-use Rattle.floats.specs.Numbers.{_+₆₄_, _-₆₄_, _*₆₄_, _/₆₄_, million, leastOf, greatestOf, cleanOf, usable}
+use Rattle.floats.specs.Numbers.{_+₆₄_, _-₆₄_, _*₆₄_, _/₆₄_, million, leastOf, greatestOf, cleanOf, usable, usableTo, allTo}
 use Rattle.floats.specs.Kinds.{Finite, Within}
 use Rattle.floats.proofs.Order.{nlt→le}
 use Rattle.floats.proofs.Lattice.{least-keeps, greatest-keeps, least-number, greatest-number}
@@ -31,7 +31,7 @@ use Rattle.reach.specs.Kinds.{SomeOf}
 use Rattle.reach.proofs.Reaches.{lower-keeps, some-pick}
 use Rattle.reach.specs.Reach.{flipped}
 use Rattle.polygon.specs.declared.Point.{Point}
-use Rattle.polygon.specs.Polygon.{usableTo, heightAt, pointAt, alongOf, edgeAt, lowestTo, lowestOf, Span, widened, extentTo, extentOf, inside, lowsTo, lowsFrom}
+use Rattle.polygon.specs.Polygon.{heightAt, pointAt, alongOf, edgeAt, lowestTo, lowestOf, Span, widened, extentTo, extentOf, inside, lowsTo, lowsFrom}
 use Rattle.polygon.proofs.First.{and-both}
 
 -- ---- kinds of what may be missing
@@ -92,7 +92,7 @@ clean-within {k} {x} w = clean-keeps (Within binary64 k) {x = x} (within-weaken 
 
 -- each of the first n numbers is usable where all are
 usable-at : (ps : List Float) (n k : ℕ) → k < n → usableTo ps n ≡ true → usable (numberAt ps k) ≡ true
-unfolding usableTo
+unfolding usableTo allTo
 usable-at ps zero k h e = absurd (omega arith)
 usable-at ps (suc n) k h e =
     let b = and-both (usableTo ps n) (usable (numberAt ps n)) e in

@@ -8,16 +8,16 @@ use native.Mathlib.Nat.{mod-eq-of-lt, mod-self}
 use native.Mathlib.Numerals.{add-one}
 use lib.Ieee.{Float}
 use Rattle.floats.specs.Pick.{pick, pick-true}
-use Rattle.floats.specs.Numbers.{usable}
+use Rattle.floats.specs.Numbers.{usable, usableTo, allTo}
 use Rattle.stock.specs.declared.TurnSide.{TurnSide}
 use Rattle.stock.specs.declared.ZRange.{ZRange}
 use Rattle.stock.specs.Cell.{numberAt}
 use Rattle.reach.specs.Low.{lowerOf}
-use Rattle.polygon.specs.Polygon.{usableTo, heightAt, pointAt, besideOf, edgeAt, lowestTo, lowestOf, widened, extentTo, inside, lowsTo}
+use Rattle.polygon.specs.Polygon.{heightAt, pointAt, besideOf, edgeAt, lowestTo, lowestOf, widened, extentTo, inside, lowsTo}
 
 -- one number more is usable
 pub usable-more : (ps : List Float) (i : ℕ) → usableTo ps (i + 1) ≡ (usableTo ps i && usable (numberAt ps i))
-unfolding usableTo
+unfolding usableTo allTo
 usable-more ps i = ap (usableTo ps) (add-one i)
 
 -- one point more of the extent

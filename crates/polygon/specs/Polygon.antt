@@ -9,7 +9,7 @@ use lib.ListN.{length}
 use lib.Ieee.{Float, lt, le, eq}
 use Rattle.refusals.specs.Limits.{pointLimit}
 use Rattle.floats.specs.Pick.{pick}
-use Rattle.floats.specs.Numbers.{_+₆₄_, _-₆₄_, _*₆₄_, _/₆₄_, zero64, leastOf, greatestOf, cleanOf, usable}
+use Rattle.floats.specs.Numbers.{_+₆₄_, _-₆₄_, _*₆₄_, _/₆₄_, zero64, leastOf, greatestOf, cleanOf, usable, usableTo}
 use Rattle.numbers.specs.Whole.{wholePart}
 use Rattle.stock.specs.declared.TurnStockSpec.{TurnStockSpec}
 use Rattle.stock.specs.declared.TurnSide.{TurnSide}
@@ -26,11 +26,6 @@ use Rattle.polygon.specs.declared.Extent.the-variants.{Over, Nothing}
 use Rattle.stock.specs.declared.BinRange.{BinRange}
 
 -- ---- refusal 5
-
--- the first k numbers are usable
-unfoldable pub usableTo : List Float → ℕ → Bool
-usableTo ps zero = true
-usableTo ps (suc k) = usableTo ps k && usable (numberAt ps k)
 
 -- whole points, 64 at most, every number usable, excess >= 0; else 5
 unfoldable pub polygonGood : List Float → Float → Bool

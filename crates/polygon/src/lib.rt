@@ -8,8 +8,9 @@
 ghost use mathlib.Core.Path.{_≡_};
 ghost use Prim.Native.Nat.{_+_, _*_, _≤_};
 ghost use lib.ListN.{length};
+ghost use Rattle.floats.specs.Numbers.{usableTo};
 ghost use Rattle.reach.specs.Low.{lowPaper, lowerOf};
-ghost use Rattle.polygon.specs.Polygon.{heightAt, pointAt, besideOf, edgeAt, lowestOf, extentOf, extentPaper, lowsFrom, highFrom, Sweeps, pastOf, binsOf, usableTo, polygonGood};
+ghost use Rattle.polygon.specs.Polygon.{heightAt, pointAt, besideOf, edgeAt, lowestOf, extentOf, extentPaper, lowsFrom, highFrom, Sweeps, pastOf, binsOf, polygonGood};
 use reach::Low;
 use reach::Swept;
 use refusals::POINT_LIMIT;

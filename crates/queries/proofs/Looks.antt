@@ -12,8 +12,9 @@ use borrow.Author.Tests.{ltb-true, ltb-false}
 use Rattle.floats.specs.Pick.{pick, pick-true}
 use Rattle.floats.specs.Numbers.{leastOf, greatestOf}
 use Rattle.stock.specs.Cell.{cellAt}
-use Rattle.rings.proofs.Anywhere.{le-chain}
-use Rattle.rings.proofs.Edges.{of-true, lt-number-l, lt-number-r, le-same, least-under, greatest-over}
+use Rattle.floats.proofs.Anywhere.{le-chain}
+use Rattle.floats.proofs.Bounding.{lt-number-l, lt-number-r, le-same, least-under, greatest-over}
+use Rattle.floats.proofs.Bools.{so}
 use Rattle.queries.specs.declared.Band.{Band}
 use Rattle.queries.specs.Material.{mostOf}
 use Rattle.queries.specs.Envelope.{shownOf, joinOf, together, mostOver}
@@ -27,7 +28,7 @@ unfolding shownOf pick
 shown-is b c e = go (lt (b .bore) (b .outer)) refl e
   where
     go : (t : Bool) → lt (b .bore) (b .outer) ≡ t → pick t (some b) none ≡ some c → T (lt (b .bore) (b .outer)) × (b ≡ c)
-    go true f e = (of-true _ f, (cc))
+    go true f e = (so f, (cc))
     go false f e = let z : _≡_ {A = Option Band} none (some c) = e in absurd-none z
       where
         absurd-none : _≡_ {A = Option Band} none (some c) → T (lt (b .bore) (b .outer)) × (b ≡ c)

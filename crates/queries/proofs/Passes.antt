@@ -15,7 +15,7 @@ use Rattle.stock.specs.Spec.{cleanSpec}
 use Rattle.stock.specs.Bin.{binOf}
 use Rattle.stock.specs.Cell.{cellAt, stockOf}
 use Rattle.rings.specs.declared.Ring.{Ring}
-use Rattle.rings.specs.Store.{extentOf, ringAt, countFits}
+use Rattle.rings.specs.Store.{barRing, ringAt, countFits}
 use Rattle.queries.specs.declared.Band.{Band}
 use Rattle.queries.specs.declared.Volumes.{Volumes}
 use Rattle.queries.specs.Material.{sureOf, mostOf}
@@ -80,7 +80,7 @@ module _ (s : TurnStockSpec) (cs : List Float) where
 
 -- ---- the whole
 pub measured : (spec : TurnStockSpec) (cs xs : List Float) (k n : ℕ) (s : TurnStockSpec) (all left : Volumes) (a b : Float)
-    → stockOf spec cs ≡ answers n → countFits (extentOf (cleanSpec spec)) xs k ≡ true
+    → stockOf spec cs ≡ answers n → countFits (barRing (cleanSpec spec)) xs k ≡ true
     → s ≡ cleanSpec spec → all ≡ sumsOf s cs n → left ≡ lessAll s cs n xs all k → a ≡ greatestOf (left .least) zero64 → b ≡ greatestOf (left .greatest) zero64
     → answers (both a b) ≡ volumeOf spec cs xs k
 unfolding volumeOf remains

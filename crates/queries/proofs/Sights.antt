@@ -22,8 +22,9 @@ use Rattle.stock.specs.Bin.{binOf}
 use Rattle.stock.specs.Cell.{cellAt, cellFits, pairFits, stockOf}
 use Rattle.stock.proofs.Count.{and-both, stocked, checked}
 use Rattle.stock.proofs.EachFits.{stock-fits}
-use Rattle.rings.proofs.Anywhere.{le-number-l, le-number-r}
-use Rattle.rings.proofs.Edges.{of-true, le-same, lt-le-chain, le-lt-chain}
+use Rattle.floats.proofs.Anywhere.{le-number-l, le-number-r}
+use Rattle.floats.proofs.Bounding.{le-same, lt-le-chain, le-lt-chain}
+use Rattle.floats.proofs.Bools.{so}
 use Rattle.queries.specs.declared.Band.{Band}
 use Rattle.queries.specs.Material.{mostOf}
 use Rattle.queries.specs.Envelope.{inRange, binAt, holdsZ, firstAt, lastAt, shownOf, together, mostOver, seenAt, seenOnce}
@@ -166,7 +167,7 @@ pair-fits s b e =
     let p = and-both (A && B && C && D) E e in
     let q = and-both (A && B && C) D (p .0) in
     let r = and-both (A && B) C (q .0) in
-    ((of-true A (and-both A B (r .0) .0), not-false _ (q .1)), (of-true C (r .1), not-false _ (p .1)))
+    ((so (and-both A B (r .0) .0), not-false _ (q .1)), (so (r .1), not-false _ (p .1)))
 
 module _ (spec : TurnStockSpec) (n : ℕ) (cs : List Float) (e : stockOf spec cs ≡ answers n) (z : Float) where
   -- a bin that is looked at is one of the stock, and its cell fits

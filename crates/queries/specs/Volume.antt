@@ -13,7 +13,7 @@ use Rattle.stock.specs.Spec.{cleanSpec}
 use Rattle.stock.specs.Bin.{binOf}
 use Rattle.stock.specs.Cell.{cellAt, stockOf}
 use Rattle.rings.specs.declared.Ring.{Ring}
-use Rattle.rings.specs.Store.{extentOf, ringAt, countFits}
+use Rattle.rings.specs.Store.{barRing, ringAt, countFits}
 use Rattle.queries.specs.declared.Band.{Band}
 use Rattle.queries.specs.declared.Volumes.{Volumes}
 use Rattle.queries.specs.declared.Measured.{Measured}
@@ -77,7 +77,7 @@ volumeIn s cs n xs k = record { least = remains sureOf s cs n xs k; greatest = r
 unfoldable pub volumeOf : TurnStockSpec → List Float → List Float → ℕ → Paper Volumes
 volumeOf spec cs xs k =
     onward (stockOf spec cs) (λ n.
-    demand (countFits (extentOf (cleanSpec spec)) xs k) 4
+    demand (countFits (barRing (cleanSpec spec)) xs k) 4
     (answers (volumeIn (cleanSpec spec) cs n xs k)))
 
 -- what the answer of `volume` says, case by case

@@ -17,6 +17,7 @@ use Rattle.stock.specs.declared.TurnCell.{TurnCell}
 use Rattle.stock.specs.Cell.{cellAt, pairFits, cellFits, sameCell}
 use Rattle.stock.proofs.Bins.{HeldList}
 use Rattle.stock.proofs.Stored.{cell-path}
+use Rattle.stock.proofs.Passes.{HeldCell}
 
 -- two bounds that fit
 pub record PairFit (s : TurnStockSpec) (b : RadiusBounds) : Type 0 where
@@ -50,16 +51,9 @@ fit-test s c f = is-true (pairFits s (c .outer) && pairFits s (c .inner)) (and-i
 
 -- ---- from the test to the facts, of numbers that are values of f64
 
--- a cell's numbers are values of f64
-pub record HeldCell (c : TurnCell) : Type 0 where
-  pub ol : T (fits binary64 (c .outer .«lower_mm»))
-  pub ou : T (fits binary64 (c .outer .«upper_mm»))
-  pub il : T (fits binary64 (c .inner .«lower_mm»))
-  pub iu : T (fits binary64 (c .inner .«upper_mm»))
-
--- so are those of each cell of a list of such values
+-- the numbers of each cell of a list of values of f64 are such values
 pub held-at : (cs : List Float) → HeldList cs → (i : ℕ) → HeldCell (cellAt cs i)
-held-at cs h i = record { ol = h (4 * i); ou = h (4 * i + 1); il = h (4 * i + 2); iu = h (4 * i + 3) }
+held-at cs h i = record { outer-lower = h (4 * i); outer-upper = h (4 * i + 1); inner-lower = h (4 * i + 2); inner-upper = h (4 * i + 3) }
 
 pair-of : (s : TurnStockSpec) (b : RadiusBounds) → T (fits binary64 (b .«lower_mm»)) → T (fits binary64 (b .«upper_mm»)) → T (pairFits s b) → PairFit s b
 pair-of s b hl hu t =
@@ -85,8 +79,8 @@ pub fit-of : (s : TurnStockSpec) (c : TurnCell) → T (fits binary64 (s .«bore_
 unfolding cellFits
 fit-of s c hb ho h e =
     let t : T (pairFits s (c .outer) && pairFits s (c .inner)) = subst T (sym e) tt in
-    let O = pair-of s (c .outer) (h .ol) (h .ou) (and-l (pairFits s (c .outer)) (pairFits s (c .inner)) t) in
-    let I = pair-of s (c .inner) (h .il) (h .iu) (and-r (pairFits s (c .outer)) (pairFits s (c .inner)) t) in
+    let O = pair-of s (c .outer) (h .outer-lower) (h .outer-upper) (and-l (pairFits s (c .outer)) (pairFits s (c .inner)) t) in
+    let I = pair-of s (c .inner) (h .inner-lower) (h .inner-upper) (and-r (pairFits s (c .outer)) (pairFits s (c .inner)) t) in
     record {
       bore = number-l (s .«bore_radius_mm») (c .outer .«lower_mm») hb (O .from-bore);
       bar = number-r (c .outer .«upper_mm») (s .«outer_radius_mm») ho (O .to-outer);

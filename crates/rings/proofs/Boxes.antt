@@ -17,8 +17,9 @@ use Rattle.rings.specs.declared.Ring.{Ring}
 use Rattle.rings.specs.Ring.{apart}
 use Rattle.rings.specs.Store.{ringAt, ringsOf, write, ringFits, apartAll, storeFits}
 use Rattle.rings.specs.Block.{hull, boxWith, boxesWith, InBox, BoxAbout, Boxed}
-use Rattle.rings.proofs.Anywhere.{le-number-l, le-number-r, le-chain}
-use Rattle.rings.proofs.Edges.{of-true, lt-number-l, lt-number-r, le-same, greatest-over, least-under}
+use Rattle.floats.proofs.Anywhere.{le-number-l, le-number-r, le-chain}
+use Rattle.floats.proofs.Bounding.{lt-number-l, lt-number-r, le-same, greatest-over, least-under}
+use Rattle.floats.proofs.Bools.{so}
 use Rattle.rings.proofs.Flat.{same-ring}
 use Rattle.rings.proofs.Prefix.{apartAll-snoc, storeFits-snoc, goes-on}
 use Rattle.rings.proofs.Fitting.{fits-of}
@@ -27,7 +28,7 @@ use Rattle.rings.proofs.Fitting.{fits-of}
 box-apart : (b q k : Ring) → InBox b q → apart b k ≡ true → apart q k ≡ true
 box-apart b q k i e =
     is-true (apart q k)
-    (some (le (b .z1) (k .z0)) (le (k .z1) (b .z0)) (le (b .r1) (k .r0)) (le (k .r1) (b .r0)) (le (q .z1) (k .z0)) (le (k .z1) (q .z0)) (le (q .r1) (k .r0)) (le (k .r1) (q .r0)) (of-true (apart b k) e)
+    (some (le (b .z1) (k .z0)) (le (k .z1) (b .z0)) (le (b .r1) (k .r0)) (le (k .r1) (b .r0)) (le (q .z1) (k .z0)) (le (k .z1) (q .z0)) (le (q .r1) (k .r0)) (le (k .r1) (q .r0)) (so e)
     (λ t. le-chain (q .z1) (b .z1) (k .z0) (i .z-high) t) (λ t. le-chain (k .z1) (b .z0) (q .z0) t (i .z-low)) (λ t. le-chain (q .r1) (b .r1) (k .r0) (i .r-high) t) (λ t. le-chain (k .r1) (b .r0) (q .r0) t (i .r-low)))
   where
     or-3 : (a b c d : Bool) → T c → T (a || b || c || d)
@@ -227,7 +228,7 @@ checked-next e rings i boxes boxes' ok fit far q l c qs f a s w =
     about : (ok && fit && far) ≡ true → Boxed boxes' rings (i + 1)
     about t =
         let p = both ok fit far t in
-        let k = fits-of e (ringAt rings i) (of-true (ringFits e (ringAt rings i)) (ap (ringFits e) (sym qs) ∙ sym f ∙ p .1)) in
+        let k = fits-of e (ringAt rings i) (so (ap (ringFits e) (sym qs) ∙ sym f ∙ p .1)) in
         let n : Numbers (ringAt rings i) =
         record { n0 = lt-number-l (ringAt rings i .z0) (ringAt rings i .z1) (k .z-full); n1 = lt-number-r (ringAt rings i .z0) (ringAt rings i .z1) (k .z-full); n2 = lt-number-l (ringAt rings i .r0) (ringAt rings i .r1) (k .r-full); n3 = lt-number-r (ringAt rings i .r0) (ringAt rings i .r1) (k .r-full) } in
         subst (λ (b : List Float). Boxed b rings (i + 1)) (sym (w ∙ ap (boxesWith boxes i) qs)) (boxed-next boxes rings i (let z = c .size in omega arith) n (c .boxes-about (p .0)))

@@ -6,7 +6,7 @@ use mathlib.Core.Logic.{⊎-elim}
 use mathlib.Core.Bool.{Bool, true, false, not, _&&_, _||_, cond, true≢false, Bool·not-not}
 use mathlib.Core.List.{List, [], _∷_, _++_}
 use lib.Dec.{T, ltb}
-use lib.Ieee.{Float, nan, lt, le, isNan}
+use lib.Ieee.{Float, nan, lt, le, isNan, inf, fin}
 use lib.Ieee.Bits.{is-true}
 use lib.Ieee.Fits.{and-i, and-l, and-r}
 use borrow.Author.Tests.{lt-ltb, ltb-false}
@@ -17,8 +17,16 @@ use Rattle.floats.proofs.Folds.{each-append}
 use Rattle.rings.specs.declared.Ring.{Ring}
 use Rattle.rings.specs.Ring.{within, covers, covered, filled, apart, common, kept, before, behind, inside, outside, around, split, subtract, subtractAll, left}
 use Rattle.rings.specs.Points.{tick, count, Disjoint, Parted}
-use Rattle.rings.proofs.Anywhere.{lt-flips, le-chain}
-use Rattle.rings.proofs.Edges.{of-true, to-false, lt-le, lt-number-l, lt-number-r, not-le, clash, le-lt-chain, number?, within-nan, greatest-number, least-number, greatest-below, least-above, greatest-over, least-under, between}
+use Rattle.floats.proofs.Anywhere.{lt-flips, le-chain}
+use Rattle.floats.proofs.Bounding.{lt-le, lt-number-l, lt-number-r, not-le, clash, le-lt-chain, number?, greatest-number, least-number, greatest-below, least-above, greatest-over, least-under, between}
+use Rattle.floats.proofs.Bools.{so, to-false}
+
+-- no NaN lies between edges
+within-nan : (a b : Float) → within a b nan ≡ false
+unfolding le
+within-nan nan b = refl
+within-nan (inf s) b = refl
+within-nan (fin s m e) b = refl
 
 -- ---- rings that are not empty
 abbrev pub Full : Ring → Type 0
@@ -36,7 +44,7 @@ unfolding kept pick
 each-kept P q f = go (filled q) refl
   where
     go : (t : Bool) → filled q ≡ t → Each P (pick t (q ∷ []) [])
-    go true e = (f (of-true (filled q) e), tt)
+    go true e = (f (so e), tt)
     go false e = tt
 
 -- ---- how many rings cover a point
@@ -269,7 +277,7 @@ count-split p k fp fk z r = go (apart p k) refl
     one false false n = refl
 
     go : (t : Bool) → apart p k ≡ t → count (pick t (p ∷ []) (around p (common p k))) z r ≡ cond (covers k z r) 0 (tick (covers p z r))
-    go true e = one (covers p z r) (covers k z r) (apart-parted p k (of-true (apart p k) e) z r)
+    go true e = one (covers p z r) (covers k z r) (apart-parted p k (so e) z r)
     go false e = count-around p k fp fk e z r
 
 -- ---- a property that a piece hands down to its parts: those that a ring leaves have it, if piece and ring have it

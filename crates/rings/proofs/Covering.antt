@@ -12,7 +12,7 @@ use Rattle.rings.specs.declared.Ring.{Ring}
 use Rattle.rings.specs.Ring.{within, covers, covered, clip, left}
 use Rattle.rings.specs.Store.{finiteRing, storeFits}
 use Rattle.rings.specs.Remove.{added, addedAll}
-use Rattle.rings.proofs.Edges.{greatest-below, least-above, clean-number, le-clean, lt-clean}
+use Rattle.floats.proofs.Bounding.{greatest-below, least-above, clean-number, le-clean, lt-clean}
 use Rattle.rings.proofs.Cover.{Full, added-covers, added-full}
 use Rattle.rings.proofs.Adding.{added-room}
 use Rattle.rings.proofs.Fitting.{store-full, Extent, ring-number}

@@ -22,8 +22,9 @@ use Rattle.rings.specs.Ring.{within, covers, apart, common, kept, before
 use Rattle.rings.specs.Points.{tick, count, Disjoint, Parted, AllParted}
 use Rattle.rings.specs.Store.{ringAt, ringsOf, ringFits, apartAll, storeFits, finiteRing}
 use Rattle.rings.specs.Remove.{added, addedAll}
-use Rattle.rings.proofs.Anywhere.{le-chain}
-use Rattle.rings.proofs.Edges.{of-true, lt-le, lt-number-l, lt-number-r, finite-number, least-above, greatest-over, least-under, clean-number, clean-unsigned}
+use Rattle.floats.proofs.Anywhere.{le-chain}
+use Rattle.floats.proofs.Bounding.{lt-le, lt-number-l, lt-number-r, finite-number, least-above, greatest-over, least-under, clean-number, clean-unsigned}
+use Rattle.floats.proofs.Bools.{so}
 use Rattle.rings.proofs.Flat.{rings-next}
 use Rattle.rings.proofs.Prefix.{apart-turns, storeFits-snoc, apartAll-snoc}
 use Rattle.rings.proofs.Cover.{Full, full-z, full-r, each-kept, apart-parted, meets, each-left-of, added-disjoint}
@@ -168,11 +169,11 @@ disjoint-parted (q ∷ l) d =
 module _ (e : Ring) (l : List Ring) (f : storeFits e l ≡ true) where
   -- no ring is empty
   pub store-full : Each Full l
-  store-full = each-weaker l (fits-full e) (store-each e l (of-true (storeFits e l) f) .0)
+  store-full = each-weaker l (fits-full e) (store-each e l (so f) .0)
 
   -- no two rings share a point
   pub store-parted : AllParted l
-  store-parted = store-each e l (of-true (storeFits e l) f) .1
+  store-parted = store-each e l (so f) .1
 
   -- every point is in one ring at most
   pub store-disjoint : Disjoint l
@@ -183,7 +184,7 @@ pub lent-parted : (e : Ring) (xs : List Float) (n i j : ℕ) → storeFits e (ri
 lent-parted e xs n i j f h k =
     apart-parted (ringAt xs i) (ringAt xs j)
     (among j (i) h (and-r (ringFits e (ringAt xs j)) (apartAll (ringsOf j xs) (ringAt xs j)) (and-r (storeFits e (ringsOf j xs)) (ringFits e (ringAt xs j) && apartAll (ringsOf j xs) (ringAt xs j))
-    (subst T (ap (storeFits e) (rings-next xs j) ∙ storeFits-snoc e (ringsOf j xs) (ringAt xs j)) (fewer n (j + 1) (omega arith) (of-true (storeFits e (ringsOf n xs)) f))))))
+    (subst T (ap (storeFits e) (rings-next xs j) ∙ storeFits-snoc e (ringsOf j xs) (ringAt xs j)) (fewer n (j + 1) (omega arith) (so f))))))
   where
     -- a store that passes does so with fewer rings
     fewer : (n m : ℕ) → m ≤ n → T (storeFits e (ringsOf n xs)) → T (storeFits e (ringsOf m xs))
@@ -221,7 +222,7 @@ parted-apart p k fp fk n = go (apart p k) refl
         (and-i (le a g) (lt g b) (o .0) (and-l (lt g b) (lt g d) u), and-i (le c g) (lt g d) (o .1) (and-r (lt g b) (lt g d) u))
 
     go : (t : Bool) → apart p k ≡ t → T (apart p k)
-    go true e = of-true (apart p k) e
+    go true e = so e
     go false e =
         let m = meets p k fp fk e in
         let z = common p k .z0 in
@@ -253,7 +254,7 @@ pub record Extent (e : Ring) : Type 0 where
   pub u3 : unsigned (e .r1)
 
 four-finite : (q : Ring) → finiteRing q ≡ true → T (finite (q .z0)) × T (finite (q .z1)) × T (finite (q .r0)) × T (finite (q .r1))
-four-finite q f = go (finite (q .z0)) (finite (q .z1)) (finite (q .r0)) (finite (q .r1)) (of-true (finiteRing q) f)
+four-finite q f = go (finite (q .z0)) (finite (q .z1)) (finite (q .r0)) (finite (q .r1)) (so f)
   where
     go : (a b c d : Bool) → T (a && b && c && d) → T a × T b × T c × T d
     go false b c d t = absurd t
@@ -290,7 +291,7 @@ pub added-fits : (e : Ring) (ks : List Ring) (q : Ring) → Extent e → finiteR
 unfolding left
 added-fits e ks q x f s =
     let c = clip e q in
-    let a = store-each e ks (of-true (storeFits e ks) s) in
+    let a = store-each e ks (so s) in
     let b = each-left-of (Fits e) (fits-full e) (fits-parts e) (kept c) ks (each-kept (Fits e) c (clip-fits e q x f)) (a .0) in
     is-true (storeFits e (ks ++ left ks c)) (store-passes e (ks ++ left ks c) (each-append (Fits e) ks (left ks c) (a .0) b) (disjoint-parted (ks ++ left ks c) (added-disjoint ks c (store-full e ks s) (store-disjoint e ks s))))
 

@@ -1,6 +1,3 @@
-pub mod Anywhere
-pub mod Edges
-pub mod FiniteTest
 pub mod Flat
 pub mod Prefix
 pub mod Bad

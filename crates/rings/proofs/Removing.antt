@@ -24,28 +24,28 @@ use Rattle.rings.specs.declared.Removed.the-variants as removed
 use Rattle.rings.specs.declared.StoredAs.{StoredAs}
 use Rattle.rings.specs.declared.StoredAs.the-variants as stored
 use Rattle.rings.specs.Ring.{filled, clip}
-use Rattle.rings.specs.Store.{extentOf, ringAt, ringsOf, roomOf, storeAs, storeFits, countFits, finiteRing}
-use Rattle.rings.specs.Remove.{added, addedAll, storedPaper, StoresAs, removeAllIn, removeRings, RingStore, raised, removeIn, removeRing, removedPaper, countsOf, ringsAfter, Removes}
+use Rattle.rings.specs.Store.{barRing, ringAt, ringsOf, ringRoom, storeAs, storeFits, countFits, finiteRing}
+use Rattle.rings.specs.Remove.{added, addedAll, storedPaper, StoresAs, removeAllIn, removeRings, RingStore, storedNext, removeIn, removeRing, removedPaper, countsOf, ringsAfter, Removes}
 use Rattle.rings.proofs.Flat.{length-rings, stored-same}
 use Rattle.rings.proofs.Adding.{stores-none, stores-refused, stores-rings, stores-as, accepted, refused, added-one}
 
 -- ---- refusal 4's test
-pub count-over : (e : Ring) (xs : List Float) (n room : ℕ) → room ≡ roomOf (length xs) → room < n → false ≡ countFits e xs n
+pub count-over : (e : Ring) (xs : List Float) (n room : ℕ) → room ≡ ringRoom (length xs) → room < n → false ≡ countFits e xs n
 unfolding countFits
-count-over e xs n room r h = sym (ap (λ (b : Bool). b && storeFits e (ringsOf n xs)) (lt-leb n (roomOf (length xs)) (omega arith)))
+count-over e xs n room r h = sym (ap (λ (b : Bool). b && storeFits e (ringsOf n xs)) (lt-leb n (ringRoom (length xs)) (omega arith)))
 
-pub count-within : (e : Ring) (xs : List Float) (n room : ℕ) (t : Bool) → room ≡ roomOf (length xs) → n ≤ room → t ≡ storeFits e (ringsOf n xs) → t ≡ countFits e xs n
+pub count-within : (e : Ring) (xs : List Float) (n room : ℕ) (t : Bool) → room ≡ ringRoom (length xs) → n ≤ room → t ≡ storeFits e (ringsOf n xs) → t ≡ countFits e xs n
 unfolding countFits
-count-within e xs n room t r h f = f ∙ sym (ap (λ (b : Bool). b && storeFits e (ringsOf n xs)) (le-leb n (roomOf (length xs)) (omega arith)))
+count-within e xs n room t r h f = f ∙ sym (ap (λ (b : Bool). b && storeFits e (ringsOf n xs)) (le-leb n (ringRoom (length xs)) (omega arith)))
 
 and-fst : (a b : Bool) → (a && b) ≡ true → a ≡ true
 and-fst true b e = refl
 and-fst false b e = e
 
 -- a store that passes is within the room
-pub fits-within : (e : Ring) (xs : List Float) (n : ℕ) → countFits e xs n ≡ true → n ≤ roomOf (length xs)
+pub fits-within : (e : Ring) (xs : List Float) (n : ℕ) → countFits e xs n ≡ true → n ≤ ringRoom (length xs)
 unfolding countFits
-fits-within e xs n f = leb-true n (roomOf (length xs)) (and-fst (leb n (roomOf (length xs))) (storeFits e (ringsOf n xs)) f)
+fits-within e xs n f = leb-true n (ringRoom (length xs)) (and-fst (leb n (ringRoom (length xs))) (storeFits e (ringsOf n xs)) f)
 
 -- ---- from a rule's answer to the promise
 removes-none : (xs ys : List Float) (p : Paper RingStore) (r : Removed) (x : Reason) → removedPaper r ≡ refuses x → p ≡ refuses x → ys ≡ xs → Removes xs p r ys
@@ -63,7 +63,7 @@ removes-stored xs p l n g ys e f y = record { answer = ap (λ (m : ℕ). answers
 -- ---- one ring
 module _ (e : Ring) (xs : List Float) (n g : ℕ) (q : Ring) where
   clipped : Paper RingStore
-  clipped = pick (filled (clip e q)) (raised (roomOf (length xs)) (ringsOf n xs) g (clip e q)) (answers (record { rings = ringsOf n xs; generation = g }))
+  clipped = pick (filled (clip e q)) (storedNext (ringRoom (length xs)) (ringsOf n xs) g (clip e q)) (answers (record { rings = ringsOf n xs; generation = g }))
 
   pub refuses-4 : countFits e xs n ≡ false → Removes xs (removeIn e xs n g q) (removed.Refused StoredRings) xs
   unfolding removeIn clipped
@@ -87,26 +87,26 @@ module _ (e : Ring) (xs : List Float) (n g : ℕ) (q : Ring) where
       keeps-all k =
           let b = fits-within e xs n f in
           removes-stored xs (removeIn e xs n g q) (ringsOf n xs) n g xs
-          (in-range ∙ pick-false (filled (clip e q)) (raised (roomOf (length xs)) (ringsOf n xs) g (clip e q)) (answers (record { rings = ringsOf n xs; generation = g })) k)
+          (in-range ∙ pick-false (filled (clip e q)) (storedNext (ringRoom (length xs)) (ringsOf n xs) g (clip e q)) (answers (record { rings = ringsOf n xs; generation = g })) k)
           (sym (length-rings n xs)) (sym (stored-same xs n (omega arith)))
 
       module _ (k : filled (clip e q) ≡ true) where
-        not-empty : removeIn e xs n g q ≡ raised (roomOf (length xs)) (ringsOf n xs) g (clip e q)
+        not-empty : removeIn e xs n g q ≡ storedNext (ringRoom (length xs)) (ringsOf n xs) g (clip e q)
         unfolding clipped
-        not-empty = in-range ∙ pick-true (filled (clip e q)) (raised (roomOf (length xs)) (ringsOf n xs) g (clip e q)) (answers (record { rings = ringsOf n xs; generation = g })) k
+        not-empty = in-range ∙ pick-true (filled (clip e q)) (storedNext (ringRoom (length xs)) (ringsOf n xs) g (clip e q)) (answers (record { rings = ringsOf n xs; generation = g })) k
 
         pub refuses-12 : lastGeneration ≤ g → Removes xs (removeIn e xs n g q) (removed.Refused GenerationsSpent) xs
-        unfolding raised
+        unfolding storedNext
         refuses-12 l = removes-refused xs (removeIn e xs n g q) GenerationsSpent (not-empty ∙ demand-false (ltb g lastGeneration) 12 (next) (le-ltb g lastGeneration l))
           where
             next : Paper RingStore
-            next = onward (added (roomOf (length xs)) (ringsOf n xs) (clip e q)) (λ l. answers (record { rings = l; generation = g + 1 }))
+            next = onward (added (ringRoom (length xs)) (ringsOf n xs) (clip e q)) (λ l. answers (record { rings = l; generation = g + 1 }))
 
-        module _ (l : g < lastGeneration) (c : Ring) (v : c ≡ clip e q) (room : ℕ) (w : room ≡ roomOf (length xs)) (r : StoredAs) (ys : List Float) (s : StoresAs xs (added room (ringsOf n xs) c) r ys) where
+        module _ (l : g < lastGeneration) (c : Ring) (v : c ≡ clip e q) (room : ℕ) (w : room ≡ ringRoom (length xs)) (r : StoredAs) (ys : List Float) (s : StoresAs xs (added room (ringsOf n xs) c) r ys) where
           rises : removeIn e xs n g q ≡ onward (added room (ringsOf n xs) c) (λ l. answers (record { rings = l; generation = g + 1 }))
-          unfolding raised
+          unfolding storedNext
           rises =
-              not-empty ∙ demand-true (ltb g lastGeneration) 12 (onward (added (roomOf (length xs)) (ringsOf n xs) (clip e q)) (λ l. answers (record { rings = l; generation = g + 1 }))) (lt-ltb g lastGeneration l)
+              not-empty ∙ demand-true (ltb g lastGeneration) 12 (onward (added (ringRoom (length xs)) (ringsOf n xs) (clip e q)) (λ l. answers (record { rings = l; generation = g + 1 }))) (lt-ltb g lastGeneration l)
               ∙ ap₂ (λ (m : ℕ) (p : Ring). onward (added m (ringsOf n xs) p) (λ l. answers (record { rings = l; generation = g + 1 }))) (sym w) (sym v)
 
           pub refuses-11 : (x : Reason) (a : Removed) → removedPaper a ≡ refuses x → storedPaper r ≡ refuses x → Removes xs (removeIn e xs n g q) a ys
@@ -123,17 +123,17 @@ module _ (e : Ring) (xs : List Float) (n g : ℕ) (q : Ring) where
 
 -- ---- a list of rings
 module _ (e : Ring) (xs : List Float) (n : ℕ) (news : List Float) where
-  pub all-refuses-4 : (room : ℕ) → room ≡ roomOf (length xs) → room < n → StoresAs xs (removeAllIn e xs n news) (stored.Refused StoredRings) xs
+  pub all-refuses-4 : (room : ℕ) → room ≡ ringRoom (length xs) → room < n → StoresAs xs (removeAllIn e xs n news) (stored.Refused StoredRings) xs
   unfolding removeAllIn
   all-refuses-4 room r h =
       stores-refused xs (removeAllIn e xs n news) StoredRings
-      (demand-false (leb n (roomOf (length xs))) 4 (addedAll e (roomOf (length xs)) (ringsOf n xs) (ringsOf (length news / 4) news)) (lt-leb n (roomOf (length xs)) (omega arith)))
+      (demand-false (leb n (ringRoom (length xs))) 4 (addedAll e (ringRoom (length xs)) (ringsOf n xs) (ringsOf (length news / 4) news)) (lt-leb n (ringRoom (length xs)) (omega arith)))
 
-  module _ (room : ℕ) (r : room ≡ roomOf (length xs)) (h : n ≤ room) where
+  module _ (room : ℕ) (r : room ≡ ringRoom (length xs)) (h : n ≤ room) where
     all-in : removeAllIn e xs n news ≡ addedAll e room (ringsOf n xs) (ringsOf (length news / 4) news)
     unfolding removeAllIn
     all-in =
-        demand-true (leb n (roomOf (length xs))) 4 (addedAll e (roomOf (length xs)) (ringsOf n xs) (ringsOf (length news / 4) news)) (le-leb n (roomOf (length xs)) (omega arith))
+        demand-true (leb n (ringRoom (length xs))) 4 (addedAll e (ringRoom (length xs)) (ringsOf n xs) (ringsOf (length news / 4) news)) (le-leb n (ringRoom (length xs)) (omega arith))
         ∙ ap (λ (m : ℕ). addedAll e m (ringsOf n xs) (ringsOf (length news / 4) news)) (sym r)
 
     pub all-none : (k : ℕ) → k ≡ length news / 4 → k ≡ 0 → StoresAs xs (removeAllIn e xs n news) (stored.Rings n) xs
@@ -161,18 +161,18 @@ module _ (spec : TurnStockSpec) (xs : List Float) (n g : ℕ) (q : Ring) where
   pub refuses-spec : (r : Counted) (x : Refusal) → countedPaper r ≡ cellsOf spec → r ≡ counted.Refused x → Removes xs (removeRing spec xs n g q) (removed.Refused x) xs
   unfolding removeRing onward
   refuses-spec r x e h =
-      removes-refused xs (removeRing spec xs n g q) x (ap (λ (p : Paper ℕ). onward p (λ _. removeIn (extentOf (cleanSpec spec)) xs n g q)) (sym e ∙ ap countedPaper h))
+      removes-refused xs (removeRing spec xs n g q) x (ap (λ (p : Paper ℕ). onward p (λ _. removeIn (barRing (cleanSpec spec)) xs n g q)) (sym e ∙ ap countedPaper h))
 
-  pub past-spec : (r : Counted) (m : ℕ) (e : Ring) (a : Removed) (ys : List Float) → countedPaper r ≡ cellsOf spec → r ≡ counted.Cells m → e ≡ extentOf (cleanSpec spec)
+  pub past-spec : (r : Counted) (m : ℕ) (e : Ring) (a : Removed) (ys : List Float) → countedPaper r ≡ cellsOf spec → r ≡ counted.Cells m → e ≡ barRing (cleanSpec spec)
       → Removes xs (removeIn e xs n g q) a ys → Removes xs (removeRing spec xs n g q) a ys
   unfolding removeRing onward
   past-spec r m e a ys f h v s =
       let p : removeIn e xs n g q ≡ removeRing spec xs n g q =
-      ap (λ (b : Ring). removeIn b xs n g q) v ∙ sym (ap (λ (p : Paper ℕ). onward p (λ _. removeIn (extentOf (cleanSpec spec)) xs n g q)) (sym f ∙ ap countedPaper h)) in
+      ap (λ (b : Ring). removeIn b xs n g q) v ∙ sym (ap (λ (p : Paper ℕ). onward p (λ _. removeIn (barRing (cleanSpec spec)) xs n g q)) (sym f ∙ ap countedPaper h)) in
       subst (λ (b : Paper RingStore). Removes xs b a ys) p s
 
 -- a list of rings, in a stock
-pub all-of : (spec : TurnStockSpec) (e : Ring) (xs : List Float) (n : ℕ) (news : List Float) {r : StoredAs} {ys : List Float} → e ≡ extentOf (cleanSpec spec)
+pub all-of : (spec : TurnStockSpec) (e : Ring) (xs : List Float) (n : ℕ) (news : List Float) {r : StoredAs} {ys : List Float} → e ≡ barRing (cleanSpec spec)
     → StoresAs xs (removeAllIn e xs n news) r ys → StoresAs xs (removeRings spec xs n news) r ys
 unfolding removeRings
 all-of spec e xs n news {r} {ys} v s = subst (λ (b : Ring). StoresAs xs (removeAllIn b xs n news) r ys) v s

@@ -18,7 +18,7 @@ use Rattle.rings.specs.declared.Removed.the-variants as removed
 use Rattle.rings.specs.declared.StoredAs.{StoredAs}
 use Rattle.rings.specs.declared.StoredAs.the-variants as stored
 use Rattle.rings.specs.Ring.{filled, kept, inHand, clip, left}
-use Rattle.rings.specs.Store.{extentOf, ringsOf, roomOf, storeAs, countFits, finiteRing}
+use Rattle.rings.specs.Store.{barRing, ringsOf, ringRoom, storeAs, countFits, finiteRing}
 
 -- ---- a clipped ring and the store
 
@@ -59,11 +59,11 @@ pub record StoresAs (xs : List Float) (p : Paper (List Ring)) (r : StoredAs) (ys
 
 -- all of the lent rings within the extent e; 4 where the count is over the room, 11
 unfoldable pub removeAllIn : Ring → List Float → ℕ → List Float → Paper (List Ring)
-removeAllIn e xs n removed = demand (leb n (roomOf (length xs))) 4 (addedAll e (roomOf (length xs)) (ringsOf n xs) (ringsOf (length removed / 4) removed))
+removeAllIn e xs n removed = demand (leb n (ringRoom (length xs))) 4 (addedAll e (ringRoom (length xs)) (ringsOf n xs) (ringsOf (length removed / 4) removed))
 
 -- the same of a stock whose spec is checked already
 unfoldable pub removeRings : TurnStockSpec → List Float → ℕ → List Float → Paper (List Ring)
-removeRings spec xs n removed = removeAllIn (extentOf (cleanSpec spec)) xs n removed
+removeRings spec xs n removed = removeAllIn (barRing (cleanSpec spec)) xs n removed
 
 -- ---- one ring
 
@@ -73,19 +73,19 @@ pub record RingStore : Type 0 where
   pub generation : ℕ
 
 -- what an accepted ring that is not empty makes of the store and the generation; 12, 11
-unfoldable pub raised : ℕ → List Ring → ℕ → Ring → Paper RingStore
-raised room ks g c = demand (ltb g lastGeneration) 12 (onward (added room ks c) (λ l. answers (record { rings = l; generation = g + 1 })))
+unfoldable pub storedNext : ℕ → List Ring → ℕ → Ring → Paper RingStore
+storedNext room ks g c = demand (ltb g lastGeneration) 12 (onward (added room ks c) (λ l. answers (record { rings = l; generation = g + 1 })))
 
 -- one ring within the extent e; 4, 10 at the place 0, and if it is not empty after clipping 12, 11
 unfoldable pub removeIn : Ring → List Float → ℕ → ℕ → Ring → Paper RingStore
 removeIn e xs n g q =
     demand (countFits e xs n) 4
     (demandAt (finiteRing q) 10 0
-    (pick (filled (clip e q)) (raised (roomOf (length xs)) (ringsOf n xs) g (clip e q)) (answers (record { rings = ringsOf n xs; generation = g }))))
+    (pick (filled (clip e q)) (storedNext (ringRoom (length xs)) (ringsOf n xs) g (clip e q)) (answers (record { rings = ringsOf n xs; generation = g }))))
 
 -- one ring of a stock; 1, 2, then as within its extent
 unfoldable pub removeRing : TurnStockSpec → List Float → ℕ → ℕ → Ring → Paper RingStore
-removeRing spec xs n g q = onward (cellsOf spec) (λ _. removeIn (extentOf (cleanSpec spec)) xs n g q)
+removeRing spec xs n g q = onward (cellsOf spec) (λ _. removeIn (barRing (cleanSpec spec)) xs n g q)
 
 -- the count of rings and the generation
 pub record RingCount : Type 0 where

@@ -30,12 +30,12 @@ ringsOf zero xs = []
 ringsOf (suc n) xs = ringsOf n xs ++ (ringAt xs n ∷ [])
 
 -- z_min..z_max and 0..outer, as a ring
-abbrev pub extentOf : TurnStockSpec → Ring
-extentOf s = ring (s .«z_min_mm») (s .«z_max_mm») zero64 (s .«outer_radius_mm»)
+abbrev pub barRing : TurnStockSpec → Ring
+barRing s = ring (s .«z_min_mm») (s .«z_max_mm») zero64 (s .«outer_radius_mm»)
 
 -- how many rings so many lent numbers have room for
-abbrev pub roomOf : ℕ → ℕ
-roomOf len = min (len / 4) ringLimit
+abbrev pub ringRoom : ℕ → ℕ
+ringRoom len = min (len / 4) ringLimit
 
 -- ---- writing
 
@@ -72,7 +72,7 @@ storeFits e (q ∷ qs) = ringFits e q && apartAll qs q && storeFits e qs
 
 -- the test of refusal 4: no more than the room, and the rest
 unfoldable pub countFits : Ring → List Float → ℕ → Bool
-countFits e xs n = leb n (roomOf (length xs)) && storeFits e (ringsOf n xs)
+countFits e xs n = leb n (ringRoom (length xs)) && storeFits e (ringsOf n xs)
 
 -- ---- rings that a move or parts bring
 

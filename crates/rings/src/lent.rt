@@ -3,7 +3,7 @@ ghost use mathlib.Core.Path.{_≡_};
 ghost use mathlib.Core.List.{_++_};
 ghost use Prim.Native.Nat.{_+_, _*_, _≤_};
 ghost use lib.ListN.{length};
-ghost use Rattle.rings.specs.Store.{ringAt, ringsOf, roomOf, storeAs, write, apartAll};
+ghost use Rattle.rings.specs.Store.{ringAt, ringsOf, ringRoom, storeAs, write, apartAll};
 use crate::Ring;
 use crate::shape;
 use refusals::RING_LIMIT;
@@ -68,7 +68,7 @@ pub fn apart_from(rings: &[f64], n: usize, k: Ring) -> bool
 
 // How many rings so many lent numbers have room for.
 pub fn room_of(len: usize) -> usize
-    ensures { λ r. ⌜ r ≡ roomOf len ⌝ }
+    ensures { λ r. ⌜ r ≡ ringRoom len ⌝ }
 {
     if len / 4 < RING_LIMIT {
         return len / 4;

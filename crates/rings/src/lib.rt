@@ -11,7 +11,7 @@ ghost use lib.ListN.{length};
 ghost use Rattle.refusals.specs.Paper.{placeOr};
 ghost use Rattle.floats.specs.Pick.{pick};
 ghost use Rattle.stock.specs.Spec.{cleanSpec};
-ghost use Rattle.rings.specs.Store.{extentOf, ringsOf, countFits, badFrom, badRing, judgedPlace, allGood, raisedBy};
+ghost use Rattle.rings.specs.Store.{barRing, ringsOf, countFits, badFrom, badRing, judgedPlace, allGood, raisedBy};
 ghost use Rattle.rings.specs.Remove.{StoresAs, removeAllIn, removeRings, removeIn, removeRing, Removes};
 use refusals::LAST_GENERATION;
 use refusals::Refusal;
@@ -56,7 +56,7 @@ pub enum Judged {
 
 // z_min..z_max and 0..outer, -0.0 read as +0.0.
 fn extent(spec: TurnStockSpec) -> Ring
-    ensures { λ r. ⌜ r ≡ extentOf (cleanSpec spec) ⌝ }
+    ensures { λ r. ⌜ r ≡ barRing (cleanSpec spec) ⌝ }
 {
     let s = stock::clean_spec(spec);
     Ring {
@@ -69,7 +69,7 @@ fn extent(spec: TurnStockSpec) -> Ring
 
 // What refusal 4 asks of the stored rings, in a stock whose spec is checked already.
 pub fn rings_fit(spec: TurnStockSpec, rings: &[f64], count: usize) -> bool
-    ensures { λ r. ⌜ r ≡ countFits (extentOf (cleanSpec spec)) (now (rings .entry)) count ⌝ }
+    ensures { λ r. ⌜ r ≡ countFits (barRing (cleanSpec spec)) (now (rings .entry)) count ⌝ }
 {
     fit::count_fits(extent(spec), rings, count)
 }
@@ -223,7 +223,7 @@ fn one_if(t: bool) -> usize
 
 // How many of the rings are not empty after clipping, in a stock whose spec is checked already.
 pub fn raised_by(spec: TurnStockSpec, removed: &[f64]) -> usize
-    ensures { λ r. ⌜ r ≡ raisedBy (extentOf (cleanSpec spec)) (ringsOf (length (now (removed .entry)) / 4) (now (removed .entry))) ⌝ }
+    ensures { λ r. ⌜ r ≡ raisedBy (barRing (cleanSpec spec)) (ringsOf (length (now (removed .entry)) / 4) (now (removed .entry))) ⌝ }
 {
     let e = extent(spec);
     let k = removed.len() / 4;

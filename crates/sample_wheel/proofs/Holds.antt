@@ -6,7 +6,7 @@ use Rattle.refusals.specs.Paper.{demand, demandAt, demandNone, placed, onward}
 use Rattle.refusals.specs.Lent.{over}
 use Rattle.floats.specs.Each.{Each}
 use Rattle.floats.specs.Pick.{pick}
-use Rattle.floats.specs.Numbers.{leastOf, greatestOf, sizeOf, minusZero, cleanOf}
+use Rattle.floats.specs.Numbers.{leastOf, greatestOf, sizeOf, minusZero, cleanOf, usableTo, allTo}
 use Rattle.numbers.specs.Root.{rootBelow, wholeRoot, rootIn, rootOf}
 use Rattle.numbers.specs.Length.{tinyParts, plainLength, scaledBack, lengthOf}
 use Rattle.numbers.specs.Whole.{wholeUp}
@@ -18,11 +18,11 @@ use Rattle.reach.specs.Reach.{deeper, shallower, deepOf, sureOf, limitOf, withP
 use Rattle.nose.specs.Capsule.{endAt, facing, normalOf, shifted, lineAt, sideAt, capsuleMinR, leastPoint, capsuleLowest}
 use Rattle.nose.specs.Nose.{cleanAt, segmentAt, segmentGood, goodTo, segmentsGood, inBin, lowWith, highWith, withSegment, noseTo, noseReach, noseAct}
 use Rattle.polygon.specs.Polygon as Polygon
-use Rattle.polygon.specs.Polygon.{usableTo, polygonGood, heightAt, pointAt, alongOf, edgeAt, lowestTo, lowestOf, widened, extentTo, extentOf, spans, pastOf, binsFrom, binsOf, lowsTo, lowsFrom, highFrom, lowIn, highIn, sweptReach, reachOver, polygonReach, polygonAct}
+use Rattle.polygon.specs.Polygon.{polygonGood, heightAt, pointAt, alongOf, edgeAt, lowestTo, lowestOf, widened, extentTo, extentOf, spans, pastOf, binsFrom, binsOf, lowsTo, lowsFrom, highFrom, lowIn, highIn, sweptReach, reachOver, polygonReach, polygonAct}
 use Rattle.changes.specs.Change.{changeAt, changesTo}
 use Rattle.rings.specs.Ring.{kept, around, split, subtract, subtractAll, inHand, clip, left}
 use Rattle.rings.specs.Store.{ringsOf, flatOf, storeAs, ringFits, apartAll, storeFits, countFits}
-use Rattle.rings.specs.Remove.{roomFor, added, raised, removeIn, removeRing}
+use Rattle.rings.specs.Remove.{roomFor, added, storedNext, removeIn, removeRing}
 use Rattle.queries.specs.Envelope.{firstAt, lastAt, shownOf, together, mostOver, seenAt, envelopeAt}
 use Rattle.cuts.specs.Cut.{misses, drillAt, threadReach, drillReach, cutReach, cutGood, cleanCut}
 use Rattle.cuts.specs.Preview.{previewOf, previewCut}
@@ -48,7 +48,7 @@ noses = (refl, (refl, (refl, tt)))
 
 -- a thread, a drill, a polygon
 others : Each Holds (P6 ∷ P7 ∷ P8 ∷ [])
-unfolding demand demandNone placed onward pick leastOf greatestOf sizeOf minusZero cleanOf wholeUp cleanSpec specGood cellsOf binOf putCell cellFits fitTo cellsFit stockOf cellsLike deeper shallower deepOf sureOf limitOf withPair ownOf cutBy cutCell changeAt changesTo appliesTo passes eachFrom fallAfter firstFall passAll commitIn commitOf turned turnedAll newBar afterCuts answerOf previewOf previewTool previewCut misses drillAt threadReach drillReach cutReach cutGood cleanCut usableTo polygonGood heightAt pointAt alongOf edgeAt lowestTo lowestOf widened extentTo extentOf spans pastOf binsFrom binsOf lowsTo lowsFrom Polygon.raised highFrom lowIn highIn sweptReach reachOver polygonReach polygonAct lowerOf upperOf flipped storedOf reachFrom Ieee.ofBits Ieee.ofFields Ieee.odd Ieee.eq Ieee.ne Ieee.lt Ieee.le Ieee.div Ieee.sub Ieee.add Ieee.mul Ieee.neg Ieee.sum Ieee.round Ieee.units Ieee.ofInt Ieee.size Ieee.span Ieee.climb Ieee.toUnsigned
+unfolding demand demandNone placed onward pick leastOf greatestOf sizeOf minusZero cleanOf wholeUp cleanSpec specGood cellsOf binOf putCell cellFits fitTo cellsFit stockOf cellsLike deeper shallower deepOf sureOf limitOf withPair ownOf cutBy cutCell changeAt changesTo appliesTo passes eachFrom fallAfter firstFall passAll commitIn commitOf turned turnedAll newBar afterCuts answerOf previewOf previewTool previewCut misses drillAt threadReach drillReach cutReach cutGood cleanCut usableTo allTo polygonGood heightAt pointAt alongOf edgeAt lowestTo lowestOf widened extentTo extentOf spans pastOf binsFrom binsOf lowsTo lowsFrom Polygon.raised highFrom lowIn highIn sweptReach reachOver polygonReach polygonAct lowerOf upperOf flipped storedOf reachFrom Ieee.ofBits Ieee.ofFields Ieee.odd Ieee.eq Ieee.ne Ieee.lt Ieee.le Ieee.div Ieee.sub Ieee.add Ieee.mul Ieee.neg Ieee.sum Ieee.round Ieee.units Ieee.ofInt Ieee.size Ieee.span Ieee.climb Ieee.toUnsigned
 others = (refl, (refl, (refl, tt)))
 
 -- cuts in two orders
@@ -58,7 +58,7 @@ orders = (refl, (refl, (refl, (refl, tt))))
 
 -- rings
 rings : Each Holds (P11 ∷ P12 ∷ P12b ∷ [])
-unfolding demand demandAt onward pick leastOf greatestOf sizeOf minusZero cleanOf over kept around split subtract subtractAll inHand clip left ringsOf flatOf storeAs ringFits apartAll storeFits countFits roomFor added raised removeIn removeRing takeRing afterRings answerOf cleanSpec specGood cellsOf wholeUp Ieee.ofBits Ieee.ofFields Ieee.odd Ieee.eq Ieee.ne Ieee.lt Ieee.le Ieee.div Ieee.sub Ieee.add Ieee.mul Ieee.neg Ieee.sum Ieee.round Ieee.units Ieee.ofInt Ieee.size Ieee.span Ieee.climb Ieee.toUnsigned
+unfolding demand demandAt onward pick leastOf greatestOf sizeOf minusZero cleanOf over kept around split subtract subtractAll inHand clip left ringsOf flatOf storeAs ringFits apartAll storeFits countFits roomFor added storedNext removeIn removeRing takeRing afterRings answerOf cleanSpec specGood cellsOf wholeUp Ieee.ofBits Ieee.ofFields Ieee.odd Ieee.eq Ieee.ne Ieee.lt Ieee.le Ieee.div Ieee.sub Ieee.add Ieee.mul Ieee.neg Ieee.sum Ieee.round Ieee.units Ieee.ofInt Ieee.size Ieee.span Ieee.climb Ieee.toUnsigned
 rings = (refl, (refl, (refl, tt)))
 
 -- what stands at a height

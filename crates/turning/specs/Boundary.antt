@@ -135,8 +135,8 @@ pub record GivesRings (p : Paper RingStore) (r : ℕ) (xs xs' : List Float) (k k
 -- the cells, the rings, their count and the generation, and the place of a refusal
 pub record GivesMove (p : Paper Left) (r : ℕ) (cs cs' xs xs' : List Float) (k k' g g' q q' : ℕ) : Type 0 where
   pub code : r ≡ codeOf p
-  pub cells : cs' ≡ Move.cellsAfter p cs
-  pub rings : xs' ≡ Move.ringsAfter p xs
+  pub cells : cs' ≡ Move.movedCells p cs
+  pub rings : xs' ≡ Move.movedRings p xs
   pub count : k' ≡ outOf (λ (a : Left). length (a .rings)) p k
   pub generation : g' ≡ outOf (λ (a : Left). a .generation) p g
   pub position : q' ≡ placeOut p q

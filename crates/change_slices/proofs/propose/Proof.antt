@@ -58,7 +58,7 @@ use Rattle.changes.proofs.Previewed.Laws as R′
 use Rattle.cuts.specs.declared.Tool.{Tool}
 use Rattle.cuts.specs.Tool.{previewTool}
 use Rattle.change_slices.specs.Read.{Reads}
-use Rattle.change_slices.specs.Proposal.{Written, countIn, narrowed, Lists}
+use Rattle.change_slices.specs.Proposal.{Written, countIn, narrowed, ListsRecords}
 use Rattle.change_slices.proofs.Rooms.{lists-enough-for, records-hold}
 use Rattle.change_slices.proofs.Arrays.{Row, Parts, big-lit, blank-typed, blank, lends-mut, mut-back, lends-shr, shr-back, room-again}
 use Rattle.cuts.proofs.Tool as P
@@ -217,11 +217,11 @@ module _ {M : Type 1} (𝓤 : URA M) (H : Heap 𝓤) (A : Atoms 𝓤) (W : Given
       fjoin ! $ nothing ! $ move ! (5 ∷ 0 ∷ []) $ join ! $ move ! (4 ∷ 0 ∷ []) $ join ! $ move ! (3 ∷ 0 ∷ []) $ join ! $ move ! (2 ∷ 0 ∷ []) $ join ! $ join ! $ frame ! $ done !
 
   abbrev Listed : List ℕ → List Float → Previewed → List ℕ → List Float → Type 0
-  Listed is xs r is′ xs′ = Lists n (narrowed n (Rule (roomOf (length is) (length xs)))) r is′ xs′
+  Listed is xs r is′ xs′ = ListsRecords n (narrowed n (Rule (roomOf (length is) (length xs)))) r is′ xs′
 
   -- the flat lists hold the changes of a proposal that comes to the one with the room that is lent
   abbrev Holding : List ℕ → List Float → Previewed → Type 0
-  Holding is xs r = (q : Paper (List TurnChange)) × (Rule n ≡ q) × Lists n q r is xs
+  Holding is xs r = (q : Paper (List TurnChange)) × (Rule n ≡ q) × ListsRecords n q r is xs
 
   held : (is : List ℕ) (xs : List Float) (r : Previewed) (is′ : List ℕ) (xs′ : List Float) → length is ≡ 4096 → length xs ≡ 32768 → Listed is xs r is′ xs′ → Holding is′ xs′ r
   held is xs r is′ xs′ long wide e = (narrowed n (Rule (roomOf (length is) (length xs))), lists-enough-for spec (now p) tool (now v) (length is) (length xs) long wide n, e)

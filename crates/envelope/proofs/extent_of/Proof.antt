@@ -5,7 +5,7 @@ use denote.Ref.{now}
 use mir.Facts.{toZ-ofZ}
 use Rattle.floats.specs.Pick.{pick-true, pick-false}
 use Rattle.envelope.specs.Envelope.{count, wider, radiiIn}
-use Rattle.envelope.specs.Halving.{halvedSpan, extentOf, halvedRadii}
+use Rattle.envelope.specs.Halving.{halvedSpan, extentRadii, halvedRadii}
 use Rattle.envelope.proofs.Kept.{wider-fits}
 use Rattle.envelope.proofs.extent_of.Statement.{statement}
 use Rattle.envelope.proofs.extent_of.Tie as tie
@@ -30,7 +30,7 @@ returns c =
     c .extent-in .ensures ∙ ap (λ w. radiiIn (now (a .points)) w (a .lo) (a .hi)) (c .before .wider .ensures ∙ ap (λ w. wider w (count (now (a .points)))) (c .before .before .span-of .ensures ∙ ap (λ z. halvedSpan (now (a .points)) z (a .lo) (a .hi)) (toZ-ofZ (s .fits .order)))) ∙ sym (pick-true _ _ _ (c .before .before .before .if1 .taken))
 
 returns-2 : tie.Need-returns-2
-unfolding halvedRadii extentOf
+unfolding halvedRadii extentRadii
 returns-2 c = sym (pick-false _ _ _ (c .if1 .left))
 
 pub extent-of-spec : {M : Type 1} → statement M

@@ -4,7 +4,7 @@ use mathlib.Core.Path.{ap, _∙_}
 use denote.Ref.{now}
 use mir.Facts.{toZ-ofZ}
 use Rattle.envelope.specs.Halving.{halvedAt}
-use Rattle.envelope.proofs.Chain.{so}
+use Rattle.floats.proofs.Bools.{so}
 use Rattle.envelope.proofs.Rules.{at-ruled}
 use Rattle.envelope.proofs.highest.Statement.{statement}
 use Rattle.envelope.proofs.highest.Tie as tie

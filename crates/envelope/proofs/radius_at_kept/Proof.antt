@@ -7,7 +7,7 @@ use mir.Facts.{toZ-ofZ}
 use Rattle.envelope.specs.Halving.{radiusOf, halvedAt, keptAt}
 use Rattle.envelope.proofs.Steps.{reads}
 use Rattle.envelope.proofs.Kept.{rule-outside, rule-refused, rule-answered}
-use Rattle.envelope.proofs.Chain.{so}
+use Rattle.floats.proofs.Bools.{so}
 use Rattle.envelope.proofs.Rules.{at-kept}
 use Rattle.envelope.proofs.radius_at_kept.Statement.{statement}
 use Rattle.envelope.proofs.radius_at_kept.Tie as tie

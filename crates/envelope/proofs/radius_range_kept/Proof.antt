@@ -5,10 +5,10 @@ use mathlib.Core.Bool.{_&&_}
 use borrow.Author.Tests.{not-true, not-false}
 use denote.Ref.{now}
 use mir.Facts.{toZ-ofZ}
-use Rattle.envelope.specs.Halving.{extentOf, halvedRadii, keptRange}
+use Rattle.envelope.specs.Halving.{extentRadii, halvedRadii, keptRange}
 use Rattle.envelope.proofs.Steps.{reads}
 use Rattle.envelope.proofs.Kept.{rule-outside, rule-refused, rule-answered}
-use Rattle.envelope.proofs.Chain.{so}
+use Rattle.floats.proofs.Bools.{so}
 use Rattle.envelope.proofs.Rules.{range-kept}
 use Rattle.envelope.proofs.radius_range_kept.Statement.{statement}
 use Rattle.envelope.proofs.radius_range_kept.Tie as tie
@@ -49,18 +49,18 @@ enum-told : tie.Need-enum-told
 enum-told c = search needs
 
 returns-3 : tie.Need-returns-3
-unfolding keptRange extentOf
+unfolding keptRange extentRadii
 returns-3 c =
     let s = c .before .before .before .before .before .before .before .before .before .before .before in
     range-kept (now (s .args .points)) (c .before .before .before .before .before .before .before .before .before .before .shared-slice-known .given) (s .args .order) (s .args .lo) (s .args .hi) (so (s .good .1 .1 .0 .1)) (so (s .good .1 .1 .1 .0 .1)) _
-    (rule-answered _ _ _ (λ e. c .before .before .before .before .before .before .before .before .before .if1 .left (rw e)) (ap₂ (λ a b. a && b) (sym (c .before .before .before .before .before .before .before .before .is-usable .ensures)) (sym (c .before .before .before .before .before .before .before .is-usable2 .ensures)) ∙ not-false _ (c .before .before .before .before .before .before .if2 .left)) (ap extentOf (sym (c .before .found .given .1)) ∙ c .before .before .before .extent-of .ensures ∙ ap (λ z. halvedRadii (now (s .args .points)) z (c .before .before .before .before .before .clean .result) (c .before .before .before .before .clean2 .result)) (toZ-ofZ (s .fits .order)) ∙ ap₂ (halvedRadii (now (s .args .points)) (s .args .order)) (c .before .before .before .before .before .clean .ensures) (c .before .before .before .before .clean2 .ensures)))
+    (rule-answered _ _ _ (λ e. c .before .before .before .before .before .before .before .before .before .if1 .left (rw e)) (ap₂ (λ a b. a && b) (sym (c .before .before .before .before .before .before .before .before .is-usable .ensures)) (sym (c .before .before .before .before .before .before .before .is-usable2 .ensures)) ∙ not-false _ (c .before .before .before .before .before .before .if2 .left)) (ap extentRadii (sym (c .before .found .given .1)) ∙ c .before .before .before .extent-of .ensures ∙ ap (λ z. halvedRadii (now (s .args .points)) z (c .before .before .before .before .before .clean .result) (c .before .before .before .before .clean2 .result)) (toZ-ofZ (s .fits .order)) ∙ ap₂ (halvedRadii (now (s .args .points)) (s .args .order)) (c .before .before .before .before .before .clean .ensures) (c .before .before .before .before .clean2 .ensures)))
 
 returns-4 : tie.Need-returns-4
-unfolding keptRange extentOf
+unfolding keptRange extentRadii
 returns-4 c =
     let s = c .before .before .before .before .before .before .before .before .before .before in
     range-kept (now (s .args .points)) (c .before .before .before .before .before .before .before .before .before .shared-slice-known .given) (s .args .order) (s .args .lo) (s .args .hi) (so (s .good .1 .1 .0 .1)) (so (s .good .1 .1 .1 .0 .1)) _
-    (rule-answered _ _ _ (λ e. c .before .before .before .before .before .before .before .before .if1 .left (rw e)) (ap₂ (λ a b. a && b) (sym (c .before .before .before .before .before .before .before .is-usable .ensures)) (sym (c .before .before .before .before .before .before .is-usable2 .ensures)) ∙ not-false _ (c .before .before .before .before .before .if2 .left)) (ap extentOf (sym (c .enum-told .given .1)) ∙ c .before .before .extent-of .ensures ∙ ap (λ z. halvedRadii (now (s .args .points)) z (c .before .before .before .before .clean .result) (c .before .before .before .clean2 .result)) (toZ-ofZ (s .fits .order)) ∙ ap₂ (halvedRadii (now (s .args .points)) (s .args .order)) (c .before .before .before .before .clean .ensures) (c .before .before .before .clean2 .ensures)))
+    (rule-answered _ _ _ (λ e. c .before .before .before .before .before .before .before .before .if1 .left (rw e)) (ap₂ (λ a b. a && b) (sym (c .before .before .before .before .before .before .before .is-usable .ensures)) (sym (c .before .before .before .before .before .before .is-usable2 .ensures)) ∙ not-false _ (c .before .before .before .before .before .if2 .left)) (ap extentRadii (sym (c .enum-told .given .1)) ∙ c .before .before .extent-of .ensures ∙ ap (λ z. halvedRadii (now (s .args .points)) z (c .before .before .before .before .clean .result) (c .before .before .before .clean2 .result)) (toZ-ofZ (s .fits .order)) ∙ ap₂ (halvedRadii (now (s .args .points)) (s .args .order)) (c .before .before .before .before .clean .ensures) (c .before .before .before .clean2 .ensures)))
 
 pub radius-range-kept-spec : {M : Type 1} → statement M
 radius-range-kept-spec =

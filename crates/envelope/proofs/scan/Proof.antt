@@ -5,7 +5,8 @@ use mathlib.Core.Path.{_≡_, refl, ap, _∙_}
 use denote.Ref.{now}
 use lib.ListN.{length}
 use native.Mathlib.Omega.{arith}
-use Rattle.envelope.specs.Envelope.{allTo, usableTo, risesTo, fallsTo}
+use Rattle.floats.specs.Numbers.{usableTo, allTo}
+use Rattle.envelope.specs.Envelope.{risesTo, fallsTo}
 use Rattle.envelope.proofs.Steps.{usable-more, rises-next, falls-next}
 use Rattle.envelope.proofs.Kept.{scan-made, scan-none}
 use Rattle.envelope.proofs.scan.Statement.{statement}

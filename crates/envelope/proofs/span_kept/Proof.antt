@@ -10,7 +10,7 @@ use Rattle.envelope.specs.Envelope.{count}
 use Rattle.envelope.specs.Halving.{halvedPart, keptWithin}
 use Rattle.envelope.proofs.Steps.{reads}
 use Rattle.envelope.proofs.Kept.{Lies, rule-outside, rule-refused, rule-answered, part-lies, by-many}
-use Rattle.envelope.proofs.Chain.{so}
+use Rattle.floats.proofs.Bools.{so}
 use Rattle.envelope.proofs.Rules.{within-kept}
 use Rattle.envelope.proofs.span_kept.Statement.{statement}
 use Rattle.envelope.proofs.span_kept.Tie as tie

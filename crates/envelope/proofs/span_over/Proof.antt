@@ -4,7 +4,7 @@ use mathlib.Core.Path.{ap, _∙_}
 use denote.Ref.{now}
 use mir.Facts.{toZ-ofZ}
 use Rattle.envelope.specs.Halving.{halvedSpan}
-use Rattle.envelope.proofs.Chain.{so}
+use Rattle.floats.proofs.Bools.{so}
 use Rattle.envelope.proofs.Rules.{span-ruled}
 use Rattle.envelope.proofs.span_over.Statement.{statement}
 use Rattle.envelope.proofs.span_over.Tie as tie

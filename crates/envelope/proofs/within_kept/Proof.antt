@@ -8,7 +8,7 @@ use native.Mathlib.Omega.{arith}
 use Rattle.envelope.specs.Envelope.{count, spannedPaper}
 use Rattle.envelope.specs.Halving.{keptWithin}
 use Rattle.envelope.proofs.Kept.{within-fits, within-numbers, within-none}
-use Rattle.envelope.proofs.Chain.{so}
+use Rattle.floats.proofs.Bools.{so}
 use Rattle.envelope.proofs.Rules.{numbers-kept}
 use Rattle.envelope.proofs.within_kept.Statement.{statement}
 use Rattle.envelope.proofs.within_kept.Tie as tie

@@ -5,7 +5,7 @@ use native.Mathlib.Omega.{arith}
 use lib.ListN.{length}
 use denote.Ref.{now}
 use borrow.Author.Needs.{needs}
-use Rattle.polygon.specs.Polygon.{usableTo}
+use Rattle.floats.specs.Numbers.{usableTo, allTo}
 use Rattle.polygon.proofs.Turns.{usable-more}
 use Rattle.polygon.proofs.all_usable.Statement.{statement}
 use Rattle.polygon.proofs.all_usable.Tie as tie
@@ -17,7 +17,7 @@ abbrev μ-loop : tie.MeasureT-loop
 μ-loop points ok₀ i₀ ok i = length points - i
 
 loop-holds : tie.Need-loop-holds Inv-loop μ-loop
-unfolding usableTo
+unfolding usableTo allTo
 loop-holds c = (search needs, refl)
 
 loop-again : tie.Need-loop-again Inv-loop μ-loop

@@ -4,7 +4,7 @@ use borrow.Author.Needs.{needs}
 use lib.Ieee.{Float}
 use Rattle.floats.specs.Numbers.{cleanOf}
 use Rattle.nose.specs.Nose.{segmentCount}
-use Rattle.cuts.specs.Rows.{rowAt, Filled}
+use Rattle.cuts.specs.Rows.{rowAt, RowFilled}
 use Rattle.cuts.proofs.Sweeps.{says-nose}
 use Rattle.cuts.proofs.Tools.{says-nose-sweep, says-polygon-sweep}
 use Rattle.cuts.proofs.each_cut.fill.Statement.{statement}
@@ -19,7 +19,7 @@ returns c =
     let l = f .fill .last .1 .1 .1 .1 .1 in
     let side = told .0 .0 in
     let rn = told .0 .1 .0 in
-    let w : Filled (a .s) (a .n) side (cleanOf rn) (a .beside .now) (segmentCount (a .beside .now)) (rowAt (l .0) (l .1 .0)) = subst (λ (x : Float). Filled (a .s) (a .n) side x (a .beside .now) (segmentCount (a .beside .now)) (rowAt (l .0) (l .1 .0))) (k .clean .ensures) (f .fill .ensures .0) in
+    let w : RowFilled (a .s) (a .n) side (cleanOf rn) (a .beside .now) (segmentCount (a .beside .now)) (rowAt (l .0) (l .1 .0)) = subst (λ (x : Float). RowFilled (a .s) (a .n) side x (a .beside .now) (segmentCount (a .beside .now)) (rowAt (l .0) (l .1 .0))) (k .clean .ensures) (f .fill .ensures .0) in
     says-nose-sweep _ _ _ _ _ _ _ (told .1) (says-nose (a .s) (a .n) side rn (a .beside .now) (rowAt (l .0) (l .1 .0)) (f .fill .result) w (f .fill .ensures .1) (f .fill .ensures .2))
 
 returns-2 : tie.Need-returns-2

@@ -6,14 +6,14 @@ use borrow.Author.Needs.{needs}
 use Rattle.nose.specs.declared.Segment.{Segment}
 use Rattle.nose.specs.Nose.{segmentCount}
 use Rattle.nose.specs.Track.{trackOf}
-use Rattle.cuts.specs.Rows.{rowAt, Filled, Idle}
+use Rattle.cuts.specs.Rows.{rowAt, RowFilled, Idle}
 use Rattle.cuts.proofs.Sweeps.{Even, filled-none, filled-more, idle-none, idle-all}
 use Rattle.cuts.proofs.nose_rows.fill.Statement.{statement}
 use Rattle.cuts.proofs.nose_rows.fill.Tie as tie
 
 abbrev Inv-loop : tie.InvT-loop
 Inv-loop s n side rn segments values₀ there₀ m k₀ seen₀ values there k seen =
-    (k ≤ m) × (m ≡ segmentCount segments) × Even values₀ there₀ values there × Filled s n side rn segments k (rowAt values there) × Idle n seen (rowAt values there)
+    (k ≤ m) × (m ≡ segmentCount segments) × Even values₀ there₀ values there × RowFilled s n side rn segments k (rowAt values there) × Idle n seen (rowAt values there)
 
 abbrev μ-loop : tie.MeasureT-loop
 μ-loop s n side rn segments values₀ there₀ m k₀ seen₀ values there k seen = m - k

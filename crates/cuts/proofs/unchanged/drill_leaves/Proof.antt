@@ -8,7 +8,7 @@ returns : tie.Need-returns
 returns c t =
     let s = c .before .before .before in
     let g = s .good .0 in
-    drill-told (s .args .radius) (s .args .c) _ (search (needs, g)) (record { ol = search needs; ou = search needs; il = search needs; iu = search needs }) (c .before .before .least .ensures) t
+    drill-told (s .args .radius) (s .args .c) _ (search (needs, g)) (record { outer-lower = search needs; outer-upper = search needs; inner-lower = search needs; inner-upper = search needs }) (c .before .before .least .ensures) t
 
 pub drill-leaves-spec : {M : Type 1} → statement M
 drill-leaves-spec =

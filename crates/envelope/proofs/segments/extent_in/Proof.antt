@@ -5,19 +5,19 @@ use mathlib.Core.Path.{_≡_, ap, sym, _∙_}
 use denote.Ref.{now}
 use native.Mathlib.Omega.{arith}
 use Rattle.envelope.specs.Envelope.{pointAt, radiiTo}
-use Rattle.envelope.specs.Halving.{extentOf}
+use Rattle.envelope.specs.Halving.{extentRadii}
 use Rattle.envelope.proofs.Steps.{radii-more}
 use Rattle.envelope.proofs.segments.extent_in.Statement.{statement}
 use Rattle.envelope.proofs.segments.extent_in.Tie as tie
 
 abbrev Inv-loop : tie.InvT-loop
-Inv-loop points lo hi start end found₀ p₀ j₀ found p j = (start < j) × (j ≤ end) × (p ≡ pointAt points (j - 1)) × (extentOf found ≡ radiiTo points lo hi start (j - 1 - start))
+Inv-loop points lo hi start end found₀ p₀ j₀ found p j = (start < j) × (j ≤ end) × (p ≡ pointAt points (j - 1)) × (extentRadii found ≡ radiiTo points lo hi start (j - 1 - start))
 
 abbrev μ-loop : tie.MeasureT-loop
 μ-loop points lo hi start end found₀ p₀ j₀ found p j = end - j
 
 returns : tie.Need-returns Inv-loop μ-loop
-unfolding radiiTo extentOf
+unfolding radiiTo extentRadii
 returns c =
     let a = c .before .before .args in
     let e : a .s .end - a .s .start - 1 ≡ 0 = omega arith in
@@ -30,7 +30,7 @@ add-j : tie.Need-add-j Inv-loop μ-loop
 add-j c = search needs
 
 loop-holds : tie.Need-loop-holds Inv-loop μ-loop
-unfolding radiiTo extentOf
+unfolding radiiTo extentRadii
 loop-holds c =
     let a = c .before .before .before .args in
     let e : a .s .start + 1 - 1 ≡ a .s .start = omega arith in

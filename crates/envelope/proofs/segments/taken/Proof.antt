@@ -2,12 +2,12 @@
 use borrow.Author.Needs.{needs}
 use Rattle.floats.specs.Pick.{picks}
 use Rattle.envelope.specs.Envelope.{taken}
-use Rattle.envelope.specs.Halving.{extentOf}
+use Rattle.envelope.specs.Halving.{extentRadii}
 use Rattle.envelope.proofs.segments.taken.Statement.{statement}
 use Rattle.envelope.proofs.segments.taken.Tie as tie
 
 pub taken-spec : {M : Type 1} → statement M
-unfolding taken extentOf
+unfolding taken extentRadii
 taken-spec =
     tie.close
     (tie.spec

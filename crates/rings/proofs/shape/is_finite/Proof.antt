@@ -1,5 +1,5 @@
 -- `rings::shape::is_finite` meets its contract. Assumes nothing.
-use Rattle.rings.proofs.FiniteTest.{finite-test}
+use Rattle.floats.proofs.FiniteTest.{finite-test}
 use Rattle.rings.proofs.shape.is_finite.Statement.{statement}
 use Rattle.rings.proofs.shape.is_finite.Tie as tie
 

@@ -1,4 +1,4 @@
--- The edges of rings and the points between them, by the order of any floats: what least and greatest bound, and -0.0 read as +0.0. Assumes nothing.
+-- What least and greatest bound, in the order of any floats, and -0.0 read as +0.0. Assumes nothing.
 use mathlib.Core.Path.{_≡_, refl, sym, _∙_, ap}
 use mathlib.Core.Logic.{_⊎_, inl, inr}
 use mathlib.Core.Bool.{Bool, true, false, not, _&&_, _||_, true≢false, Bool·not-not}
@@ -10,33 +10,11 @@ use lib.Ieee.{Float, nan, inf, fin, lt, le, eq, isNan, ofBits}
 use lib.Ieee.Scale.{finite}
 use lib.Ieee.Bits.{is-true, is-false}
 use lib.Ieee.Fits.{and-l, and-r}
 use Rattle.floats.specs.Pick.{pick}
 use Rattle.floats.specs.Numbers.{zero64, leastOf, greatestOf, minusZero, cleanOf}
 use Rattle.floats.proofs.Lattice.{least-keeps, greatest-keeps}
-use Rattle.rings.specs.Ring.{within}
-use Rattle.rings.proofs.Anywhere.{le-number-l, le-number-r, lt-flips, le-chain, eq-turns}
-
--- ---- Bools
-pub of-true : (b : Bool) → b ≡ true → T b
-of-true true e = tt
-of-true false e = absurd (true≢false (sym e))
-
-pub to-false : (b : Bool) → (T b → ⊥) → b ≡ false
-to-false b n = is-false b (not-T b n)
-
-or-l : (a b : Bool) → T a → T (a || b)
-or-l true b t = tt
-or-l false b t = absurd t
-
-or-r : (a b : Bool) → T b → T (a || b)
-or-r true b t = tt
-or-r false b t = t
-
-pub same-tests : (a b : Bool) → (T a → T b) → (T b → T a) → a ≡ b
-same-tests true true f g = refl
-same-tests true false f g = absurd (f tt)
-same-tests false true f g = absurd (g tt)
-same-tests false false f g = refl
+use Rattle.floats.proofs.Bools.{so, to-false, same-tests, or-l, or-r}
+use Rattle.floats.proofs.Anywhere.{le-number-l, le-number-r, lt-flips, le-chain, eq-turns}
 
 -- ---- any two floats
 pub lt-le : (x y : Float) → T (lt x y) → T (le x y)
@@ -55,10 +33,10 @@ lt-number-r x y t = le-number-r x y (lt-le x y t)
 
 -- not x < y is y <= x, and not x <= y is y < x
 pub not-lt : (x y : Float) → isNan x ≡ false → isNan y ≡ false → lt x y ≡ false → T (le y x)
-not-lt x y nx ny e = of-true (le y x) (sym (Bool·not-not (le y x)) ∙ ap not (sym (lt-flips x y nx ny) ∙ e))
+not-lt x y nx ny e = so (sym (Bool·not-not (le y x)) ∙ ap not (sym (lt-flips x y nx ny) ∙ e))
 
 pub not-le : (x y : Float) → isNan x ≡ false → isNan y ≡ false → le x y ≡ false → T (lt y x)
-not-le x y nx ny e = of-true (lt y x) (lt-flips y x ny nx ∙ ap not e)
+not-le x y nx ny e = so (lt-flips y x ny nx ∙ ap not e)
 
 pub clash : (x y : Float) → T (lt x y) → T (le y x) → ⊥
 clash x y l m = true≢false (sym (is-true (lt x y) l) ∙ lt-flips x y (lt-number-l x y l) (lt-number-r x y l) ∙ ap not (is-true (le y x) m))
@@ -76,7 +54,7 @@ pub le-same : (x : Float) → isNan x ≡ false → T (le x x)
 le-same x n = go (le x x) refl
   where
     go : (b : Bool) → le x x ≡ b → T (le x x)
-    go true e = of-true (le x x) e
+    go true e = so e
     go false e = lt-le x x (not-le x x n n e)
 
 pub finite-number : (x : Float) → T (finite x) → isNan x ≡ false
@@ -104,13 +82,6 @@ number? nan = inl refl
 number? (inf s) = inr refl
 number? (fin s m e) = inr refl
 
--- no NaN lies between edges
-pub within-nan : (a b : Float) → within a b nan ≡ false
-unfolding le
-within-nan nan b = refl
-within-nan (inf s) b = refl
-within-nan (fin s m e) b = refl
-
 -- ---- greatest and least
 absorb-r : (x y : Bool) → (T y → T x) → y ≡ (x && y)
 absorb-r true y f = refl
@@ -135,7 +106,7 @@ module _ (a b : Float) (na : isNan a ≡ false) (nb : isNan b ≡ false) where
   greatest-below z = go (lt a b) refl
     where
       go : (t : Bool) → lt a b ≡ t → le (pick t b a) z ≡ (le a z && le b z)
-      go true e = absorb-r (le a z) (le b z) (λ h. le-chain a b z (lt-le a b (of-true (lt a b) e)) h)
+      go true e = absorb-r (le a z) (le b z) (λ h. le-chain a b z (lt-le a b (so e)) h)
       go false e = absorb-l (le a z) (le b z) (λ h. le-chain b a z (not-lt a b na nb e) h)
 
   pub least-above : (z : Float) → lt z (leastOf a b) ≡ (lt z a && lt z b)
@@ -143,13 +114,13 @@ module _ (a b : Float) (na : isNan a ≡ false) (nb : isNan b ≡ false) where
   least-above z = go (lt b a) refl
     where
       go : (t : Bool) → lt b a ≡ t → lt z (pick t b a) ≡ (lt z a && lt z b)
-      go true e = absorb-r (lt z a) (lt z b) (λ h. lt-le-chain z b a h (lt-le b a (of-true (lt b a) e)))
+      go true e = absorb-r (lt z a) (lt z b) (λ h. lt-le-chain z b a h (lt-le b a (so e)))
       go false e = absorb-l (lt z a) (lt z b) (λ h. lt-le-chain z a b h (not-lt b a nb na e))
 
   pub greatest-over : T (le a (greatestOf a b)) × T (le b (greatestOf a b))
   greatest-over =
       let g = greatestOf a b in
-      let h : T (le a g && le b g) = of-true (le a g && le b g) (sym (greatest-below g) ∙ is-true (le g g) (le-same g greatest-number)) in
+      let h : T (le a g && le b g) = so (sym (greatest-below g) ∙ is-true (le g g) (le-same g greatest-number)) in
       (and-l (le a g) (le b g) h, and-r (le a g) (le b g) h)
 
   pub least-under : T (le (leastOf a b) a) × T (le (leastOf a b) b)
@@ -157,7 +128,7 @@ module _ (a b : Float) (na : isNan a ≡ false) (nb : isNan b ≡ false) where
   least-under = go (lt b a) refl
     where
       go : (t : Bool) → lt b a ≡ t → T (le (pick t b a) a) × T (le (pick t b a) b)
-      go true e = (lt-le b a (of-true (lt b a) e), le-same b nb)
+      go true e = (lt-le b a (so e), le-same b nb)
       go false e = (le-same a na, not-lt b a nb na e)
 
 -- each of two below each of two others: the greatest of the ones below the least of the others
@@ -201,7 +172,7 @@ module _ (x : Float) where
   le-clean z = go (eq x zero64) refl
     where
       go : (t : Bool) → eq x zero64 ≡ t → le (pick t zero64 x) z ≡ le x z
-      go true e = same-tests (le zero64 z) (le x z) (λ h. le-chain x zero64 z (eq-le x zero64 (of-true (eq x zero64) e)) h) (λ h. le-chain zero64 x z (eq-turns x zero64 (of-true (eq x zero64) e)) h)
+      go true e = same-tests (le zero64 z) (le x z) (λ h. le-chain x zero64 z (eq-le x zero64 (so e)) h) (λ h. le-chain zero64 x z (eq-turns x zero64 (so e)) h)
       go false e = refl
 
   pub lt-clean : (z : Float) → lt z (cleanOf x) ≡ lt z x
@@ -209,5 +180,5 @@ module _ (x : Float) where
   lt-clean z = go (eq x zero64) refl
     where
       go : (t : Bool) → eq x zero64 ≡ t → lt z (pick t zero64 x) ≡ lt z x
-      go true e = same-tests (lt z zero64) (lt z x) (λ h. lt-le-chain z zero64 x h (eq-turns x zero64 (of-true (eq x zero64) e))) (λ h. lt-le-chain z x zero64 h (eq-le x zero64 (of-true (eq x zero64) e)))
+      go true e = same-tests (lt z zero64) (lt z x) (λ h. lt-le-chain z zero64 x h (eq-turns x zero64 (so e))) (λ h. lt-le-chain z x zero64 h (eq-le x zero64 (so e)))
       go false e = refl

@@ -9,6 +9,7 @@ use lib.Dec.{T, ltb, eqb, ltb→lt, eqb→eq, eqb-refl}
 use lib.Ieee.{Float, nan, inf, fin, up, down, below, level, lt, le, eq, isNan}
 use lib.Ieee.Fits.{and-i, and-l, and-r, down-pos}
 use borrow.Author.Tests.{lt-ltb, le-ltb, eq-eqb, ne-eqb, ltb-true, ltb-false}
+use Rattle.floats.proofs.Bools.{or-r}
 
 -- ---- no comparison holds of a NaN
 pub le-number-l : (x y : Float) → T (le x y) → isNan x ≡ false
@@ -118,10 +119,6 @@ turned s t a b h =
     swap true false c h = h
     swap false true c h = h
     swap false false c h = tt
-
-or-r : (a b : Bool) → T b → T (a || b)
-or-r true b t = tt
-or-r false b t = t
 
 pub eq-turns : (x y : Float) → T (eq x y) → T (le y x)
 unfolding le
