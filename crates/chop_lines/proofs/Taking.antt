@@ -15,7 +15,7 @@ use Rattle.text.proofs.Chosen.{yes, no}
 use Rattle.streams.specs.declared.Got.{Got}
 use Rattle.streams.specs.declared.Got.the-variants as got
 use Rattle.lines.specs.File.{ended}
-use Rattle.lines.proofs.Hands.{Hand, hand, byteOn, takes}
+use Rattle.lines.specs.Hands.{Hand, hand, byteOn, takes}
 use Rattle.lines.proofs.Parts.{parts, byte-newline, byte-held, byte-long}
 use Rattle.lines.proofs.OneFile.{whole-file}
 use Rattle.chop_lines.specs.declared.scan.Scan.{Scan}

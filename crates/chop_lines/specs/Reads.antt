@@ -5,7 +5,7 @@ use mathlib.Core.List.{List}
 use Prim.Native.Nat.{ℕ, _≤_}
 use lib.Ieee.{Float}
 use Rattle.refusals.specs.Lent.{Lent}
-use Rattle.lines.proofs.Hands.{Hand}
+use Rattle.lines.specs.Hands.{Hand}
 use Rattle.streams.specs.declared.Got.{Got}
 use Rattle.streams.specs.declared.Got.the-variants as got
 use Rattle.chop_lines.specs.declared.scan.Scan.{Scan}

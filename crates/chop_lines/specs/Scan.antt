@@ -12,7 +12,7 @@ use Rattle.floats.specs.Pick.{pick}
 use Rattle.floats.specs.Numbers.{zero64}
 use Rattle.stock.specs.declared.TurnSide.the-variants.{Outer}
 use Rattle.lines.specs.File.{overPieces, piecesOf, ended}
-use Rattle.lines.proofs.Hands.{Hand, hand, byteOn, takes}
+use Rattle.lines.specs.Hands.{Hand, hand, byteOn, takes}
 use Rattle.chop_lines.specs.declared.words.Words.{Words}
 use Rattle.chop_lines.specs.declared.words.Words.the-variants.{Head, Corner, Bad}
 use Rattle.chop_lines.specs.declared.scan.Scan.{Scan}

@@ -18,7 +18,7 @@ use lib.ListN.{length}
 use lib.Ieee.{Float, nan, inf, fin, up, down, level, le, lt, eq, ofBits}
 use lib.Ieee.Bits.{is-true}
 use lib.Ieee.Fits.{up-pos}
-use Rattle.refusals.specs.Paper.{Paper, answers, refuses, demand, demandAt, placed, onward, demand-true, placed-answers}
+use Rattle.refusals.specs.Paper.{Paper, answers, refuses, demand, demandAt, placed, onward, demand-true, placed-answers, at}
 use Rattle.refusals.specs.Limits.{cellLimit, lastGeneration, lastPlace}
 use Rattle.floats.specs.Pick.{pick}
 use Rattle.floats.specs.Numbers.{_+₆₄_, _*₆₄_, zero64, usable}
@@ -60,6 +60,9 @@ use Rattle.queries.specs.Volume.{volumeOf}
 use Rattle.blocks.specs.Block.{blocksIn, matchesOf, keptStock}
 use Rattle.blocks.specs.Range.{rangeOf}
 use Rattle.blocks.specs.Renew.{renewOf}
+use Rattle.stock_lines.specs.declared.Reading.{Reading}
+use Rattle.stock_file.specs.Read.{specOf, frontOf, stockIn, toldAs}
+use Rattle.stock_file.specs.Write.{lineCount, lineFor}
 use Rattle.profile.specs.Profile.{profileGood}
 use Rattle.profile.specs.Chords.{Chord, profileChords, segmentsOf}
 use Rattle.profile.specs.Chords as profile
@@ -71,8 +74,8 @@ use Rattle.job_words.specs.declared.Line.the-variants.{Bar, Cutting, Removing, 
 use Rattle.job_words.specs.Kind.{lineOf}
 use Rattle.job_run.specs.declared.line.Job.{Job}
 use Rattle.job_run.specs.Job.{lineLimit, cellsOfJob, barLine, madeCut, cutLine, removingLine, firstLine, laterLine, jobLine}
-use Rattle.demands.specs.Refused.{Asked, ask, Exactly, rootAsks, lengthAsks, countGood, specAsks, binAsks, newAsks, stockAsks, roomGood, previewCutAsks, previewAsks, previewNoseAsks, previewPolygonAsks, previewToolAsks, eachAsks, changeAsks, passAsks, commitInAsks, commitAsks, applyAsks, differenceAsks, removeAsks, roomForAll, allStored, removeRingsAsks, partsAsks, moveInAsks, moveListAsks, moveAsks, volumeAsks, keptAsks, renewAsks, pointsAsks, radiusAsks, withinAsks, barAsks, cutLineAsks, firstLineAsks, laterLineAsks, lineAsks, chordsFit, segmentsAsks, insertAsks, erodingAsks}
-use Rattle.demands.proofs.Asking.{refusalOf, Asks, exactly, exactly-as, asks-none, asks-more, asks-of, asks-at, asks-of-at, asks-found, placed-demand, asks-on, asks-then, asks-as, asks-holds, asks-fails, onward-demand}
+use Rattle.demands.specs.Refused.{Asked, ask, Exactly, rootAsks, lengthAsks, countGood, specAsks, binAsks, newAsks, stockAsks, roomGood, previewCutAsks, previewAsks, previewNoseAsks, previewPolygonAsks, previewToolAsks, eachAsks, changeAsks, passAsks, commitInAsks, commitAsks, applyAsks, differenceAsks, removeAsks, roomForAll, allStored, removeRingsAsks, partsAsks, moveInAsks, moveListAsks, moveAsks, volumeAsks, keptAsks, renewAsks, pointsAsks, radiusAsks, withinAsks, barAsks, cutLineAsks, firstLineAsks, laterLineAsks, lineAsks, chordsFit, segmentsAsks, insertAsks, erodingAsks, fileAsks, fileLineAsks}
+use Rattle.demands.proofs.Asking.{refusalOf, Asks, exactly, exactly-as, asks-none, asks-more, asks-of, asks-at, asks-of-at, asks-found, placed-demand, asks-on, asks-then, asks-as, asks-holds, asks-fails, onward-demand, unless, firstFailing}
 
 -- ---- the root and the length
 
@@ -155,10 +158,13 @@ pub bin-exactly : (spec : TurnStockSpec) (i : ℕ) → Exactly (binFor spec i) (
 unfolding binFor
 bin-exactly spec i = exactly (asks-on (cellsOf spec) _ (spec-asks spec) (λ n e. asks-of (cellsOf spec) n e (λ n. ltb i n) 21 (asks-none _)))
 
+new-asks : (spec : TurnStockSpec) (len : ℕ) → Asks (newOf spec len) (newAsks spec len)
+unfolding newOf
+new-asks spec len = asks-on (cellsOf spec) _ (spec-asks spec) (λ n e. asks-of (cellsOf spec) n e (λ n. eqb len (4 * n)) 3 (asks-none n))
+
 -- `fill`, a new stock: 1, 2, 3
 pub fill-exactly : (spec : TurnStockSpec) (len : ℕ) → Exactly (newOf spec len) (newAsks spec len)
-unfolding newOf
-fill-exactly spec len = exactly (asks-on (cellsOf spec) _ (spec-asks spec) (λ n e. asks-of (cellsOf spec) n e (λ n. eqb len (4 * n)) 3 (asks-none n)))
+fill-exactly spec len = exactly (new-asks spec len)
 
 -- `cells_fit`: 1, 2, 3
 pub cells-exactly : (spec : TurnStockSpec) (cs : List Float) → Exactly (stockOf spec cs) (stockAsks spec cs)
@@ -393,6 +399,25 @@ unfolding envelopeAt
 envelope-at-exactly spec cs z = exactly (asks-then (stockOf spec cs) _ (stock-asks spec cs) (λ _ _. asks-none _))
 
 -- `shown` answers a band that it is handed, and refuses nothing
+
+-- ---- stock files
+
+-- `stock_file::finish`: 16 at a line, over the whole file; then 1, 2, 3, 4
+pub finish-exactly : (r : Reading) (most : ℕ) (cs rs : List Float) → Exactly (toldAs r most cs rs) (fileAsks r most cs rs)
+unfolding toldAs stockIn
+finish-exactly r most cs rs =
+    let s : TurnStockSpec = specOf (r .bar) most in
+    exactly (asks-at (not (r .refused)) 16 (r .lines) (asks-on (stockOf s (frontOf (r .cells) cs)) _ (stock-asks s (frontOf (r .cells) cs)) (λ _ _. asks-more (countFits (barRing (cleanSpec s)) rs (r .rings)) 4 (λ _. asks-none _))))
+
+-- `line_count`: 1, 2, 3, 4
+pub line-count-exactly : (spec : TurnStockSpec) (cs rs : List Float) (m : ℕ) → Exactly (lineCount spec cs rs m) (volumeAsks spec cs rs m)
+unfolding lineCount
+line-count-exactly spec cs rs m = exactly (asks-on (stockOf spec cs) _ (stock-asks spec cs) (λ _ _. asks-more (countFits (barRing (cleanSpec spec)) rs m) 4 (λ _. asks-none _)))
+
+-- `file_line`: 1, 2, 3 for the length alone, 4 for the count alone
+pub file-line-exactly : (spec : TurnStockSpec) (cs rs : List Float) (m k : ℕ) → Exactly (lineFor spec cs rs m k) (fileLineAsks spec cs rs m)
+unfolding lineFor
+file-line-exactly spec cs rs m k = exactly (asks-on (newOf spec (length cs)) _ (new-asks spec (length cs)) (λ _ _. asks-more (leb m (ringRoom (length rs))) 4 (λ _. asks-none _)))
 
 -- ---- kept numbers and ranges
 

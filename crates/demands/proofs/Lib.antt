@@ -30,3 +30,4 @@ pub mod Inserts
 pub mod InsertFinite
 pub mod InsertExample
 pub mod Which
+pub mod Files

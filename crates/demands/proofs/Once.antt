@@ -19,6 +19,7 @@
 --   job_words read_line, read_number
 --   job_run   fresh, finish
 --   stock_lines refuse
+--   stock_file fresh
 --
 -- alike: the promise is `paper answer ≡ rule`, and the paper is one to one
 --   numbers   root, length (same-rooted), whole_up (same-whole)
@@ -30,6 +31,7 @@
 --   envelope  order_of (same-ordered), within_span (same-spanned), within_refusal (same-looked), radius_at (same-radius-at), radius_range (same-radius-range)
 --   insert    excess, penetration (same-touch), eroded (same-radius-at)
 --   queries   volume, envelope_at (Outcomes.volume-once, Outcomes.envelope-once of queries), shown (Outcomes.same-seen of queries)
+--   stock_file finish (Outcomes.same-kept of stock_file), line_count (Outcomes.same-lines of stock_file)
 --   blocks    kept_cells (same-counted), range (Outcomes.same-seen of queries)
 --
 -- a record of equations: the answer and each lent buffer
@@ -48,6 +50,7 @@
 --   job_answer cell_line, gen_line, refused_line, answer_line (wrote-once)
 --   job_run   carry_out (Carrying.once of job_run; its two lists by the equations of `ChangesOver`), take_part (taken-once), output_line (wrote-once)
 --   stock_lines take_line (Readings.line-once of stock_lines), stock_line, kept_cell_line, end_line (wrote-once)
+--   stock_file take_part (Outcomes.part-once of stock_file), file_line (Outcomes.file-line-once of stock_file)
 --
 -- The calls of the C boundary: proofs/Once of turning. What `streams` and `job_streams` read and write is not determined by a promise: docs/OPEN_ANSWERS.md.
 use mathlib.Core.Path.{_≡_, refl, sym, ap, ap₂, _∙_}

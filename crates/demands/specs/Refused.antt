@@ -45,6 +45,8 @@ use Rattle.job_words.specs.declared.Line.the-variants.{Bar, Cutting, Removing, 
 use Rattle.job_words.specs.Kind.{lineOf}
 use Rattle.job_run.specs.declared.line.Job.{Job}
 use Rattle.job_run.specs.Job.{lineLimit, cellsOfJob}
+use Rattle.stock_lines.specs.declared.Reading.{Reading}
+use Rattle.stock_file.specs.Read.{frontOf, specOf}
 use Rattle.profile.specs.Profile.{profileGood}
 use Rattle.profile.specs.Chords.{Chord, profileChords}
 
@@ -248,6 +250,18 @@ moveListAsks spec cs xs count g l removed = stockAsks spec cs ++ moveInAsks spec
 -- 1, 2, 3, 6, 4, 10, 7, then 8, 21, 22, 23 change by change, 12, 11: k changes of the lent lists
 abbrev pub moveAsks : TurnStockSpec → List Float → List Float → ℕ → ℕ → List ℕ → List Float → ℕ → List Float → List Asked
 moveAsks spec cs xs count g is ys k removed = stockAsks spec cs ++ (ask (leb k (change.roomOf (length is) (length ys))) 6 ∷ moveInAsks spec cs xs count g (changesFrom is ys k) removed)
+
+-- ---- a stock file
+
+-- 16 at the line that was refused; then 1, 2, 3 of the cells that the room reached, and 4
+abbrev pub fileAsks : Reading → ℕ → List Float → List Float → List Asked
+fileAsks r most cs rs =
+    askAt (not (r .refused)) 16 (r .lines)
+    ∷ (stockAsks (specOf (r .bar) most) (frontOf (r .cells) cs) ++ (ask (countFits (barRing (cleanSpec (specOf (r .bar) most))) rs (r .rings)) 4 ∷ []))
+
+-- 1, 2, 3 for the length alone, 4 for the count alone
+abbrev pub fileLineAsks : TurnStockSpec → List Float → List Float → ℕ → List Asked
+fileLineAsks spec cs rs m = newAsks spec (length cs) ++ (ask (leb m (ringRoom (length rs))) 4 ∷ [])
 
 -- ---- volume: 1, 2, 3, 4. `envelope_at` asks as a stock does.
 abbrev pub volumeAsks : TurnStockSpec → List Float → List Float → ℕ → List Asked

@@ -50,6 +50,12 @@
 // answer to the whole file. `proofs/JobNumbers`: a job is refused with 1, 2, 5, 11, 13 or 15, and with
 // 12 only where its generation is the last; and its cells and rings fit after every line.
 //
+// Stock files (`proofs/Files`): however the bytes of a file are cut into parts, `finish` tells what the
+// whole file tells, and the lent room holds what that leaves; a stock's file, read in a room that
+// reaches, tells that stock; a file that tells a stock is the file of what it left, and so the only one;
+// where a line is refused every file that begins so is refused there, and whole lines that are not
+// begin some file; and what no line was written to stays. Crate `stock_file` has the laws behind it.
+//
 // Demand 3, of cuts: below. Of rings (`proofs/Rings`): accepted rings cover the same points in every
 // order, and no two stored rings share one; so it is of single rings, of a list, of a move, of several
 // moves in two orders and of a stock rebuilt, by the rules and in the lent memory that the calls leave.

@@ -16,7 +16,7 @@ use Rattle.text.proofs.Chosen.{yes, no}
 use Rattle.job_run.specs.declared.Run.{Run}
 use Rattle.lines.specs.File.{ended, joined}
 use Rattle.job_run.specs.Run.{State, state, refusedWith, refusing, onLine, onLong, onEnd, stopped, Hold, hold, byteOn, finishOf, jobOf, cutOf}
-use Rattle.lines.proofs.Hands.{Hand, hand, takes, inTurn, byteOn as handOn}
+use Rattle.lines.specs.Hands.{Hand, hand, takes, inTurn, byteOn as handOn}
 use Rattle.lines.proofs.AnyCut.{any-cut}
 
 long-stops : (st : State) → stopped (onLong st) ≡ true

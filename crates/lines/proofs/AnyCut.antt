@@ -4,7 +4,7 @@ use mathlib.Core.Path.{_≡_, sym, ap, _∙_}
 use mathlib.Core.Bool.{Bool, true}
 use mathlib.Core.List.{List, [], _∷_}
 use Rattle.lines.specs.File.{piecesOf, ended, overPieces, joined}
-use Rattle.lines.proofs.Hands.{Hand, hand, takes, inTurn}
+use Rattle.lines.specs.Hands.{Hand, hand, takes, inTurn}
 use Rattle.lines.proofs.Parts.{parts, nothing}
 use Rattle.lines.proofs.OneFile.{whole-file}
 

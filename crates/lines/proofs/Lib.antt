@@ -1,4 +1,3 @@
-pub mod Hands
 pub mod Parts
 pub mod OneFile
 pub mod AnyCut

@@ -9,7 +9,7 @@ use lib.ListN.{length, length-append}
 use borrow.Author.Tests.{ne-eqb, lt-ltb, le-ltb, ltb-true, ltb-false}
 use Rattle.text.proofs.Chosen.{yes, no}
 use Rattle.lines.specs.File.{piecesOf, ended, lineOn, overPieces}
-use Rattle.lines.proofs.Hands.{Hand, hand, takes}
+use Rattle.lines.specs.Hands.{Hand, hand, takes}
 use Rattle.text.specs.Parts.{intoFirst}
 use Rattle.text.proofs.Parting.{parted-end, parted-here, parted-on, some}
 use Rattle.lines.proofs.Parts.{stopped-takes, byte-newline, byte-held, byte-long}

@@ -6,7 +6,7 @@ use mathlib.Core.List.{List, [], _∷_, _++_}
 use lib.Dec.{eqb, ltb}
 use lib.ListN.{length}
 use Rattle.text.proofs.Chosen.{yes, no}
-use Rattle.lines.proofs.Hands.{Hand, hand, byteOn, takes}
+use Rattle.lines.specs.Hands.{Hand, hand, byteOn, takes}
 
 module _ {A : Type 0} (stopped : A → Bool) (onLine : A → List ℕ → A) (onLong : A → A) where
   -- two parts in turn are their concatenation

@@ -36,6 +36,8 @@ pub enum Refusal {
     EnvelopeOutside,
     // 15: a malformed job line
     LineMalformed,
+    // 16: a line of a stock file that is not of its form, or is missing
+    FileMalformed,
     // 17: points of a profile or a tolerance outside the domain, or over 256 points
     ProfileOutside,
     // 18: ten halvings do not reach the tolerance, or more chords than the lent room
@@ -69,6 +71,7 @@ pub fn number(r: Refusal) -> u32
         Refusal::Arc => 13,
         Refusal::EnvelopeOutside => 14,
         Refusal::LineMalformed => 15,
+        Refusal::FileMalformed => 16,
         Refusal::ProfileOutside => 17,
         Refusal::ChordsOutgrow => 18,
         Refusal::BlocksDoNotMatch => 20,

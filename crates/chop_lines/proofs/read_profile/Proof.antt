@@ -3,7 +3,7 @@ use mathlib.Core.Path.{ap, _∙_}
 use mathlib.Core.List.{[]}
 use native.Mathlib.Omega.{arith}
 use Prim.Native.Nat.{ℕ, _≤_}
-use Rattle.lines.proofs.Hands.{hand}
+use Rattle.lines.specs.Hands.{hand}
 use Rattle.chop_lines.specs.Scan.{fresh, ScanRoom, inHand, finishOf}
 use Rattle.chop_lines.specs.Reads.{After}
 use Rattle.chop_lines.proofs.Taking.{after-fresh, after-more, done}

@@ -1,0 +1,16 @@
+pub mod Ends
+pub mod Held
+pub mod Lined
+pub mod Cut
+pub mod Outcomes
+pub mod Newlines
+pub mod LineSteps
+pub mod ReadBack
+pub mod Leaves
+pub mod Begins
+pub mod Accepted
+pub mod Keepable
+pub mod Spelt
+pub mod WriteAfter
+pub mod Rewritten
+pub mod Tells
