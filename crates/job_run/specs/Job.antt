@@ -154,7 +154,7 @@ pub record ChangesOver (l : List TurnChange) (is is' : List ℕ) (xs xs' : List 
 
 -- so many changes find room in two lent lists
 abbrev pub lentRoom : Lent ℕ → Lent Float → ℕ
-lentRoom indices numbers = roomOf (length (now (indices .entry))) (length (now (numbers .entry)))
+lentRoom indices records = roomOf (length (now (indices .entry))) (length (now (records .entry)))
 
 abbrev pub CarriesLent : (List Float → List Float → Paper Stand) → Carried → Lent Float → Lent Float → Type 0
 CarriesLent p r cells rings =
@@ -167,4 +167,4 @@ abbrev pub RingsLent : (List Float → List Float → Paper Stand) → Carried �
 RingsLent p r rings = CarriesRings p r (now (rings .entry)) (now (rings .exit))
 
 abbrev pub ListsLent : List TurnChange → Lent ℕ → Lent Float → Type 0
-ListsLent l indices numbers = ChangesOver l (now (indices .entry)) (now (indices .exit)) (now (numbers .entry)) (now (numbers .exit))
+ListsLent l indices records = ChangesOver l (now (indices .entry)) (now (indices .exit)) (now (records .entry)) (now (records .exit))

@@ -89,13 +89,13 @@ fn on_line(
     rings: &mut [f64],
     line: &[u8],
     indices: &mut [usize],
-    numbers: &mut [f64],
+    records: &mut [f64],
 ) -> Run
-    requires { ⌜ Full (now indices) (now numbers) ⌝ }
+    requires { ⌜ Full (now indices) (now records) ⌝ }
     ensures { λ r. ⌜ stateLeft r cells rings ≡ onLine (stateFound run cells rings) (now (line .entry)) ⌝ }
 {
     let job = run.job;
-    let carried = carry_out(job, line, cells, rings, indices, numbers);
+    let carried = carry_out(job, line, cells, rings, indices, records);
     match carried {
         Carried::Refused(r) => refuse(run, r),
         Carried::Onward(next) => Run {
@@ -134,16 +134,16 @@ fn take_byte(
     len: usize,
     byte: u8,
     indices: &mut [usize],
-    numbers: &mut [f64],
+    records: &mut [f64],
 ) -> Taken
-    requires { ⌜ Full (now indices) (now numbers) ⌝ }
+    requires { ⌜ Full (now indices) (now records) ⌝ }
     ensures { λ r. ⌜ asLeft (r .run) (r .len) cells rings line ≡ byteOn (asFound run len cells rings line) byte ⌝ }
 {
     if run.refused != 0 {
         return Taken { run, len };
     }
     if byte == b'\n' {
-        let after = on_line(run, cells, rings, held(line, len), indices, numbers);
+        let after = on_line(run, cells, rings, held(line, len), indices, records);
         put_byte(line, len, byte);
         return Taken { run: after, len: 0 };
     }
@@ -169,7 +169,7 @@ fn take_bytes(
     ensures { λ r. ⌜ asLeft (r .run) (r .len) cells rings line ≡ foldl byteOn (asFound run len cells rings line) (now (bytes .entry)) ⌝ }
 {
     let mut indices = [0usize; INDICES];
-    let mut numbers = [0.0f64; NUMBERS];
+    let mut records = [0.0f64; NUMBERS];
     let mut k = run;
     let mut n = len;
     let mut i: usize = 0;
@@ -182,7 +182,7 @@ fn take_bytes(
             n,
             bytes[i],
             &mut indices,
-            &mut numbers,
+            &mut records,
         );
         k = t.run;
         n = t.len;

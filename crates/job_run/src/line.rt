@@ -49,23 +49,23 @@ fn preview_of(
     cells: &[f64],
     cut: Cut,
     indices: &mut [usize],
-    numbers: &mut [f64],
+    records: &mut [f64],
 ) -> Previewed
-    ensures { λ r. ⌜ Proposed (previewCut spec (now (cells .entry)) cut (lentRoom indices numbers)) r
-        (now (indices .entry)) (now (indices .exit)) (now (numbers .entry)) (now (numbers .exit)) ⌝ }
+    ensures { λ r. ⌜ Proposed (previewCut spec (now (cells .entry)) cut (lentRoom indices records)) r
+        (now (indices .entry)) (now (indices .exit)) (now (records .entry)) (now (records .exit)) ⌝ }
 {
     match cut {
         Cut::Thread { z0, z1, radius } => {
-            cuts::thread_cut(spec, cells, z0, z1, radius, indices, numbers)
+            cuts::thread_cut(spec, cells, z0, z1, radius, indices, records)
         }
         Cut::ThreadInner { z0, z1, radius } => {
-            cuts::thread_cut_inner(spec, cells, z0, z1, radius, indices, numbers)
+            cuts::thread_cut_inner(spec, cells, z0, z1, radius, indices, records)
         }
         Cut::Drill {
             tip_z,
             radius,
             cone,
-        } => cuts::drill(spec, cells, tip_z, radius, cone, indices, numbers),
+        } => cuts::drill(spec, cells, tip_z, radius, cone, indices, records),
         Cut::Line {
             side: _,
             rn: _,
@@ -74,8 +74,8 @@ fn preview_of(
             a_z: _,
             b_r: _,
             b_z: _,
-        } => cuts::preview_cut(spec, cells, cut, indices, numbers),
-        Cut::Arc => cuts::preview_cut(spec, cells, cut, indices, numbers),
+        } => cuts::preview_cut(spec, cells, cut, indices, records),
+        Cut::Arc => cuts::preview_cut(spec, cells, cut, indices, records),
     }
 }
 
@@ -87,19 +87,19 @@ fn make_cut(
     generation: u64,
     cut: Cut,
     indices: &mut [usize],
-    numbers: &mut [f64],
+    records: &mut [f64],
 ) -> Applied
-    ensures { λ r. ⌜ Applies (madeCut spec (now (cells .entry)) generation cut (lentRoom indices numbers)) r
+    ensures { λ r. ⌜ Applies (madeCut spec (now (cells .entry)) generation cut (lentRoom indices records)) r
         (now (cells .entry)) (now (cells .exit)) ⌝ }
-    ensures { λ _. ⌜ ListsLent (writtenOf (previewCut spec (now (cells .entry)) cut (lentRoom indices numbers))) indices numbers ⌝ }
+    ensures { λ _. ⌜ ListsLent (writtenOf (previewCut spec (now (cells .entry)) cut (lentRoom indices records))) indices records ⌝ }
 {
-    let previewed = preview_of(spec, cells, cut, indices, numbers);
+    let previewed = preview_of(spec, cells, cut, indices, records);
     match previewed {
         Previewed::Refused(r) => Applied::Refused(r),
         Previewed::Changes(k) => {
             let s = stock::clean_spec(spec);
             let n = cells.len() / 4;
-            changes::commit_unasked(s, n, cells, generation, indices, numbers, k)
+            changes::commit_unasked(s, n, cells, generation, indices, records, k)
         }
     }
 }
@@ -140,11 +140,11 @@ fn take_cut(
     cells: &mut [f64],
     cut: Cut,
     indices: &mut [usize],
-    numbers: &mut [f64],
+    records: &mut [f64],
 ) -> Carried
-    ensures { λ r. ⌜ CellsLent (cutLine job cut (lentRoom indices numbers)) r cells ⌝ }
-    ensures { λ _. ⌜ ListsLent (writtenOf (previewCut (job .spec) (cellsOfJob job (now (cells .entry))) cut (lentRoom indices numbers)))
-        indices numbers ⌝ }
+    ensures { λ r. ⌜ CellsLent (cutLine job cut (lentRoom indices records)) r cells ⌝ }
+    ensures { λ _. ⌜ ListsLent (writtenOf (previewCut (job .spec) (cellsOfJob job (now (cells .entry))) cut (lentRoom indices records)))
+        indices records ⌝ }
 {
     let spec = job.spec;
     let end = places(job.cells, cells.len());
@@ -154,7 +154,7 @@ fn take_cut(
         job.generation,
         cut,
         indices,
-        numbers,
+        records,
     );
     match applied {
         Applied::Refused(r) => Carried::Refused(r),
@@ -206,13 +206,13 @@ fn later_line(
     cells: &mut [f64],
     rings: &mut [f64],
     indices: &mut [usize],
-    numbers: &mut [f64],
+    records: &mut [f64],
 ) -> Carried
-    ensures { λ r. ⌜ CarriesLent (laterLine job line (lentRoom indices numbers)) r cells rings ⌝ }
-    ensures { λ _. ⌜ ListsLent (lineChanges job line (lentRoom indices numbers) (now (cells .entry))) indices numbers ⌝ }
+    ensures { λ r. ⌜ CarriesLent (laterLine job line (lentRoom indices records)) r cells rings ⌝ }
+    ensures { λ _. ⌜ ListsLent (lineChanges job line (lentRoom indices records) (now (cells .entry))) indices records ⌝ }
 {
     match line {
-        Line::Cutting(cut) => take_cut(job, cells, cut, indices, numbers),
+        Line::Cutting(cut) => take_cut(job, cells, cut, indices, records),
         Line::Removing(ring) => take_ring(job, rings, ring),
         Line::Arc => Carried::Refused(Refusal::Arc),
         Line::Bar(_) => Carried::Refused(Refusal::LineMalformed),
@@ -229,10 +229,10 @@ pub fn carry_out(
     cells: &mut [f64],
     rings: &mut [f64],
     indices: &mut [usize],
-    numbers: &mut [f64],
+    records: &mut [f64],
 ) -> Carried
-    ensures { λ r. ⌜ CarriesLent (jobLine job (now (line .entry)) (lentRoom indices numbers)) r cells rings ⌝ }
-    ensures { λ _. ⌜ ListsLent (jobChanges job (now (line .entry)) (lentRoom indices numbers) (now (cells .entry))) indices numbers ⌝ }
+    ensures { λ r. ⌜ CarriesLent (jobLine job (now (line .entry)) (lentRoom indices records)) r cells rings ⌝ }
+    ensures { λ _. ⌜ ListsLent (jobChanges job (now (line .entry)) (lentRoom indices records) (now (cells .entry))) indices records ⌝ }
 {
     if LINE_LIMIT <= line.len() {
         return Carried::Refused(Refusal::LineMalformed);
@@ -241,5 +241,5 @@ pub fn carry_out(
     if job.cells == 0 {
         return first_line(read, cells);
     }
-    later_line(job, read, cells, rings, indices, numbers)
+    later_line(job, read, cells, rings, indices, records)
 }

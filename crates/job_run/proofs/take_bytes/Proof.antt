@@ -11,11 +11,11 @@ use Rattle.job_run.proofs.take_bytes.Statement.{statement}
 use Rattle.job_run.proofs.take_bytes.Tie as tie
 
 abbrev Inv-loop : tie.InvT-loop
-Inv-loop cells₀ rings₀ line₀ len bytes indices₀ numbers₀ k₀ n₀ i₀ cells rings line indices numbers k n i =
-    (i ≤ length bytes) × (length cells ≡ length cells₀) × (length rings ≡ length rings₀) × (length line ≡ length line₀) × (length indices ≡ 512) × (length numbers ≡ 4096) × (foldl byteOn (hold (state k₀ cells₀ rings₀) line₀ len) bytes ≡ foldl byteOn (hold (state k cells rings) line n) (drop i bytes))
+Inv-loop cells₀ rings₀ line₀ len bytes indices₀ records₀ k₀ n₀ i₀ cells rings line indices records k n i =
+    (i ≤ length bytes) × (length cells ≡ length cells₀) × (length rings ≡ length rings₀) × (length line ≡ length line₀) × (length indices ≡ 512) × (length records ≡ 4096) × (foldl byteOn (hold (state k₀ cells₀ rings₀) line₀ len) bytes ≡ foldl byteOn (hold (state k cells rings) line n) (drop i bytes))
 
 abbrev μ-loop : tie.MeasureT-loop
-μ-loop cells₀ rings₀ line₀ len bytes indices₀ numbers₀ k₀ n₀ i₀ cells rings line indices numbers k n i = length bytes - i
+μ-loop cells₀ rings₀ line₀ len bytes indices₀ records₀ k₀ n₀ i₀ cells rings line indices records k n i = length bytes - i
 
 -- a slice's length is a usize
 few : (c : tie.Start Inv-loop μ-loop) → length (c .args .bytes .now) < 2 ^ 64

@@ -21,7 +21,7 @@ unfolding lineChanges
 returns-2 c =
     let a = c .before .before .before .before .before .before .before .before .before .before .before .args in
     let l = c .before .before .before .before .before in
-    let room = roomOf (length (a .indices .now)) (length (a .numbers .now)) in (
+    let room = roomOf (length (a .indices .now)) (length (a .records .now)) in (
       later-ring _ _ _ _ _ _ _ _ (l .line2 .given .1) (c .before .before .take-ring .ensures),
       unlisted _ _ _ (ap (λ (x : Line). lineChanges (a .job) x room (a .cells .now)) (l .line2 .given .1)),
     )
@@ -30,7 +30,7 @@ returns-3 : tie.Need-returns-3
 unfolding laterLine lineChanges
 returns-3 c =
     let a = c .before .before .before .before .before .before .args in
-    let room = roomOf (length (a .indices .now)) (length (a .numbers .now)) in (
+    let room = roomOf (length (a .indices .now)) (length (a .records .now)) in (
       refused _ Arc _ _ (ap (λ (l : Line). laterLine (a .job) l room (a .cells .now) (a .rings .now)) (c .enum-told .given .1)),
       unlisted _ _ _ (ap (λ (l : Line). lineChanges (a .job) l room (a .cells .now)) (c .enum-told .given .1)),
     )
@@ -39,7 +39,7 @@ returns-4 : tie.Need-returns-4
 unfolding laterLine lineChanges
 returns-4 c =
     let a = c .before .before .before .before .before .before .args in
-    let room = roomOf (length (a .indices .now)) (length (a .numbers .now)) in (
+    let room = roomOf (length (a .indices .now)) (length (a .records .now)) in (
       refused _ LineMalformed _ _ (ap (λ (l : Line). laterLine (a .job) l room (a .cells .now) (a .rings .now)) (c .enum-told2 .given .1)),
       unlisted _ _ _ (ap (λ (l : Line). lineChanges (a .job) l room (a .cells .now)) (c .enum-told2 .given .1)),
     )
@@ -48,7 +48,7 @@ returns-5 : tie.Need-returns-5
 unfolding laterLine lineChanges
 returns-5 c =
     let a = c .before .before .before .before .before .before .args in
-    let room = roomOf (length (a .indices .now)) (length (a .numbers .now)) in (
+    let room = roomOf (length (a .indices .now)) (length (a .records .now)) in (
       refused _ LineMalformed _ _ (ap (λ (l : Line). laterLine (a .job) l room (a .cells .now) (a .rings .now)) (c .enum-told3 .given .1)),
       unlisted _ _ _ (ap (λ (l : Line). lineChanges (a .job) l room (a .cells .now)) (c .enum-told3 .given .1)),
     )
