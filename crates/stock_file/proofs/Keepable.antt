@@ -28,6 +28,7 @@ use Rattle.rings.proofs.Fitting.{Fits, fits-of}
 use Rattle.floats.proofs.Bounding.{clean-unsigned}
 use Rattle.text.proofs.Reading.{plus-bits}
 use Rattle.stock_lines.proofs.Forms.{Keeps, none, more}
+use Rattle.stock_lines.proofs.Steps.{each-cell}
 use Rattle.stock_file.specs.Read.{specOf, readOf}
 use Rattle.stock_file.specs.Write.{barOf, fileOf}
 use Rattle.stock_file.proofs.Lined.{rings-few}
@@ -109,7 +110,7 @@ stock-kept spec cs rs n m e f g =
       bar = more (clean-fits _ (g .z-min)) (clean-plus _ (g .z-min)) (more (clean-fits _ (g .z-max)) (clean-plus _ (g .z-max)) (more (clean-fits _ (g .outer)) (clean-plus _ (g .outer)) (more (clean-fits _ (g .bore)) (clean-plus _ (g .bore)) (more (clean-fits _ (g .cell)) (clean-plus _ (g .cell)) none))));
       cells = λ i h. cell-keeps (cleanSpec spec) cs i (g .cells) (fit-below (cleanSpec spec) cs n c i h);
       rings = λ i h. ring-keeps (barRing (cleanSpec spec)) rs i (g .rings) (ring-below (barRing (cleanSpec spec)) rs m r i h);
-      few-cells = omega (arith, checked spec n (s .count) .few);
+      few-cells = omega (arith, checked spec n (s .count) .few, each-cell);
       few-rings = rings-few (barRing (cleanSpec spec)) rs m f;
     }
 

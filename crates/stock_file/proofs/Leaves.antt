@@ -19,7 +19,7 @@ use Rattle.stock_lines.specs.declared.form.Five.{Five}
 use Rattle.stock_lines.specs.declared.form.Five.the-variants.{Spec, NoFive}
 use Rattle.stock_lines.specs.declared.room.Took.{Took}
 use Rattle.stock_lines.specs.declared.room.Took.the-variants.{Cell, Ring, End, NoLine}
-use Rattle.stock_lines.specs.Form.{lineOf, fourOf, fiveOf, cellPrefix, stockPrefix, endText}
+use Rattle.stock_lines.specs.Form.{formOf, writtenForm, lineOf, fourOf, fiveOf, cellPrefix, stockPrefix, endText}
 use Rattle.stock_lines.specs.Room.{kept, stored, taken, cellAt, ringAt, tookOf, ringsAfter}
 use Rattle.stock_lines.specs.Reading.{State, state, countTo, refusing, begun, onwardTo, went, onBody, onLine}
 use Rattle.stock_lines.proofs.Rooms.{took-cell, took-ring, took-end, took-none, rings-cell, rings-other, stored-other}
@@ -128,8 +128,14 @@ begun-unmoved r NoFive = refusing-unmoved r
 -- what a line behind the first leaves, by what it was
 body-stays : (st : State) (s : List ℕ) → Stays st (onBody st s)
 unfolding onBody went onwardTo
-body-stays st s = by (taken (cellAt n m s)) refl (taken (ringAt s)) refl (sameBytes s (endText b)) refl
+body-stays st s = by (taken (cellAt k n m s)) refl (taken (ringAt s)) refl (sameBytes s (endText b)) refl
   where
+    k : ℕ
+    k = st .reading .form
+
+    most : ℕ
+    most = formOf k .most
+
     n : ℕ
     n = st .reading .cells
 
@@ -142,15 +148,15 @@ body-stays st s = by (taken (cellAt n m s)) refl (taken (ringAt s)) refl (sameBy
     after : Took → List Float → List Float → State
     after t cs rs = state (went (st .reading) t) cs rs
 
-    shown : (t : Took) (cs rs : List Float) → tookOf n m b s ≡ t → stored 10000 (st .cells) n (cellAt n m s) ≡ cs → ringsAfter n m s (st .rings) ≡ rs → Stays st (after t cs rs)
-        → Stays st (after (tookOf n m b s) (stored 10000 (st .cells) n (cellAt n m s)) (ringsAfter n m s (st .rings)))
+    shown : (t : Took) (cs rs : List Float) → tookOf k n m b s ≡ t → stored most (st .cells) n (cellAt k n m s) ≡ cs → ringsAfter k n m s (st .rings) ≡ rs → Stays st (after t cs rs)
+        → Stays st (after (tookOf k n m b s) (stored most (st .cells) n (cellAt k n m s)) (ringsAfter k n m s (st .rings)))
     shown t cs rs e f g w =
-        subst (λ (x : Took). Stays st (after x (stored 10000 (st .cells) n (cellAt n m s)) (ringsAfter n m s (st .rings)))) (sym e)
-        (subst (λ (x : List Float). Stays st (after t x (ringsAfter n m s (st .rings)))) (sym f)
+        subst (λ (x : Took). Stays st (after x (stored most (st .cells) n (cellAt k n m s)) (ringsAfter k n m s (st .rings)))) (sym e)
+        (subst (λ (x : List Float). Stays st (after t x (ringsAfter k n m s (st .rings)))) (sym f)
         (subst (λ (x : List Float). Stays st (after t cs x)) (sym g) w))
 
-    cell : Stays st (after Cell (stored 10000 (st .cells) n (cellAt n m s)) (st .rings))
-    cell = record { cells = stored-filled 10000 10000 n (st .cells) (cellAt n m s) (omega arith); rings = same _ _ }
+    cell : Stays st (after Cell (stored most (st .cells) n (cellAt k n m s)) (st .rings))
+    cell = record { cells = stored-filled most most n (st .cells) (cellAt k n m s) (omega arith); rings = same _ _ }
 
     ring : Stays st (after Ring (st .cells) (stored 256 (st .rings) m (ringAt s)))
     ring = record { cells = same _ _; rings = stored-filled 256 257 m (st .rings) (ringAt s) (omega arith) }
@@ -161,18 +167,18 @@ body-stays st s = by (taken (cellAt n m s)) refl (taken (ringAt s)) refl (sameBy
     none : Stays st (after NoLine (st .cells) (st .rings))
     none = unmoved st (refusing (st .reading)) (refusing-unmoved (st .reading))
 
-    by : (t : Bool) → taken (cellAt n m s) ≡ t → (u : Bool) → taken (ringAt s) ≡ u → (v : Bool) → sameBytes s (endText b) ≡ v
-        → Stays st (after (tookOf n m b s) (stored 10000 (st .cells) n (cellAt n m s)) (ringsAfter n m s (st .rings)))
-    by true e u f v g = shown Cell _ (st .rings) (sym (took-cell n m s b e)) refl (sym (rings-cell n m s (st .rings) e)) cell
-    by false e true f v g = shown Ring (st .cells) _ (sym (took-ring n m s b e f)) (stored-other 10000 (st .cells) n (cellAt n m s) e) (sym (rings-other n m s (st .rings) e)) ring
-    by false e false f true g = shown End (st .cells) (st .rings) (sym (took-end n m s b e f g)) (stored-other 10000 (st .cells) n (cellAt n m s) e) (sym (rings-other n m s (st .rings) e) ∙ stored-other 256 (st .rings) m (ringAt s) f) end
-    by false e false f false g = shown NoLine (st .cells) (st .rings) (sym (took-none n m s b e f g)) (stored-other 10000 (st .cells) n (cellAt n m s) e) (sym (rings-other n m s (st .rings) e) ∙ stored-other 256 (st .rings) m (ringAt s) f) none
+    by : (t : Bool) → taken (cellAt k n m s) ≡ t → (u : Bool) → taken (ringAt s) ≡ u → (v : Bool) → sameBytes s (endText b) ≡ v
+        → Stays st (after (tookOf k n m b s) (stored most (st .cells) n (cellAt k n m s)) (ringsAfter k n m s (st .rings)))
+    by true e u f v g = shown Cell _ (st .rings) (sym (took-cell k n m s b e)) refl (sym (rings-cell k n m s (st .rings) e)) cell
+    by false e true f v g = shown Ring (st .cells) _ (sym (took-ring k n m s b e f)) (stored-other most (st .cells) n (cellAt k n m s) e) (sym (rings-other k n m s (st .rings) e)) ring
+    by false e false f true g = shown End (st .cells) (st .rings) (sym (took-end k n m s b e f g)) (stored-other most (st .cells) n (cellAt k n m s) e) (sym (rings-other k n m s (st .rings) e) ∙ stored-other 256 (st .rings) m (ringAt s) f) end
+    by false e false f false g = shown NoLine (st .cells) (st .rings) (sym (took-none k n m s b e f g)) (stored-other most (st .cells) n (cellAt k n m s) e) (sym (rings-other k n m s (st .rings) e) ∙ stored-other 256 (st .rings) m (ringAt s) f) none
 
 pub line-stays : (st : State) (s : List ℕ) → Stays st (onLine st s)
 line-stays st s = by (eqb (st .reading .stage) 0) refl (eqb (st .reading .stage) 1) refl
   where
     by : (t : Bool) → eqb (st .reading .stage) 0 ≡ t → (u : Bool) → eqb (st .reading .stage) 1 ≡ u → Stays st (onLine st s)
-    by true e u f = subst (Stays st) (sym (line-first st s (eqb-true _ _ e))) (unmoved st _ (begun-unmoved (st .reading) (fiveOf (lineOf stockPrefix 5 s))))
+    by true e u f = subst (Stays st) (sym (line-first st s (eqb-true _ _ e))) (unmoved st _ (begun-unmoved (st .reading) (fiveOf (lineOf (stockPrefix writtenForm) 5 s))))
     by false e true f = subst (Stays st) (sym (line-body st s (eqb-false _ _ e) (eqb-true _ _ f))) (body-stays st s)
     by false e false f = subst (Stays st) (sym (line-behind st s (eqb-false _ _ e) (eqb-false _ _ f))) (unmoved st _ (refusing-unmoved (st .reading)))
 

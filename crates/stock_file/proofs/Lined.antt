@@ -21,7 +21,7 @@ use Rattle.rings.specs.Store.{countFits, ringRoom}
 use Rattle.rings.proofs.Removing.{fits-within}
 use Rattle.text.specs.Wrote.{lineRoom, Wrote, WroteLine}
 use Rattle.stock_lines.specs.declared.Bar.{Bar}
-use Rattle.stock_lines.specs.Form.{stockLine, endLine}
+use Rattle.stock_lines.specs.Form.{writtenForm, stockLine, endLine}
 use Rattle.stock_file.specs.declared.written.Spelled.{Spelled}
 use Rattle.stock_file.specs.declared.written.Spelled.the-variants as spelled
 use Rattle.stock_file.specs.Write.{barOf, cellAt, ringAt, lineBehind, lineAt, lineFor, linePaper, lengthOf, lineOver, WroteFileLine}
@@ -35,7 +35,7 @@ pub no-line : (l : List ℕ) → WroteLine l [] l 0
 no-line l = record { wrote = record { text = refl; end = refl }; within = omega arith }
 
 module _ (b : Bar) (cs : List Float) (n : ℕ) (rs : List Float) (m k : ℕ) where
-  pub first-line : k ≡ 0 → stockLine b ≡ lineAt b cs n rs m k
+  pub first-line : k ≡ 0 → stockLine writtenForm b ≡ lineAt b cs n rs m k
   unfolding lineAt
   first-line e = sym (pick-true _ _ _ (eq-eqb _ _ e))
 

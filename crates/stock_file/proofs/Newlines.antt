@@ -10,7 +10,7 @@ use borrow.Author.Tests.{eqb-false, ltb-true, ltb-false}
 use Rattle.text.specs.Digits.{glyphOf, digits, decimalOf, hexOf}
 use Rattle.text.specs.Digits as spelling
 use Rattle.text.proofs.Spelling.{glyph-low, glyph-high}
-use Rattle.stock_lines.specs.Form.{fieldsText, stockPrefix, cellPrefix, ringPrefix, endText}
+use Rattle.stock_lines.specs.Form.{formOf, fieldsText, stockPrefix, cellPrefix, ringPrefix, endText}
 
 pub data Free : List ℕ → Type 0 where
   none : Free []
@@ -52,13 +52,13 @@ fields-free (x ∷ xs) = free-append (more (λ e. omega arith) (hex-free x)) (fi
 pub ring-free : (xs : List Float) → Free (ringPrefix ++ fieldsText xs [])
 ring-free xs = byte 114 refl (byte 105 refl (byte 110 refl (byte 103 refl (fields-free xs))))
 
-pub cell-free : (n : ℕ) (xs : List Float) → Free (cellPrefix n ++ fieldsText xs [])
-cell-free n xs =
-    free-append (byte 99 refl (byte 101 refl (byte 108 refl (byte 108 refl (byte 9 refl (digits-free 10 4 n)))))) (fields-free xs)
+pub cell-free : (form n : ℕ) (xs : List Float) → Free (cellPrefix form n ++ fieldsText xs [])
+cell-free form n xs =
+    free-append (byte 99 refl (byte 101 refl (byte 108 refl (byte 108 refl (byte 9 refl (digits-free 10 (formOf form .digits) n)))))) (fields-free xs)
 
 pub end-free : (n : ℕ) → Free (endText n)
 end-free n = byte 101 refl (byte 110 refl (byte 100 refl (byte 9 refl (decimal-free n))))
 
-pub first-free : (xs : List Float) → Free (stockPrefix ++ fieldsText xs [])
-first-free xs =
-    free-append (byte 115 refl (byte 116 refl (byte 111 refl (byte 99 refl (byte 107 refl (byte 9 refl (byte 49 refl none))))))) (fields-free xs)
+pub first-free : (form : ℕ) (xs : List Float) → Free (stockPrefix form ++ fieldsText xs [])
+first-free form xs =
+    free-append (byte 115 refl (byte 116 refl (byte 111 refl (byte 99 refl (byte 107 refl (byte 9 refl (digits-free 10 1 form))))))) (fields-free xs)

@@ -19,14 +19,14 @@ use Rattle.lines.specs.Hands.{Hand, hand, takes}
 use Rattle.lines.proofs.Parts.{parts}
 use Rattle.lines.proofs.OneFile.{whole-file}
 use Rattle.stock_lines.specs.declared.Bar.{Bar}
-use Rattle.stock_lines.specs.Form.{fieldsText, barNumbers, stockPrefix, cellPrefix, ringPrefix, endText, stockLine, keptCellLine, endLine}
+use Rattle.stock_lines.specs.Form.{formOf, writtenForm, fieldsText, barNumbers, stockPrefix, cellPrefix, ringPrefix, endText, stockLine, keptCellLine, endLine}
 use Rattle.stock_lines.specs.Reading.{State, state, onLine}
 use Rattle.stock_lines.proofs.Forms.{Keeps, fields-then}
-use Rattle.stock_lines.proofs.Steps.{cell-long}
+use Rattle.stock_lines.proofs.Steps.{few-lines, stock-long, cell-short}
 use Rattle.stock_file.specs.Read.{freshReading, stopped, onLong, onEnd, fileIn}
 use Rattle.stock_file.specs.Write.{cellAt, ringAt, lineAt, linesTo, fileOf}
 use Rattle.stock_file.proofs.Newlines.{ring-free, cell-free, end-free, first-free}
-use Rattle.stock_file.proofs.LineSteps.{line-taken, reading, first-step, cell-step, ring-step, end-step}
+use Rattle.stock_file.proofs.LineSteps.{line-taken, most, reading, first-step, cell-step, ring-step, end-step}
 use Rattle.stock_file.proofs.Lined.{first-line, cell-line, ring-line, last-line}
 use Rattle.stock_file.proofs.Cut.{long-stops}
 
@@ -70,7 +70,7 @@ pub record Kept (b : Bar) (cs : List Float) (n : ℕ) (rs : List Float) (m : ℕ
   pub bar : Keeps (barNumbers b)
   pub cells : (i : ℕ) → i < n → Keeps (fourAt cs i)
   pub rings : (i : ℕ) → i < m → Keeps (fourAt rs i)
-  pub few-cells : n ≤ 10000
+  pub few-cells : n ≤ most
   pub few-rings : m ≤ 256
 
 module _ (b : Bar) (cs : List Float) (n : ℕ) (rs : List Float) (m : ℕ) (kept : Kept b cs n rs m) (C R : List Float) (room : 4 * n ≤ length C) (space : 4 * m ≤ length R) where
@@ -89,11 +89,11 @@ module _ (b : Bar) (cs : List Float) (n : ℕ) (rs : List Float) (m : ℕ) (kept
   first : took 1 ≡ hand (state (reading b 1 0 0 1) C R) []
   unfolding linesTo stockLine
   first =
-      let l : List ℕ = stockPrefix ++ fieldsText (barNumbers b) [] in
-      let w : l ++ newline ≡ stockLine b = with-newline stockPrefix (barNumbers b) in
-      let e : length l ≤ 127 = omega (arith, length-append stockPrefix (fieldsText (barNumbers b) []), fields-length (barNumbers b)) in
-      line-taken l (lineAt b cs n rs m 0) (state freshReading C R) (first-free (barNumbers b)) refl e (w ∙ first-line b cs n rs m 0 refl)
-      ∙ ap (λ (st : State). hand st []) (first-step b (freshReading .bar) C R l (kept .bar) w)
+      let l : List ℕ = stockPrefix writtenForm ++ fieldsText (barNumbers b) [] in
+      let w : l ++ newline ≡ stockLine writtenForm b = with-newline (stockPrefix writtenForm) (barNumbers b) in
+      let e : length l ≤ 127 = omega (arith, length-append (stockPrefix writtenForm) (fieldsText (barNumbers b) []), fields-length (barNumbers b), stock-long writtenForm) in
+      line-taken l (lineAt b cs n rs m 0) (state freshReading C R) (first-free writtenForm (barNumbers b)) refl e (w ∙ first-line b cs n rs m 0 refl)
+      ∙ ap (λ (st : State). hand st []) (first-step b C R l (kept .bar) w)
 
   cells : (i k : ℕ) → i ≤ n → k ≡ i + 1 → took k ≡ hand (state (reading b 1 i 0 k) (over (foursTo cs i) C) R) []
   unfolding foursTo keptCellLine
@@ -106,17 +106,17 @@ module _ (b : Bar) (cs : List Float) (n : ℕ) (rs : List Float) (m : ℕ) (kept
   cells (suc i) k h e =
       let j : ℕ = i + 1 in
       let st : State = state (reading b 1 i 0 j) (over (foursTo cs i) C) R in
-      let l : List ℕ = cellPrefix i ++ fieldsText (fourAt cs i) [] in
-      let w : l ++ newline ≡ cellAt cs i = with-newline (cellPrefix i) (fourAt cs i) in
-      let long : length l ≤ 127 = omega (arith, length-append (cellPrefix i) (fieldsText (fourAt cs i) []), cell-long i, fields-length (fourAt cs i)) in
+      let l : List ℕ = cellPrefix writtenForm i ++ fieldsText (fourAt cs i) [] in
+      let w : l ++ newline ≡ cellAt cs i = with-newline (cellPrefix writtenForm i) (fourAt cs i) in
+      let long : length l ≤ 127 = omega (arith, length-append (cellPrefix writtenForm i) (fieldsText (fourAt cs i) []), cell-short writtenForm i, fields-length (fourAt cs i)) in
       let z : i ≡ j - 1 = omega arith in
       let y : j - 1 < n = omega arith in
-      let few : j + 1 < 2 ^ 64 = omega (arith, kept .few-cells) in
+      let few : j + 1 < 2 ^ 64 = omega (arith, kept .few-cells, few-lines writtenForm) in
       let lt : i < n = omega arith in
-      let lots : i < 10000 = omega (arith, kept .few-cells) in
+      let lots : i < most = omega (arith, kept .few-cells) in
       let wide : 4 * i + 4 ≤ length C = omega arith in
       let q : takes stopped onLine onLong (hand st []) (lineAt b cs n rs m j) ≡ hand (onLine st l) [] =
-      line-taken l (lineAt b cs n rs m j) st (cell-free i (fourAt cs i)) refl long (w ∙ ap (cellAt cs) z ∙ cell-line b cs n rs m j (λ v. omega arith) y) in
+      line-taken l (lineAt b cs n rs m j) st (cell-free writtenForm i (fourAt cs i)) refl long (w ∙ ap (cellAt cs) z ∙ cell-line b cs n rs m j (λ v. omega arith) y) in
       let o : k ≡ suc j = omega arith in
       let u : j + 1 ≡ k = omega arith in
       let v : i + 1 ≡ suc i = omega arith in
@@ -138,7 +138,7 @@ module _ (b : Bar) (cs : List Float) (n : ℕ) (rs : List Float) (m : ℕ) (kept
       let long : length l ≤ 127 = omega (arith, length-append ringPrefix (fieldsText (fourAt rs i) []), fields-length (fourAt rs i)) in
       let z : i ≡ j - 1 - n = omega arith in
       let y : j - 1 - n < m = omega arith in
-      let few : j + 1 < 2 ^ 64 = omega (arith, kept .few-cells, kept .few-rings) in
+      let few : j + 1 < 2 ^ 64 = omega (arith, kept .few-cells, few-lines writtenForm, kept .few-rings) in
       let lt : i < m = omega arith in
       let lots : i < 256 = omega (arith, kept .few-rings) in
       let wide : 4 * i + 4 ≤ length R = omega arith in
@@ -167,7 +167,7 @@ module _ (b : Bar) (cs : List Float) (n : ℕ) (rs : List Float) (m : ℕ) (kept
       let l : List ℕ = endText j in
       let h = decimal-short j in
       let long : length l ≤ 127 = omega arith in
-      let few : j + 1 < 2 ^ 64 = omega (arith, kept .few-cells, kept .few-rings) in
+      let few : j + 1 < 2 ^ 64 = omega (arith, kept .few-cells, few-lines writtenForm, kept .few-rings) in
       let y : j - 1 - n ≡ m = omega arith in
       let q : takes stopped onLine onLong (hand st []) (lineAt b cs n rs m j) ≡ hand (onLine st l) [] =
       line-taken l (lineAt b cs n rs m j) st (end-free j) refl long (last-line b cs n rs m j (λ v. omega arith) (omega arith) (omega arith) y) in

@@ -18,7 +18,7 @@ use Rattle.stock_lines.specs.declared.form.Four.the-variants.{Numbers}
 use Rattle.stock_lines.specs.declared.Reading.{Reading}
 use Rattle.stock_lines.specs.declared.form.Five.{Five}
 use Rattle.stock_lines.specs.declared.form.Five.the-variants.{Spec, NoFive}
-use Rattle.stock_lines.specs.Form.{lineOf, fourOf, fiveOf, barNumbers, stockPrefix, cellPrefix, ringPrefix, stockLine, endLine, keptCellLine}
+use Rattle.stock_lines.specs.Form.{writtenForm, lineOf, fourOf, fiveOf, barNumbers, stockPrefix, cellPrefix, ringPrefix, stockLine, endLine, keptCellLine}
 use Rattle.stock_lines.specs.Room.{kept, stored}
 use Rattle.stock_lines.specs.Reading.{State, state, next, countTo, refusing, begun, onLine}
 use Rattle.stock_lines.proofs.Forms.{NoNan}
@@ -27,7 +27,7 @@ use Rattle.stock_lines.proofs.Readings.{line-first, line-behind, begun-is, coun
 use Rattle.stock_file.specs.Read.{freshReading, stopped, fileIn}
 use Rattle.stock_file.specs.Write.{cellAt, ringAt, lineAt, linesTo, fileOf}
 use Rattle.stock_file.proofs.Lined.{first-line, cell-line, ring-line, last-line}
-use Rattle.stock_file.proofs.LineSteps.{reading}
+use Rattle.stock_file.proofs.LineSteps.{most, reading}
 use Rattle.stock_file.proofs.ReadBack.{fourAt}
 use Rattle.stock_file.proofs.Leaves.{Filled, Stays, pieces-stay}
 use Rattle.stock_file.proofs.Spelt.{parted, pieces-all, walk, went-on, Last, last-piece, next-piece}
@@ -151,18 +151,18 @@ module _ (b : Bar) (fin : State) (sound : Sound fin) where
     later : (st' : State) → walk st' (q ∷ ls) ≡ fin → Stays st' fin
     later st' k = subst (Stays st') k (pieces-stay (q ∷ ls) st')
 
-    a-cell : (x y z w : Float) → m ≡ 0 → n < 10000 → fourOf (lineOf (cellPrefix n) 4 p) ≡ Numbers x y z w
-        → onLine st p ≡ state (reading b 1 (n + 1) m (l + 1)) (stored 10000 cs n (Numbers x y z w)) rs → Rest n m l (p ∷ q ∷ ls)
+    a-cell : (x y z w : Float) → m ≡ 0 → n < most → fourOf (lineOf (cellPrefix writtenForm n) 4 p) ≡ Numbers x y z w
+        → onLine st p ≡ state (reading b 1 (n + 1) m (l + 1)) (stored most cs n (Numbers x y z w)) rs → Rest n m l (p ∷ q ∷ ls)
     a-cell x y z w em lt h k =
-        let st' : State = state (reading b 1 (n + 1) m (l + 1)) (stored 10000 cs n (Numbers x y z w)) rs in
+        let st' : State = state (reading b 1 (n + 1) m (l + 1)) (stored most cs n (Numbers x y z w)) rs in
         let e' = left st' k in
         let s = later st' e' in
         let g : n + 1 ≤ N = s .cells .grows in
         let below : n < N = omega arith in
-        let here = kept-here 10000 n N cs (fin .cells) x y z w lt below (sound .room) (s .cells) (stored-long 10000 n cs x y z w) in
+        let here = kept-here most n N cs (fin .cells) x y z w lt below (sound .room) (s .cells) (stored-long most n cs x y z w) in
         let four : fourAt (fin .cells) n ≡ x ∷ y ∷ z ∷ w ∷ [] = λ j. here .first j ∷ here .second j ∷ here .third j ∷ here .fourth j ∷ [] in
-        let t : p ++ newline ≡ keptCellLine n x y z w = cell-spelled x y z w n p (subst NoNan four (sound .cells n below)) h in
-        let u : cellAt (fin .cells) n ≡ keptCellLine n x y z w = λ j. keptCellLine n (here .first j) (here .second j) (here .third j) (here .fourth j) in
+        let t : p ++ newline ≡ keptCellLine writtenForm n x y z w = cell-spelled writtenForm x y z w n p (subst NoNan four (sound .cells n below)) h in
+        let u : cellAt (fin .cells) n ≡ keptCellLine writtenForm n x y z w = λ j. keptCellLine writtenForm n (here .first j) (here .second j) (here .third j) (here .fourth j) in
         let i : n ≡ l - 1 = omega arith in
         let v : l - 1 < N = omega arith in
         before n m (n + 1) m l p q ls (again (n + 1) m (l + 1) _ rs e' (omega arith) (omega arith))
@@ -279,16 +279,16 @@ bytes-spelled C R s sound numbers few = sym (pieces-all s) ∙ by (piecesOf s) r
     by (p ∷ q ∷ ls) e h =
         let k : walk st (p ∷ q ∷ ls) ≡ fin = ap (walk st) (sym e) in
         let n : walk (onLine st p) (q ∷ ls) ≡ fin = sym (next-piece p q ls st (ap stopped k ∙ sound .goes)) ∙ k in
-        let f : onLine st p ≡ state (begun freshReading (fiveOf (lineOf stockPrefix 5 p))) C R = line-first st p refl in
+        let f : onLine st p ≡ state (begun freshReading (fiveOf (lineOf (stockPrefix writtenForm) 5 p))) C R = line-first st p refl in
         let g : stopped (onLine st p) ≡ false = went-on (q ∷ ls) (onLine st p) (ap stopped n ∙ sound .goes) in
-        let t = told (fiveOf (lineOf stockPrefix 5 p)) freshReading (ap stopped (sym f) ∙ g) in
+        let t = told (fiveOf (lineOf (stockPrefix writtenForm) 5 p)) freshReading (ap stopped (sym f) ∙ g) in
         let b : Bar = record { «z_min_mm» = t .0; «z_max_mm» = t .1; «outer_radius_mm» = t .2; «bore_radius_mm» = t .3; «cell_mm» = t .4 } in
         let one : 1 ≡ next freshReading = omega arith in
-        let m : onLine st p ≡ state (reading b 1 0 0 1) C R = f ∙ ap (λ (r : Reading). state r C R) (sym (begun-is freshReading (fiveOf (lineOf stockPrefix 5 p)) _ _ _ _ _ 1 (t .5) one)) in
+        let m : onLine st p ≡ state (reading b 1 0 0 1) C R = f ∙ ap (λ (r : Reading). state r C R) (sym (begun-is freshReading (fiveOf (lineOf (stockPrefix writtenForm) 5 p)) _ _ _ _ _ 1 (t .5) one)) in
         let few' : 1 + length (q ∷ ls) < 2 ^ 64 = omega (arith, ap length e) in
         let r = rest b fin sound (q ∷ ls) (omega arith) 0 0 1 C R (ap (λ (x : State). walk x (q ∷ ls)) (sym m) ∙ n) refl few' in
         let o : NoNan (barNumbers b) = subst (λ (x : Bar). NoNan (barNumbers x)) (r .kept-bar) numbers in
-        let u : p ++ newline ≡ stockLine b = first-spelled (t .0) (t .1) (t .2) (t .3) (t .4) p o (t .5) in
+        let u : p ++ newline ≡ stockLine writtenForm b = first-spelled writtenForm (t .0) (t .1) (t .2) (t .3) (t .4) p o (t .5) in
         let line : ℕ → List ℕ = λ (i : ℕ). lineAt b (fin .cells) (fin .reading .cells) (fin .rings) (fin .reading .rings) i in
         sym (append-assoc p newline (parted (q ∷ ls)))
         ∙ ap (λ (x : List ℕ). x ++ parted (q ∷ ls)) (u ∙ first-line b (fin .cells) (fin .reading .cells) (fin .rings) (fin .reading .rings) 0 refl)

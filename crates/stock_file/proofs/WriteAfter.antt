@@ -18,7 +18,7 @@ use Rattle.stock_lines.specs.declared.form.Four.{Four}
 use Rattle.stock_lines.specs.declared.form.Four.the-variants.{Numbers, NoFour}
 use Rattle.stock_lines.specs.declared.room.Took.{Took}
 use Rattle.stock_lines.specs.declared.room.Took.the-variants.{Cell, Ring, End, NoLine}
-use Rattle.stock_lines.specs.Form.{lineOf, fourOf, cellPrefix, ringPrefix, endText, keptCellLine, endLine}
+use Rattle.stock_lines.specs.Form.{formOf, writtenForm, lineOf, fourOf, cellPrefix, ringPrefix, endText, keptCellLine, endLine}
 use Rattle.stock_lines.specs.Room.{kept, stored, taken, cellAt, ringAt, tookOf, ringsAfter}
 use Rattle.stock_lines.specs.Reading.{State, state, next, countTo, refusing, onwardTo, went, onBody, onLine}
 use Rattle.stock_lines.proofs.Forms.{NoNan}
@@ -27,7 +27,7 @@ use Rattle.stock_lines.proofs.Rooms.{took-cell, took-ring, took-end, took-none,
 use Rattle.stock_lines.proofs.Readings.{line-body, line-behind, count-more, count-full}
 use Rattle.stock_file.specs.Read.{stopped}
 use Rattle.stock_file.specs.Write.{lineAt}
-use Rattle.stock_file.proofs.LineSteps.{reading}
+use Rattle.stock_file.proofs.LineSteps.{most, reading}
 
 -- ---- what a line behind the first was
 
@@ -36,22 +36,22 @@ unfolding taken
 numbers (Numbers x y z w) e = (x, y, z, w, refl)
 numbers NoFour e = absurd (false≢true e)
 
--- a cell's line stands before all rings, and has an index of four digits
-pub cell-turned : (n m : ℕ) (s : List ℕ) (x y z w : Float) → cellAt n m s ≡ Numbers x y z w → (m ≡ 0) × (n < 10000) × (fourOf (lineOf (cellPrefix n) 4 s) ≡ Numbers x y z w)
+-- a cell's line stands before all rings, and has an index of the form
+pub cell-turned : (form n m : ℕ) (s : List ℕ) (x y z w : Float) → cellAt form n m s ≡ Numbers x y z w → (m ≡ 0) × (n < formOf form .most) × (fourOf (lineOf (cellPrefix form n) 4 s) ≡ Numbers x y z w)
 unfolding cellAt
-cell-turned n m s x y z w e = by (eqb m 0) refl (ltb n 10000) refl
+cell-turned form n m s x y z w e = by (eqb m 0) refl (ltb n (formOf form .most)) refl
   where
-    never : NoFour ≡ Numbers x y z w → (m ≡ 0) × (n < 10000) × (fourOf (lineOf (cellPrefix n) 4 s) ≡ Numbers x y z w)
+    never : NoFour ≡ Numbers x y z w → (m ≡ 0) × (n < formOf form .most) × (fourOf (lineOf (cellPrefix form n) 4 s) ≡ Numbers x y z w)
     never q = let z : _≡_ {A = ℕ} 0 1 = cc in absurd (omega arith)
 
-    by : (t : Bool) → eqb m 0 ≡ t → (u : Bool) → ltb n 10000 ≡ u → (m ≡ 0) × (n < 10000) × (fourOf (lineOf (cellPrefix n) 4 s) ≡ Numbers x y z w)
+    by : (t : Bool) → eqb m 0 ≡ t → (u : Bool) → ltb n (formOf form .most) ≡ u → (m ≡ 0) × (n < formOf form .most) × (fourOf (lineOf (cellPrefix form n) 4 s) ≡ Numbers x y z w)
     by true f true g = (eqb-true _ _ f, ltb-true _ _ g, sym (pick-true _ _ _ f ∙ pick-true _ _ _ g) ∙ e)
     by true f false g = never (sym (pick-true _ _ _ f ∙ pick-false _ _ _ g) ∙ e)
     by false f u g = never (sym (pick-false _ _ _ f) ∙ e)
 
 pub data Kind (b : Bar) (n m l : ℕ) (cs rs : List Float) (s : List ℕ) : Type 0 where
-  cell : (x y z w : Float) → m ≡ 0 → n < 10000 → fourOf (lineOf (cellPrefix n) 4 s) ≡ Numbers x y z w
-      → onLine (state (reading b 1 n m l) cs rs) s ≡ state (reading b 1 (n + 1) m (l + 1)) (stored 10000 cs n (Numbers x y z w)) rs → Kind b n m l cs rs s
+  cell : (x y z w : Float) → m ≡ 0 → n < most → fourOf (lineOf (cellPrefix writtenForm n) 4 s) ≡ Numbers x y z w
+      → onLine (state (reading b 1 n m l) cs rs) s ≡ state (reading b 1 (n + 1) m (l + 1)) (stored most cs n (Numbers x y z w)) rs → Kind b n m l cs rs s
   ring : (x y z w : Float) → ringAt s ≡ Numbers x y z w
       → onLine (state (reading b 1 n m l) cs rs) s ≡ state (reading b 1 n (countTo 257 m) (l + 1)) cs (stored 256 rs m (Numbers x y z w)) → Kind b n m l cs rs s
   end : s ++ newline ≡ endLine l → onLine (state (reading b 1 n m l) cs rs) s ≡ state (reading b 2 n m (l + 1)) cs rs → Kind b n m l cs rs s
@@ -64,30 +64,30 @@ module _ (b : Bar) (n m l : ℕ) (cs rs : List Float) (s : List ℕ) (few : l + 
   at : Took → List Float → List Float → State
   at t ds qs = state (went (reading b 1 n m l) t) ds qs
 
-  shown : (t : Took) (ds qs : List Float) → tookOf n m l s ≡ t → stored 10000 cs n (cellAt n m s) ≡ ds → ringsAfter n m s rs ≡ qs → onLine (state (reading b 1 n m l) cs rs) s ≡ at t ds qs
+  shown : (t : Took) (ds qs : List Float) → tookOf writtenForm n m l s ≡ t → stored most cs n (cellAt writtenForm n m s) ≡ ds → ringsAfter writtenForm n m s rs ≡ qs → onLine (state (reading b 1 n m l) cs rs) s ≡ at t ds qs
   unfolding onBody at
   shown t ds qs e f g = line-body (state (reading b 1 n m l) cs rs) s (λ z. omega arith) refl ∙ (λ i. state (went (reading b 1 n m l) (e i)) (f i) (g i))
 
   pub kind : stopped (onLine (state (reading b 1 n m l) cs rs) s) ≡ false → Kind b n m l cs rs s
   unfolding at went refusing
-  kind h = by (taken (cellAt n m s)) refl (taken (ringAt s)) refl (sameBytes s (endText l)) refl
+  kind h = by (taken (cellAt writtenForm n m s)) refl (taken (ringAt s)) refl (sameBytes s (endText l)) refl
     where
-      by : (t : Bool) → taken (cellAt n m s) ≡ t → (u : Bool) → taken (ringAt s) ≡ u → (v : Bool) → sameBytes s (endText l) ≡ v → Kind b n m l cs rs s
+      by : (t : Bool) → taken (cellAt writtenForm n m s) ≡ t → (u : Bool) → taken (ringAt s) ≡ u → (v : Bool) → sameBytes s (endText l) ≡ v → Kind b n m l cs rs s
       by true e u f v g =
-          let k = numbers (cellAt n m s) e in
-          let c = cell-turned n m s (k .0) (k .1) (k .2) (k .3) (k .4) in
+          let k = numbers (cellAt writtenForm n m s) e in
+          let c = cell-turned writtenForm n m s (k .0) (k .1) (k .2) (k .3) (k .4) in
           cell (k .0) (k .1) (k .2) (k .3) (c .0) (c .1) (c .2)
-          (shown Cell (stored 10000 cs n (Numbers (k .0) (k .1) (k .2) (k .3))) rs (sym (took-cell n m s l e)) (ap (stored 10000 cs n) (k .4)) (sym (rings-cell n m s rs e))
-          ∙ ap (λ (r : Reading). state r (stored 10000 cs n (Numbers (k .0) (k .1) (k .2) (k .3))) rs) (onto 1 (countTo 10000 n) m ∙ ap (λ (i : ℕ). reading b 1 i m (l + 1)) (sym (count-more 10000 n (c .1)))))
+          (shown Cell (stored most cs n (Numbers (k .0) (k .1) (k .2) (k .3))) rs (sym (took-cell writtenForm n m s l e)) (ap (stored most cs n) (k .4)) (sym (rings-cell writtenForm n m s rs e))
+          ∙ ap (λ (r : Reading). state r (stored most cs n (Numbers (k .0) (k .1) (k .2) (k .3))) rs) (onto 1 (countTo most n) m ∙ ap (λ (i : ℕ). reading b 1 i m (l + 1)) (sym (count-more most n (c .1)))))
       by false e true f v g =
           let k = numbers (ringAt s) f in
           ring (k .0) (k .1) (k .2) (k .3) (k .4)
-          (shown Ring cs (stored 256 rs m (Numbers (k .0) (k .1) (k .2) (k .3))) (sym (took-ring n m s l e f)) (stored-other 10000 cs n (cellAt n m s) e) (sym (rings-other n m s rs e) ∙ ap (stored 256 rs m) (k .4))
+          (shown Ring cs (stored 256 rs m (Numbers (k .0) (k .1) (k .2) (k .3))) (sym (took-ring writtenForm n m s l e f)) (stored-other most cs n (cellAt writtenForm n m s) e) (sym (rings-other writtenForm n m s rs e) ∙ ap (stored 256 rs m) (k .4))
           ∙ ap (λ (r : Reading). state r cs (stored 256 rs m (Numbers (k .0) (k .1) (k .2) (k .3)))) (onto 1 n (countTo 257 m)))
       by false e false f true g =
           end (end-spelled l s g)
-          (shown End cs rs (sym (took-end n m s l e f g)) (stored-other 10000 cs n (cellAt n m s) e) (sym (rings-other n m s rs e) ∙ stored-other 256 rs m (ringAt s) f)
+          (shown End cs rs (sym (took-end writtenForm n m s l e f g)) (stored-other most cs n (cellAt writtenForm n m s) e) (sym (rings-other writtenForm n m s rs e) ∙ stored-other 256 rs m (ringAt s) f)
           ∙ ap (λ (r : Reading). state r cs rs) (onto 2 n m))
       by false e false f false g =
-          let q = shown NoLine cs rs (sym (took-none n m s l e f g)) (stored-other 10000 cs n (cellAt n m s) e) (sym (rings-other n m s rs e) ∙ stored-other 256 rs m (ringAt s) f) in
+          let q = shown NoLine cs rs (sym (took-none writtenForm n m s l e f g)) (stored-other most cs n (cellAt writtenForm n m s) e) (sym (rings-other writtenForm n m s rs e) ∙ stored-other 256 rs m (ringAt s) f) in
           absurd (true≢false (ap stopped (sym q) ∙ h))

@@ -31,6 +31,7 @@ abbrev pub freshReading : Reading
 freshReading =
     record {
       stage = 0;
+      form = 0;
       bar = record { «z_min_mm» = zero64; «z_max_mm» = zero64; «outer_radius_mm» = zero64; «bore_radius_mm» = zero64; «cell_mm» = zero64 };
       cells = 0;
       rings = 0;

@@ -17,7 +17,7 @@ use Rattle.stock.specs.Cell.{stockOf, newOf}
 use Rattle.rings.specs.Store.{barRing, countFits, ringRoom}
 use Rattle.text.specs.Lines.{ringLine}
 use Rattle.stock_lines.specs.declared.Bar.{Bar}
-use Rattle.stock_lines.specs.Form.{stockLine, keptCellLine, endLine}
+use Rattle.stock_lines.specs.Form.{writtenForm, stockLine, keptCellLine, endLine}
 use Rattle.stock_file.specs.declared.written.Lines.{Lines}
 use Rattle.stock_file.specs.declared.written.Lines.the-variants as lines
 use Rattle.stock_file.specs.declared.written.Spelled.{Spelled}
@@ -31,7 +31,7 @@ barOf spec =
 
 -- the lines of a cell and of a ring
 abbrev pub cellAt : List Float → ℕ → List ℕ
-cellAt cs i = keptCellLine i (getD cs (4 * i) nan) (getD cs (4 * i + 1) nan) (getD cs (4 * i + 2) nan) (getD cs (4 * i + 3) nan)
+cellAt cs i = keptCellLine writtenForm i (getD cs (4 * i) nan) (getD cs (4 * i + 1) nan) (getD cs (4 * i + 2) nan) (getD cs (4 * i + 3) nan)
 
 abbrev pub ringAt : List Float → ℕ → List ℕ
 ringAt rs i = ringLine (getD rs (4 * i) nan) (getD rs (4 * i + 1) nan) (getD rs (4 * i + 2) nan) (getD rs (4 * i + 3) nan)
@@ -42,7 +42,7 @@ lineBehind cs n rs m i = pick (ltb i n) (cellAt cs i) (pick (ltb (i - n) m) (rin
 
 -- line k
 unfoldable pub lineAt : Bar → List Float → ℕ → List Float → ℕ → ℕ → List ℕ
-lineAt b cs n rs m k = pick (eqb k 0) (stockLine b) (lineBehind cs n rs m (k - 1))
+lineAt b cs n rs m k = pick (eqb k 0) (stockLine writtenForm b) (lineBehind cs n rs m (k - 1))
 
 -- the first k lines
 unfoldable pub linesTo : (ℕ → List ℕ) → ℕ → List ℕ

@@ -46,6 +46,7 @@ pub fn fresh() -> Reading
 {
     Reading {
         stage: 0,
+        form: 0,
         bar: Bar {
             z_min_mm: 0.0,
             z_max_mm: 0.0,

@@ -1,5 +1,5 @@
 -- Each kind of line: read after write, write after read, and no two lines for the same numbers. Assumes nothing.
-use Prim.Native.Nat.{ℕ, zero, suc, _+_, _-_, _*_, _≤_, _<_}
+use Prim.Native.Nat.{ℕ, zero, suc, _+_, _-_, _*_, _^_, _≤_, _<_}
 use native.Mathlib.Omega.{arith}
 use mathlib.Core.Path.{_≡_, refl, sym, ap, _∙_, subst}
 use mathlib.Core.Bool.{Bool, true, false, not}
@@ -21,7 +21,7 @@ use Rattle.stock_lines.specs.declared.form.Four.the-variants.{Numbers, N
 use Rattle.stock_lines.specs.declared.form.Five.{Five}
 use Rattle.stock_lines.specs.declared.form.Five.the-variants.{Spec, NoFive}
 use Rattle.text.specs.Hex.{hexAt, fieldOf}
-use Rattle.stock_lines.specs.Form.{Line, holds, other, fieldsOf, lineOf, fieldsText, stockPrefix, cellPrefix, ringPrefix, endText, stockLine, keptCellLine, endLine, fourOf, fiveOf}
+use Rattle.stock_lines.specs.Form.{Line, holds, other, formOf, fieldsOf, lineOf, fieldsText, stockPrefix, cellPrefix, ringPrefix, endText, stockLine, keptCellLine, endLine, fourOf, fiveOf}
 use Rattle.text.proofs.Compare.{same-self, same-true}
 use Rattle.stock_lines.proofs.Forms.{Keeps, NoNan, Parted, line-parted, line-back, line-spelled, fields-count, fields-then}
 
@@ -114,21 +114,22 @@ five-holds p s a b c d h e = by (lineOf p 5 s) refl
 abbrev bar : Float → Float → Float → Float → Float → Bar
 bar a b c d h = record { «z_min_mm» = a; «z_max_mm» = b; «outer_radius_mm» = c; «bore_radius_mm» = d; «cell_mm» = h }
 
-module _ (a b c d : Float) where
-  pub cell-reads : (i : ℕ) (s : List ℕ) → Keeps (a ∷ b ∷ c ∷ d ∷ []) → s ++ newline ≡ keptCellLine i a b c d → fourOf (lineOf (cellPrefix i) 4 s) ≡ Numbers a b c d
+module _ (form : ℕ) (a b c d : Float) where
+  pub cell-reads : (i : ℕ) (s : List ℕ) → Keeps (a ∷ b ∷ c ∷ d ∷ []) → s ++ newline ≡ keptCellLine form i a b c d → fourOf (lineOf (cellPrefix form i) 4 s) ≡ Numbers a b c d
   unfolding keptCellLine fourOf
-  cell-reads i s k e = ap fourOf (reads (cellPrefix i) s (a ∷ b ∷ c ∷ d ∷ []) k e)
+  cell-reads i s k e = ap fourOf (reads (cellPrefix form i) s (a ∷ b ∷ c ∷ d ∷ []) k e)
 
-  pub cell-spelled : (i : ℕ) (s : List ℕ) → NoNan (a ∷ b ∷ c ∷ d ∷ []) → fourOf (lineOf (cellPrefix i) 4 s) ≡ Numbers a b c d → s ++ newline ≡ keptCellLine i a b c d
+  pub cell-spelled : (i : ℕ) (s : List ℕ) → NoNan (a ∷ b ∷ c ∷ d ∷ []) → fourOf (lineOf (cellPrefix form i) 4 s) ≡ Numbers a b c d → s ++ newline ≡ keptCellLine form i a b c d
   unfolding keptCellLine
-  cell-spelled i s n e = spells (cellPrefix i) 4 s (a ∷ b ∷ c ∷ d ∷ []) n (four-holds (cellPrefix i) s a b c d e)
+  cell-spelled i s n e = spells (cellPrefix form i) 4 s (a ∷ b ∷ c ∷ d ∷ []) n (four-holds (cellPrefix form i) s a b c d e)
 
   pub cell-unique : (i : ℕ) (s t : List ℕ) → NoNan (a ∷ b ∷ c ∷ d ∷ [])
-      → fourOf (lineOf (cellPrefix i) 4 s) ≡ Numbers a b c d → fourOf (lineOf (cellPrefix i) 4 t) ≡ Numbers a b c d → s ≡ t
+      → fourOf (lineOf (cellPrefix form i) 4 s) ≡ Numbers a b c d → fourOf (lineOf (cellPrefix form i) 4 t) ≡ Numbers a b c d → s ≡ t
   cell-unique i s t n e f = same-before s t (cell-spelled i s n e ∙ sym (cell-spelled i t n f))
 
-  -- ---- a ring's line, which is a job's
+-- ---- a ring's line, which is a job's
 
+module _ (a b c d : Float) where
   pub ring-reads : (s : List ℕ) → Keeps (a ∷ b ∷ c ∷ d ∷ []) → s ++ newline ≡ ringLine a b c d → fourOf (lineOf ringPrefix 4 s) ≡ Numbers a b c d
   unfolding ringLine fieldsText fourOf
   ring-reads s k e = ap fourOf (reads ringPrefix s (a ∷ b ∷ c ∷ d ∷ []) k e)
@@ -141,18 +142,19 @@ module _ (a b c d : Float) where
       → fourOf (lineOf ringPrefix 4 s) ≡ Numbers a b c d → fourOf (lineOf ringPrefix 4 t) ≡ Numbers a b c d → s ≡ t
   ring-unique s t n e f = same-before s t (ring-spelled s n e ∙ sym (ring-spelled t n f))
 
-  -- ---- the first line
+-- ---- the first line
 
-  pub first-reads : (h : Float) (s : List ℕ) → Keeps (a ∷ b ∷ c ∷ d ∷ h ∷ []) → s ++ newline ≡ stockLine (bar a b c d h) → fiveOf (lineOf stockPrefix 5 s) ≡ Spec a b c d h
+module _ (form : ℕ) (a b c d : Float) where
+  pub first-reads : (h : Float) (s : List ℕ) → Keeps (a ∷ b ∷ c ∷ d ∷ h ∷ []) → s ++ newline ≡ stockLine form (bar a b c d h) → fiveOf (lineOf (stockPrefix form) 5 s) ≡ Spec a b c d h
   unfolding stockLine fiveOf
-  first-reads h s k e = ap fiveOf (reads stockPrefix s (a ∷ b ∷ c ∷ d ∷ h ∷ []) k e)
+  first-reads h s k e = ap fiveOf (reads (stockPrefix form) s (a ∷ b ∷ c ∷ d ∷ h ∷ []) k e)
 
-  pub first-spelled : (h : Float) (s : List ℕ) → NoNan (a ∷ b ∷ c ∷ d ∷ h ∷ []) → fiveOf (lineOf stockPrefix 5 s) ≡ Spec a b c d h → s ++ newline ≡ stockLine (bar a b c d h)
+  pub first-spelled : (h : Float) (s : List ℕ) → NoNan (a ∷ b ∷ c ∷ d ∷ h ∷ []) → fiveOf (lineOf (stockPrefix form) 5 s) ≡ Spec a b c d h → s ++ newline ≡ stockLine form (bar a b c d h)
   unfolding stockLine
-  first-spelled h s n e = spells stockPrefix 5 s (a ∷ b ∷ c ∷ d ∷ h ∷ []) n (five-holds stockPrefix s a b c d h e)
+  first-spelled h s n e = spells (stockPrefix form) 5 s (a ∷ b ∷ c ∷ d ∷ h ∷ []) n (five-holds (stockPrefix form) s a b c d h e)
 
   pub first-unique : (h : Float) (s t : List ℕ) → NoNan (a ∷ b ∷ c ∷ d ∷ h ∷ [])
-      → fiveOf (lineOf stockPrefix 5 s) ≡ Spec a b c d h → fiveOf (lineOf stockPrefix 5 t) ≡ Spec a b c d h → s ≡ t
+      → fiveOf (lineOf (stockPrefix form) 5 s) ≡ Spec a b c d h → fiveOf (lineOf (stockPrefix form) 5 t) ≡ Spec a b c d h → s ≡ t
   first-unique h s t n e f = same-before s t (first-spelled h s n e ∙ sym (first-spelled h t n f))
 
 -- ---- the last line
@@ -174,14 +176,14 @@ end-count n m s h k e f =
 -- ---- what a line tells besides
 
 -- a cell's line is of one index
-pub cell-index : (i j k l : ℕ) (s : List ℕ) (xs ys : List Float) → i < 10000 → j < 10000
-    → lineOf (cellPrefix i) k s ≡ holds xs → lineOf (cellPrefix j) l s ≡ holds ys → i ≡ j
-cell-index i j k l s xs ys h g e f =
-    let u : take (length (cellPrefix i)) s ≡ cellPrefix i = line-parted (cellPrefix i) k s xs e .front in
-    let v : take (length (cellPrefix j)) s ≡ cellPrefix j = line-parted (cellPrefix j) l s ys f .front in
-    let n : length (cellPrefix i) ≡ length (cellPrefix j) = ap (λ (y : ℕ). suc (suc (suc (suc (suc y))))) (digits-length 10 4 i ∙ sym (digits-length 10 4 j)) in
-    let w : cellPrefix i ≡ cellPrefix j = sym u ∙ ap (λ (y : ℕ). take y s) n ∙ v in
-    digits-distinct 10 4 i j (omega arith) (omega arith) h g (ap (drop 5) w)
+pub cell-index : (form i j k l : ℕ) (s : List ℕ) (xs ys : List Float) → i < 10 ^ formOf form .digits → j < 10 ^ formOf form .digits
+    → lineOf (cellPrefix form i) k s ≡ holds xs → lineOf (cellPrefix form j) l s ≡ holds ys → i ≡ j
+cell-index form i j k l s xs ys h g e f =
+    let u : take (length (cellPrefix form i)) s ≡ cellPrefix form i = line-parted (cellPrefix form i) k s xs e .front in
+    let v : take (length (cellPrefix form j)) s ≡ cellPrefix form j = line-parted (cellPrefix form j) l s ys f .front in
+    let n : length (cellPrefix form i) ≡ length (cellPrefix form j) = ap (λ (y : ℕ). suc (suc (suc (suc (suc y))))) (digits-length 10 (formOf form .digits) i ∙ sym (digits-length 10 (formOf form .digits) j)) in
+    let w : cellPrefix form i ≡ cellPrefix form j = sym u ∙ ap (λ (y : ℕ). take y s) n ∙ v in
+    digits-distinct 10 (formOf form .digits) i j (omega arith) (omega arith) h g (ap (drop 5) w)
 
 -- the first byte tells the kind: `s`, `c`, `r` and `e` are four
 pub first-byte : (b : ℕ) (p : List ℕ) (k : ℕ) (s : List ℕ) (xs : List Float) → lineOf (b ∷ p) k s ≡ holds xs → getD s 0 0 ≡ b

@@ -8,12 +8,11 @@ use lib.Ieee.{Float}
 use borrow.Author.Tests.{lt-ltb, le-ltb, eq-eqb, ne-eqb}
 use Rattle.floats.specs.Pick.{pick, pick-true, pick-false}
 use Rattle.stock_lines.specs.declared.Reading.{Reading}
-use Rattle.stock_lines.specs.Form.{lineOf, fiveOf, stockPrefix}
+use Rattle.stock_lines.specs.Form.{formOf, writtenForm, lineOf, fiveOf, stockPrefix}
 use Rattle.stock_lines.specs.declared.form.Five.{Five}
 use Rattle.stock_lines.specs.declared.form.Five.the-variants.{Spec, NoFive}
 use Rattle.stock_lines.specs.declared.room.Took.{Took}
 use Rattle.stock_lines.specs.declared.room.Took.the-variants.{Cell, Ring, End, NoLine}
-use Rattle.stock_lines.specs.Form.{mostCells}
 use Rattle.stock_lines.specs.Room.{stored, cellAt, tookOf, ringsAfter}
 use Rattle.stock_lines.specs.Reading.{State, state, next, ringCount, countTo, refusing, begun, onwardTo, went, onBody, onLine}
 
@@ -28,12 +27,12 @@ count-full limit n h = sym (pick-false _ _ _ (le-ltb _ _ h))
 -- ---- a reading, moved on
 
 pub refused-is : (r : Reading) (l : ℕ) → l ≡ next r
-    → _≡_ {A = Reading} (record { stage = r .stage; bar = r .bar; cells = r .cells; rings = r .rings; lines = l; refused = true }) (refusing r)
+    → _≡_ {A = Reading} (record { stage = r .stage; form = r .form; bar = r .bar; cells = r .cells; rings = r .rings; lines = l; refused = true }) (refusing r)
 unfolding refusing
 refused-is r l e = rw e
 
 pub onward-is : (r : Reading) (stage n m l : ℕ) → l ≡ next r
-    → _≡_ {A = Reading} (record { stage = stage; bar = r .bar; cells = n; rings = m; lines = l; refused = false }) (onwardTo r stage n m)
+    → _≡_ {A = Reading} (record { stage = stage; form = r .form; bar = r .bar; cells = n; rings = m; lines = l; refused = false }) (onwardTo r stage n m)
 unfolding onwardTo
 onward-is r stage n m l e = rw e
 
@@ -42,12 +41,12 @@ unfolding begun
 begun-none r f e = sym (ap (begun r) e)
 
 pub begun-is : (r : Reading) (f : Five) (a b c d h : Float) (l : ℕ) → f ≡ Spec a b c d h → l ≡ next r
-    → _≡_ {A = Reading} (record { stage = 1; bar = record { «z_min_mm» = a; «z_max_mm» = b; «outer_radius_mm» = c; «bore_radius_mm» = d; «cell_mm» = h }; cells = r .cells; rings = r .rings; lines = l; refused = false }) (begun r f)
+    → _≡_ {A = Reading} (record { stage = 1; form = writtenForm; bar = record { «z_min_mm» = a; «z_max_mm» = b; «outer_radius_mm» = c; «bore_radius_mm» = d; «cell_mm» = h }; cells = r .cells; rings = r .rings; lines = l; refused = false }) (begun r f)
 unfolding begun
 begun-is r f a b c d h l e q = rw (e, q)
 
 module _ (r : Reading) (t : Took) where
-  pub went-cell : (n : ℕ) → t ≡ Cell → n ≡ countTo mostCells (r .cells) → onwardTo r 1 n (r .rings) ≡ went r t
+  pub went-cell : (n : ℕ) → t ≡ Cell → n ≡ countTo (formOf (r .form) .most) (r .cells) → onwardTo r 1 n (r .rings) ≡ went r t
   unfolding went
   went-cell n e q = rw (e, q)
 
@@ -66,13 +65,13 @@ module _ (r : Reading) (t : Took) where
 -- ---- the next line
 
 -- the two answers of a line behind the first, and the room
-pub body-is : (r q : Reading) (t : Took) (cs cs' rs rs' : List Float) (s : List ℕ) → t ≡ tookOf (r .cells) (r .rings) (r .lines) s → q ≡ went r t
-    → cs' ≡ stored mostCells cs (r .cells) (cellAt (r .cells) (r .rings) s) → rs' ≡ ringsAfter (r .cells) (r .rings) s rs → state q cs' rs' ≡ onBody (state r cs rs) s
+pub body-is : (r q : Reading) (t : Took) (cs cs' rs rs' : List Float) (s : List ℕ) → t ≡ tookOf (r .form) (r .cells) (r .rings) (r .lines) s → q ≡ went r t
+    → cs' ≡ stored (formOf (r .form) .most) cs (r .cells) (cellAt (r .form) (r .cells) (r .rings) s) → rs' ≡ ringsAfter (r .form) (r .cells) (r .rings) s rs → state q cs' rs' ≡ onBody (state r cs rs) s
 unfolding onBody
 body-is r q t cs cs' rs rs' s e f g h = rw (f, e, g, h)
 
 module _ (st : State) (s : List ℕ) where
-  pub line-first : st .reading .stage ≡ 0 → onLine st s ≡ state (begun (st .reading) (fiveOf (lineOf stockPrefix 5 s))) (st .cells) (st .rings)
+  pub line-first : st .reading .stage ≡ 0 → onLine st s ≡ state (begun (st .reading) (fiveOf (lineOf (stockPrefix writtenForm) 5 s))) (st .cells) (st .rings)
   unfolding onLine
   line-first e = pick-true _ _ _ (eq-eqb _ _ e)
 

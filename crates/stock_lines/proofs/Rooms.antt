@@ -15,7 +15,7 @@ use Rattle.stock_lines.specs.declared.form.Four.{Four}
 use Rattle.stock_lines.specs.declared.form.Four.the-variants.{Numbers, NoFour}
 use Rattle.stock_lines.specs.declared.room.Took.{Took}
 use Rattle.stock_lines.specs.declared.room.Took.the-variants.{Cell, Ring, End, NoLine}
-use Rattle.stock_lines.specs.Form.{lineOf, fourOf, cellPrefix, endText}
+use Rattle.stock_lines.specs.Form.{formOf, lineOf, fourOf, cellPrefix, endText}
 use Rattle.stock_lines.specs.Room.{kept, taken, stored, cellAt, ringAt, tookOf, ringsAfter}
 
 module _ (limit : ℕ) (l : List Float) (k : ℕ) where
@@ -63,56 +63,56 @@ pub taken-none : (f : Four) → f ≡ NoFour → false ≡ taken f
 unfolding taken
 taken-none f e = sym (ap taken e)
 
-module _ (n m : ℕ) (s : List ℕ) where
-  pub cell-turn : m ≡ 0 → n < 10000 → fourOf (lineOf (cellPrefix n) 4 s) ≡ cellAt n m s
+module _ (form n m : ℕ) (s : List ℕ) where
+  pub cell-turn : m ≡ 0 → n < formOf form .most → fourOf (lineOf (cellPrefix form n) 4 s) ≡ cellAt form n m s
   unfolding cellAt
   cell-turn e h = sym (pick-true _ _ _ (eq-eqb _ _ e) ∙ pick-true _ _ _ (lt-ltb _ _ h))
 
-  pub cell-over : m ≡ 0 → 10000 ≤ n → NoFour ≡ cellAt n m s
+  pub cell-over : m ≡ 0 → formOf form .most ≤ n → NoFour ≡ cellAt form n m s
   unfolding cellAt
   cell-over e h = sym (pick-true _ _ _ (eq-eqb _ _ e) ∙ pick-false _ _ _ (le-ltb _ _ h))
 
-  pub cell-after-ring : (m ≡ 0 → ⊥) → NoFour ≡ cellAt n m s
+  pub cell-after-ring : (m ≡ 0 → ⊥) → NoFour ≡ cellAt form n m s
   unfolding cellAt
   cell-after-ring e = sym (pick-false _ _ _ (ne-eqb _ _ e))
 
-  pub took-cell : (b : ℕ) → taken (cellAt n m s) ≡ true → Cell ≡ tookOf n m b s
+  pub took-cell : (b : ℕ) → taken (cellAt form n m s) ≡ true → Cell ≡ tookOf form n m b s
   unfolding tookOf
   took-cell b e = sym (pick-true _ _ _ e)
 
-  pub took-ring : (b : ℕ) → taken (cellAt n m s) ≡ false → taken (ringAt s) ≡ true → Ring ≡ tookOf n m b s
+  pub took-ring : (b : ℕ) → taken (cellAt form n m s) ≡ false → taken (ringAt s) ≡ true → Ring ≡ tookOf form n m b s
   unfolding tookOf
   took-ring b e f = sym (pick-false _ _ _ e ∙ pick-true _ _ _ f)
 
-  pub took-end : (b : ℕ) → taken (cellAt n m s) ≡ false → taken (ringAt s) ≡ false → sameBytes s (endText b) ≡ true → End ≡ tookOf n m b s
+  pub took-end : (b : ℕ) → taken (cellAt form n m s) ≡ false → taken (ringAt s) ≡ false → sameBytes s (endText b) ≡ true → End ≡ tookOf form n m b s
   unfolding tookOf
   took-end b e f g = sym (pick-false _ _ _ e ∙ pick-false _ _ _ f ∙ pick-true _ _ _ g)
 
-  pub took-none : (b : ℕ) → taken (cellAt n m s) ≡ false → taken (ringAt s) ≡ false → sameBytes s (endText b) ≡ false → NoLine ≡ tookOf n m b s
+  pub took-none : (b : ℕ) → taken (cellAt form n m s) ≡ false → taken (ringAt s) ≡ false → sameBytes s (endText b) ≡ false → NoLine ≡ tookOf form n m b s
   unfolding tookOf
   took-none b e f g = sym (pick-false _ _ _ e ∙ pick-false _ _ _ f ∙ pick-false _ _ _ g)
 
-  pub rings-cell : (l : List Float) → taken (cellAt n m s) ≡ true → l ≡ ringsAfter n m s l
+  pub rings-cell : (l : List Float) → taken (cellAt form n m s) ≡ true → l ≡ ringsAfter form n m s l
   unfolding ringsAfter
   rings-cell l e = sym (pick-true _ _ _ e)
 
-  pub rings-other : (l : List Float) → taken (cellAt n m s) ≡ false → stored 256 l m (ringAt s) ≡ ringsAfter n m s l
+  pub rings-other : (l : List Float) → taken (cellAt form n m s) ≡ false → stored 256 l m (ringAt s) ≡ ringsAfter form n m s l
   unfolding ringsAfter
   rings-other l e = sym (pick-false _ _ _ e)
 
   -- a line that is not of the form leaves the cells
-  pub refused-cells : (b : ℕ) (l : List Float) → tookOf n m b s ≡ NoLine → stored 10000 l n (cellAt n m s) ≡ l
-  refused-cells b l e = by (taken (cellAt n m s)) refl
+  pub refused-cells : (b : ℕ) (l : List Float) → tookOf form n m b s ≡ NoLine → stored (formOf form .most) l n (cellAt form n m s) ≡ l
+  refused-cells b l e = by (taken (cellAt form n m s)) refl
     where
-      by : (t : Bool) → taken (cellAt n m s) ≡ t → stored 10000 l n (cellAt n m s) ≡ l
-      by false f = stored-other 10000 l n (cellAt n m s) f
+      by : (t : Bool) → taken (cellAt form n m s) ≡ t → stored (formOf form .most) l n (cellAt form n m s) ≡ l
+      by false f = stored-other (formOf form .most) l n (cellAt form n m s) f
       by true f = let g : Cell ≡ NoLine = took-cell b f ∙ e in let z : _≡_ {A = ℕ} 0 1 = cc in absurd (omega arith)
 
   -- and the rings
-  pub refused-rings : (b : ℕ) (l : List Float) → tookOf n m b s ≡ NoLine → ringsAfter n m s l ≡ l
-  refused-rings b l e = by (taken (cellAt n m s)) refl (taken (ringAt s)) refl
+  pub refused-rings : (b : ℕ) (l : List Float) → tookOf form n m b s ≡ NoLine → ringsAfter form n m s l ≡ l
+  refused-rings b l e = by (taken (cellAt form n m s)) refl (taken (ringAt s)) refl
     where
-      by : (t : Bool) → taken (cellAt n m s) ≡ t → (u : Bool) → taken (ringAt s) ≡ u → ringsAfter n m s l ≡ l
+      by : (t : Bool) → taken (cellAt form n m s) ≡ t → (u : Bool) → taken (ringAt s) ≡ u → ringsAfter form n m s l ≡ l
       by true f u g = sym (rings-cell l f)
       by false f true g = let h : Ring ≡ NoLine = took-ring b f g ∙ e in let z : _≡_ {A = ℕ} 0 1 = cc in absurd (omega arith)
       by false f false g = sym (rings-other l f) ∙ stored-other 256 l m (ringAt s) g

@@ -9,16 +9,17 @@ use lib.Ieee.{Float}
 use lib.ListN.{length, take, drop, getD, drop-of-length-le}
 use lib.Seq.{drop-drop, getD-drop, sets-eq, take-append-seam}
 use borrow.Author.Tests.{eqb-true, eq-eqb, ne-eqb}
+use Rattle.refusals.specs.Limits.{cellLimit}
 use Rattle.floats.specs.Pick.{pick, pick-true, pick-false}
 use Rattle.text.specs.Same.{sameBytes}
 use Rattle.text.specs.Digits.{digits, decimalOf}
-use Rattle.text.specs.Wrote.{Wrote, Put, WroteLine}
+use Rattle.text.specs.Wrote.{lineRoom, Wrote, Put, WroteLine}
 use Rattle.text.proofs.Sets.{room, and-then, put-wrote}
 use Rattle.text.proofs.Spelling.{digits-length, decimal-short}
 use Rattle.text.specs.declared.sixteen.Hex.{Hex}
 use Rattle.text.specs.declared.sixteen.Hex.the-variants.{Of, NoHex}
 use Rattle.text.specs.Hex.{hexAt, fieldOf}
-use Rattle.stock_lines.specs.Form.{Line, holds, other, withFirst, fieldsOf, beginsWith, lineOf, cellPrefix, endText}
+use Rattle.stock_lines.specs.Form.{Line, holds, other, withFirst, fieldsOf, formOf, writtenForm, beginsWith, lineOf, stockPrefix, cellPrefix, endText}
 use Rattle.stock_lines.proofs.Forms.{Parted, line-parted, line-long}
 use Rattle.text.proofs.Compare.{same-self}
 
@@ -80,26 +81,35 @@ line-begins-not p n k s q e = by (lineOf p k s) refl
 
 -- ---- a prefix put into a buffer
 
-pub cell-long : (i : ℕ) → length (cellPrefix i) ≡ 9
-cell-long i = ap (λ (n : ℕ). suc (suc (suc (suc (suc n))))) (digits-length 10 4 i)
+-- an index has few digits
+pub few-digits : (form : ℕ) → formOf form .digits ≤ 5
+unfolding formOf
+few-digits form = omega arith
 
--- `cell` and an index
-pub cell-put : {l m o : List ℕ} {e f : ℕ} (i : ℕ) → Put l 0 (99 ∷ 101 ∷ 108 ∷ 108 ∷ 9 ∷ []) m e → Put m e (digits 10 4 i) o f → WroteLine l (cellPrefix i) o f
-cell-put i p q =
-    let u = put-wrote 5 refl (omega arith) p in
-    let w = put-wrote 4 (digits-length 10 4 i) (omega (arith, u .end)) q in
-    record { wrote = and-then u w; within = omega (arith, u .end, w .end, digits-length 10 4 i) }
+-- cell lines are counted far below 2^64
+pub few-lines : (form : ℕ) → formOf form .most ≤ 100000
+unfolding formOf
+few-lines form = omega arith
 
--- `end` and a count: there is room for a newline behind it
-pub record WroteEnd (l line m : List ℕ) (r : ℕ) : Type 0 where
-  pub wrote : Wrote l 0 line m r
-  pub within : r ≤ 127
+-- each cell of a stock has its line
+pub each-cell : cellLimit ≤ formOf writtenForm .most
+unfolding formOf
+each-cell = omega arith
 
-pub end-put : {l m o : List ℕ} {e f : ℕ} (n : ℕ) → Put l 0 (101 ∷ 110 ∷ 100 ∷ 9 ∷ []) m e → Put m e (decimalOf n) o f → WroteEnd l (endText n) o f
-end-put n p q =
-    let h = decimal-short n in
-    let u = put-wrote 4 refl (omega arith) p in
-    let w = put-wrote _ refl (omega (arith, u .end)) q in
+pub stock-long : (form : ℕ) → length (stockPrefix form) ≡ 7
+stock-long form = ap (λ (n : ℕ). suc (suc (suc (suc (suc (suc n)))))) (digits-length 10 1 form)
+
+pub cell-short : (form i : ℕ) → length (cellPrefix form i) ≤ 10
+cell-short form i = omega (arith, digits-length 10 (formOf form .digits) i, few-digits form)
+
+pub end-short : (n : ℕ) → length (endText n) ≤ 24
+end-short n = omega (arith, decimal-short n)
+
+-- some bytes, and then others
+pub then-put : {l m o : List ℕ} {e f : ℕ} (p t : List ℕ) → length p + length t ≤ lineRoom → Put l 0 p m e → Put m e t o f → WroteLine l (p ++ t) o f
+then-put p t h a b =
+    let u = put-wrote (length p) refl (omega arith) a in
+    let w = put-wrote (length t) refl (omega (arith, u .end)) b in
     record { wrote = and-then u w; within = omega (arith, u .end, w .end) }
 
 -- ---- a text at the front of a buffer
@@ -110,8 +120,13 @@ wrote-front {l} {m} {t} {j} w h =
     let e : j ≡ length t = omega (arith, w .end) in
     ap (λ (n : ℕ). take n m) e ∙ ap (take (length t)) (w .text ∙ sets-eq t l 0 f) ∙ take-append-seam t (drop (0 + length t) l)
 
-pub wrote-fits : {l m t : List ℕ} {j : ℕ} → Wrote l 0 t m j → j ≤ length l → j ≤ length m
-wrote-fits w h = omega (arith, room w)
+-- a line at the front of a line's buffer
+module _ {l m t : List ℕ} {j : ℕ} (long : length l ≡ lineRoom) (w : WroteLine l t m j) where
+  pub line-front : take j m ≡ t
+  line-front = wrote-front (w .wrote) (omega (arith, w .within))
 
-pub wrote-length : {l m t : List ℕ} {j : ℕ} → Wrote l 0 t m j → j ≤ length l → j ≡ length (take j m)
-wrote-length {l} {m} {t} {j} w h = omega (arith, w .end, ap length (wrote-front w h))
+  pub line-fits : j ≤ length m
+  line-fits = omega (arith, room (w .wrote), w .within)
+
+  pub line-length : j ≡ length (take j m)
+  line-length = omega (arith, w .wrote .end, ap length line-front)

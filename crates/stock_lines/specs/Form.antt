@@ -13,6 +13,7 @@ use Rattle.text.specs.Hex.{fieldOf}
 use Rattle.text.specs.declared.sixteen.Hex.{Hex}
 use Rattle.text.specs.declared.sixteen.Hex.the-variants.{Of, NoHex}
 use Rattle.stock_lines.specs.declared.Bar.{Bar}
+use Rattle.stock_lines.specs.declared.form.Form.{Form}
 use Rattle.stock_lines.specs.declared.form.Four.{Four}
 use Rattle.stock_lines.specs.declared.form.Four.the-variants.{Numbers, NoFour}
 use Rattle.stock_lines.specs.declared.form.Five.{Five}
@@ -48,20 +49,21 @@ unfoldable pub fieldsText : List Float → List ℕ → List ℕ
 fieldsText [] t = t
 fieldsText (x ∷ xs) t = (9 ∷ hexOf x) ++ fieldsText xs t
 
--- `stock` and the form's number
-abbrev pub stockPrefix : List ℕ
-stockPrefix = 115 ∷ 116 ∷ 111 ∷ 99 ∷ 107 ∷ 9 ∷ 49 ∷ []
+-- The forms by their number: the digits of an index, and how many cell lines there are at most. There is one form.
+unfoldable pub formOf : ℕ → Form
+formOf k = record { digits = 4; most = 10000 }
 
--- an index has so many digits, and so there are at most so many cells
-abbrev pub indexDigits : ℕ
-indexDigits = 4
+-- the form that is written, and that is read
+abbrev pub writtenForm : ℕ
+writtenForm = 1
 
-abbrev pub mostCells : ℕ
-mostCells = 10000
+-- `stock` and the form's number, in one digit
+abbrev pub stockPrefix : ℕ → List ℕ
+stockPrefix k = 115 ∷ 116 ∷ 111 ∷ 99 ∷ 107 ∷ 9 ∷ digits 10 1 k
 
--- `cell` and the index
-abbrev pub cellPrefix : ℕ → List ℕ
-cellPrefix i = 99 ∷ 101 ∷ 108 ∷ 108 ∷ 9 ∷ digits 10 indexDigits i
+-- `cell` and the index, in the digits of form k
+abbrev pub cellPrefix : ℕ → ℕ → List ℕ
+cellPrefix k i = 99 ∷ 101 ∷ 108 ∷ 108 ∷ 9 ∷ digits 10 (formOf k .digits) i
 
 abbrev pub ringPrefix : List ℕ
 ringPrefix = 114 ∷ 105 ∷ 110 ∷ 103 ∷ []
@@ -74,12 +76,12 @@ endText n = 101 ∷ 110 ∷ 100 ∷ 9 ∷ decimalOf n
 abbrev pub barNumbers : Bar → List Float
 barNumbers b = b .«z_min_mm» ∷ b .«z_max_mm» ∷ b .«outer_radius_mm» ∷ b .«bore_radius_mm» ∷ b .«cell_mm» ∷ []
 
--- the writer's lines
-unfoldable pub stockLine : Bar → List ℕ
-stockLine b = stockPrefix ++ fieldsText (barNumbers b) newline
+-- the writer's lines, in form k
+unfoldable pub stockLine : ℕ → Bar → List ℕ
+stockLine k b = stockPrefix k ++ fieldsText (barNumbers b) newline
 
-unfoldable pub keptCellLine : ℕ → Float → Float → Float → Float → List ℕ
-keptCellLine i a b c d = cellPrefix i ++ fieldsText (a ∷ b ∷ c ∷ d ∷ []) newline
+unfoldable pub keptCellLine : ℕ → ℕ → Float → Float → Float → Float → List ℕ
+keptCellLine k i a b c d = cellPrefix k i ++ fieldsText (a ∷ b ∷ c ∷ d ∷ []) newline
 
 unfoldable pub endLine : ℕ → List ℕ
 endLine n = endText n ++ newline

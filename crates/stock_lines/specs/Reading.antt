@@ -13,7 +13,7 @@ use Rattle.stock_lines.specs.declared.form.Five.{Five}
 use Rattle.stock_lines.specs.declared.form.Five.the-variants.{Spec, NoFive}
 use Rattle.stock_lines.specs.declared.room.Took.{Took}
 use Rattle.stock_lines.specs.declared.room.Took.the-variants.{Cell, Ring, End, NoLine}
-use Rattle.stock_lines.specs.Form.{lineOf, fiveOf, stockPrefix, mostCells}
+use Rattle.stock_lines.specs.Form.{formOf, writtenForm, lineOf, fiveOf, stockPrefix}
 use Rattle.stock_lines.specs.Room.{stored, cellAt, tookOf, ringsAfter}
 
 -- a reading with the lent room of its cells and its rings
@@ -39,13 +39,14 @@ countTo limit n = pick (ltb n limit) (n + 1) n
 
 -- the next line is not of the form
 unfoldable pub refusing : Reading → Reading
-refusing r = record { stage = r .stage; bar = r .bar; cells = r .cells; rings = r .rings; lines = next r; refused = true }
+refusing r = record { stage = r .stage; form = r .form; bar = r .bar; cells = r .cells; rings = r .rings; lines = next r; refused = true }
 
 -- the first line
 unfoldable pub begun : Reading → Five → Reading
 begun r (Spec a b c d e) =
     record {
       stage = 1;
+      form = writtenForm;
       bar = record { «z_min_mm» = a; «z_max_mm» = b; «outer_radius_mm» = c; «bore_radius_mm» = d; «cell_mm» = e };
       cells = r .cells;
       rings = r .rings;
@@ -56,11 +57,11 @@ begun r NoFive = refusing r
 
 -- one line more behind the first, with what is known now
 unfoldable pub onwardTo : Reading → ℕ → ℕ → ℕ → Reading
-onwardTo r stage n m = record { stage = stage; bar = r .bar; cells = n; rings = m; lines = next r; refused = false }
+onwardTo r stage n m = record { stage = stage; form = r .form; bar = r .bar; cells = n; rings = m; lines = next r; refused = false }
 
 -- a line behind the first
 unfoldable pub went : Reading → Took → Reading
-went r Cell = onwardTo r 1 (countTo mostCells (r .cells)) (r .rings)
+went r Cell = onwardTo r 1 (countTo (formOf (r .form) .most) (r .cells)) (r .rings)
 went r Ring = onwardTo r 1 (r .cells) (countTo ringCount (r .rings))
 went r End = onwardTo r 2 (r .cells) (r .rings)
 went r NoLine = refusing r
@@ -69,12 +70,13 @@ went r NoLine = refusing r
 unfoldable pub onBody : State → List ℕ → State
 onBody st s =
     let r = st .reading in
-    state (went r (tookOf (r .cells) (r .rings) (r .lines) s)) (stored mostCells (st .cells) (r .cells) (cellAt (r .cells) (r .rings) s)) (ringsAfter (r .cells) (r .rings) s (st .rings))
+    let k = r .form in
+    state (went r (tookOf k (r .cells) (r .rings) (r .lines) s)) (stored (formOf k .most) (st .cells) (r .cells) (cellAt k (r .cells) (r .rings) s)) (ringsAfter k (r .cells) (r .rings) s (st .rings))
 
 -- the next line: the first, one behind it, or one behind `end`
 unfoldable pub onLine : State → List ℕ → State
 onLine st s =
-    pick (eqb (st .reading .stage) 0) (state (begun (st .reading) (fiveOf (lineOf stockPrefix 5 s))) (st .cells) (st .rings))
+    pick (eqb (st .reading .stage) 0) (state (begun (st .reading) (fiveOf (lineOf (stockPrefix writtenForm) 5 s))) (st .cells) (st .rings))
     (pick (eqb (st .reading .stage) 1) (onBody st s)
     (state (refusing (st .reading)) (st .cells) (st .rings)))
 

@@ -9,7 +9,7 @@ use lib.Ieee.{Float}
 use Rattle.floats.specs.Pick.{pick}
 use Rattle.text.specs.Same.{sameBytes}
 use Rattle.refusals.specs.Limits.{ringLimit}
-use Rattle.stock_lines.specs.Form.{mostCells, lineOf, fourOf, cellPrefix, ringPrefix, endText}
+use Rattle.stock_lines.specs.Form.{formOf, lineOf, fourOf, cellPrefix, ringPrefix, endText}
 use Rattle.stock_lines.specs.declared.form.Four.{Four}
 use Rattle.stock_lines.specs.declared.form.Four.the-variants.{Numbers, NoFour}
 use Rattle.stock_lines.specs.declared.room.Took.{Took}
@@ -29,18 +29,18 @@ unfoldable pub stored : ℕ → List Float → ℕ → Four → List Float
 stored limit l k (Numbers a b c d) = kept limit l k (a ∷ b ∷ c ∷ d ∷ [])
 stored limit l k NoFour = l
 
--- a cell's line in its turn: the index n, before all rings
-unfoldable pub cellAt : ℕ → ℕ → List ℕ → Four
-cellAt n m s = pick (eqb m 0) (pick (ltb n mostCells) (fourOf (lineOf (cellPrefix n) 4 s)) NoFour) NoFour
+-- a cell's line of form k in its turn: the index n, before all rings
+unfoldable pub cellAt : ℕ → ℕ → ℕ → List ℕ → Four
+cellAt k n m s = pick (eqb m 0) (pick (ltb n (formOf k .most)) (fourOf (lineOf (cellPrefix k n) 4 s)) NoFour) NoFour
 
 abbrev pub ringAt : List ℕ → Four
 ringAt s = fourOf (lineOf ringPrefix 4 s)
 
--- what the line is, after n cell lines, m ring lines and so many lines in all
-unfoldable pub tookOf : ℕ → ℕ → ℕ → List ℕ → Took
-tookOf n m before s =
-    pick (taken (cellAt n m s)) Cell (pick (taken (ringAt s)) Ring (pick (sameBytes s (endText before)) End NoLine))
+-- what the line is in form k, after n cell lines, m ring lines and so many lines in all
+unfoldable pub tookOf : ℕ → ℕ → ℕ → ℕ → List ℕ → Took
+tookOf k n m before s =
+    pick (taken (cellAt k n m s)) Cell (pick (taken (ringAt s)) Ring (pick (sameBytes s (endText before)) End NoLine))
 
 -- the rings after the line
-unfoldable pub ringsAfter : ℕ → ℕ → List ℕ → List Float → List Float
-ringsAfter n m s l = pick (taken (cellAt n m s)) l (stored ringLimit l m (ringAt s))
+unfoldable pub ringsAfter : ℕ → ℕ → ℕ → List ℕ → List Float → List Float
+ringsAfter k n m s l = pick (taken (cellAt k n m s)) l (stored ringLimit l m (ringAt s))

@@ -3,8 +3,29 @@ ghost use mathlib.Core.Path.{_≡_};
 ghost use Prim.Native.Nat.{_+_, _<_};
 ghost use lib.ListN.{length, drop};
 ghost use Rattle.text.specs.Same.{sameBytes};
-ghost use Rattle.stock_lines.specs.Form.{fieldsOf, beginsWith, lineOf, fourOf, fiveOf, stockPrefix, cellPrefix, ringPrefix, endText};
+ghost use Rattle.text.specs.Wrote.{WritesLine};
+ghost use Rattle.stock_lines.specs.Form.{formOf, writtenForm, fieldsOf, beginsWith, lineOf, fourOf, fiveOf, stockPrefix, cellPrefix, ringPrefix, endText};
 use text::Hex;
+use text::LINE_ROOM;
+
+// What a form fixes: the digits of a cell's index, and how many cell lines there are at most.
+pub struct Form {
+    pub digits: usize,
+    pub most: usize,
+}
+
+// The form that is written, and that is read.
+pub const WRITTEN_FORM: u64 = 1;
+
+// The form of a number. There is one; four digits have no index after 9999.
+pub fn form_of(number: u64) -> Form
+    ensures { λ r. ⌜ r ≡ formOf number ⌝ }
+{
+    Form {
+        digits: 4,
+        most: 10000,
+    }
+}
 
 // The numbers of a cell or of a ring.
 pub enum Four {
@@ -91,23 +112,48 @@ pub fn read_ring_line(line: &[u8]) -> Four
     read_four(line, b"ring")
 }
 
-// The line of the cell at index, without its newline.
-pub fn read_cell_line(line: &[u8], index: u64) -> Four
-    ensures { λ r. ⌜ r ≡ fourOf (lineOf (cellPrefix index) 4 (now (line .entry))) ⌝ }
+// `stock` and the form's number.
+pub fn put_stock(out: &mut [u8; LINE_ROOM], form: u64) -> usize
+    ensures { λ r. ⌜ WritesLine out (stockPrefix form) r ⌝ }
 {
-    let mut p = [0; 128];
-    let e = text::put(&mut p, 0, b"cell\t");
-    let n = text::put_digits(&mut p, e, 4, index);
+    let e = text::put(out, 0, b"stock\t");
+    text::put_digits(out, e, 1, form)
+}
+
+// `cell` and the index.
+pub fn put_cell(out: &mut [u8; LINE_ROOM], form: u64, index: u64) -> usize
+    ensures { λ r. ⌜ WritesLine out (cellPrefix form index) r ⌝ }
+{
+    let f = form_of(form);
+    let e = text::put(out, 0, b"cell\t");
+    text::put_digits(out, e, f.digits, index)
+}
+
+// `end` and the count of the lines before it.
+pub fn put_end(out: &mut [u8; LINE_ROOM], count: u64) -> usize
+    ensures { λ r. ⌜ WritesLine out (endText count) r ⌝ }
+{
+    let e = text::put(out, 0, b"end\t");
+    text::put_decimal(out, e, count)
+}
+
+// The line of the cell at index, without its newline.
+pub fn read_cell_line(line: &[u8], form: u64, index: u64) -> Four
+    ensures { λ r. ⌜ r ≡ fourOf (lineOf (cellPrefix form index) 4 (now (line .entry))) ⌝ }
+{
+    let mut p = [0; LINE_ROOM];
+    let n = put_cell(&mut p, form, index);
     read_four(line, &p[..n])
 }
 
 // The first line, without its newline.
 pub fn read_first_line(line: &[u8]) -> Five
-    ensures { λ r. ⌜ r ≡ fiveOf (lineOf stockPrefix 5 (now (line .entry))) ⌝ }
+    ensures { λ r. ⌜ r ≡ fiveOf (lineOf (stockPrefix writtenForm) 5 (now (line .entry))) ⌝ }
 {
-    let prefix = b"stock\t1";
-    if begins(line, prefix, 85) {
-        return five_from(line, 7);
+    let mut p = [0; LINE_ROOM];
+    let n = put_stock(&mut p, WRITTEN_FORM);
+    if begins(line, &p[..n], 85) {
+        return five_from(line, n);
     }
     Five::NoFive
 }
@@ -116,8 +162,7 @@ pub fn read_first_line(line: &[u8]) -> Five
 pub fn is_end_line(line: &[u8], count: u64) -> bool
     ensures { λ r. ⌜ r ≡ sameBytes (now (line .entry)) (endText count) ⌝ }
 {
-    let mut p = [0; 128];
-    let e = text::put(&mut p, 0, b"end\t");
-    let n = text::put_decimal(&mut p, e, count);
+    let mut p = [0; LINE_ROOM];
+    let n = put_end(&mut p, count);
     text::same(line, &p[..n])
 }

@@ -8,11 +8,11 @@ mod room;
 
 ghost use mathlib.Core.Path.{_≡_};
 ghost use Rattle.text.specs.Wrote.{WritesLine};
-ghost use Rattle.stock_lines.specs.Form.{stockLine, keptCellLine, endLine};
+ghost use Rattle.stock_lines.specs.Form.{writtenForm, stockLine, keptCellLine, endLine};
 ghost use Rattle.stock_lines.specs.Reading.{countTo, refusing, begun, onwardTo, went, onLine, stateFound, stateLeft};
 use form::Five;
+use form::WRITTEN_FORM;
 use refusals::RING_LIMIT;
-use room::CELL_LINES;
 use room::Took;
 use text::LINE_ROOM;
 
@@ -25,11 +25,13 @@ pub struct Bar {
     pub cell_mm: f64,
 }
 
-// A file read so far: what its next line may be, its bar, how many of its lines were cells' and how
+// A file read so far: what its next line may be, its form, its bar, how many of its lines were cells' and how
 // many rings', counted to 257, how many there were in all, and whether the last of them was refused.
 pub struct Reading {
     // 0 before the first line, 1 behind it, and any other number behind `end`
     pub stage: u64,
+    // 0 before the first line, and then the form's number
+    pub form: u64,
     pub bar: Bar,
     pub cells: usize,
     pub rings: usize,
@@ -57,6 +59,7 @@ pub fn refuse(reading: Reading) -> Reading
     let bar = reading.bar;
     Reading {
         stage: reading.stage,
+        form: reading.form,
         bar,
         cells: reading.cells,
         rings: reading.rings,
@@ -73,6 +76,7 @@ fn begin(reading: Reading, five: Five) -> Reading
         Five::NoFive => refuse(reading),
         Five::Spec(a, b, c, d, e) => Reading {
             stage: 1,
+            form: WRITTEN_FORM,
             bar: Bar {
                 z_min_mm: a,
                 z_max_mm: b,
@@ -95,6 +99,7 @@ fn onward(reading: Reading, stage: u64, cells: usize, rings: usize) -> Reading
     let bar = reading.bar;
     Reading {
         stage,
+        form: reading.form,
         bar,
         cells,
         rings,
@@ -107,10 +112,11 @@ fn onward(reading: Reading, stage: u64, cells: usize, rings: usize) -> Reading
 fn go_on(reading: Reading, took: Took) -> Reading
     ensures { λ r. ⌜ r ≡ went reading took ⌝ }
 {
+    let f = form::form_of(reading.form);
     let n = reading.cells;
     let m = reading.rings;
     match took {
-        Took::Cell => onward(reading, 1, count_to(CELL_LINES, n), m),
+        Took::Cell => onward(reading, 1, count_to(f.most, n), m),
         Took::Ring => onward(reading, 1, n, count_to(RING_COUNT, m)),
         Took::End => onward(reading, 2, n, m),
         Took::NoLine => refuse(reading),
@@ -128,6 +134,7 @@ pub fn take_line(reading: Reading, line: &[u8], cells: &mut [f64], rings: &mut [
     if reading.stage == 1 {
         let took = room::store_line(
             line,
+            reading.form,
             reading.cells,
             reading.rings,
             reading.lines,
@@ -141,9 +148,9 @@ pub fn take_line(reading: Reading, line: &[u8], cells: &mut [f64], rings: &mut [
 
 // The first line of a file: the form's number, and the bar.
 pub fn stock_line(out: &mut [u8; LINE_ROOM], bar: Bar) -> usize
-    ensures { λ r. ⌜ WritesLine out (stockLine bar) r ⌝ }
+    ensures { λ r. ⌜ WritesLine out (stockLine writtenForm bar) r ⌝ }
 {
-    let e = text::put(out, 0, b"stock\t1");
+    let e = form::put_stock(out, WRITTEN_FORM);
     let f = text::put_hex(out, e, bar.z_min_mm);
     text::put_four(
         out,
@@ -155,20 +162,18 @@ pub fn stock_line(out: &mut [u8; LINE_ROOM], bar: Bar) -> usize
     )
 }
 
-// A cell, its index in four digits.
+// A cell, with its index.
 pub fn kept_cell_line(out: &mut [u8; LINE_ROOM], i: u64, a: f64, b: f64, c: f64, d: f64) -> usize
-    ensures { λ r. ⌜ WritesLine out (keptCellLine i a b c d) r ⌝ }
+    ensures { λ r. ⌜ WritesLine out (keptCellLine writtenForm i a b c d) r ⌝ }
 {
-    let e = text::put(out, 0, b"cell\t");
-    let f = text::put_digits(out, e, 4, i);
-    text::put_four(out, f, a, b, c, d)
+    let e = form::put_cell(out, WRITTEN_FORM, i);
+    text::put_four(out, e, a, b, c, d)
 }
 
 // The last line of a file, after so many lines.
 pub fn end_line(out: &mut [u8; LINE_ROOM], n: u64) -> usize
     ensures { λ r. ⌜ WritesLine out (endLine n) r ⌝ }
 {
-    let e = text::put(out, 0, b"end\t");
-    let f = text::put_decimal(out, e, n);
-    text::put(out, f, b"\n")
+    let e = form::put_end(out, n);
+    text::put(out, e, b"\n")
 }

@@ -1,14 +1,11 @@
 // A line behind the first, its numbers stored in the lent room as far as that reaches.
 ghost use mathlib.Core.Path.{_≡_};
 ghost use mathlib.Core.List.{_∷_, []};
-ghost use Rattle.stock_lines.specs.Form.{mostCells};
+ghost use Rattle.stock_lines.specs.Form.{formOf};
 ghost use Rattle.stock_lines.specs.Room.{kept, stored, taken, cellAt, tookOf, ringsAfter};
 use crate::form;
 use crate::form::Four;
 use refusals::RING_LIMIT;
-
-// By form there are so many cell lines at most: four digits have no index after 9999.
-pub const CELL_LINES: usize = 10000;
 
 // What a line behind the first was.
 pub enum Took {
@@ -48,32 +45,42 @@ fn store(list: &mut [f64], limit: usize, k: usize, four: Four) -> bool
 }
 
 // The line of the cell at n after m rings: no cell's line stands after a ring's.
-fn cell_in_turn(line: &[u8], n: usize, m: usize) -> Four
-    ensures { λ r. ⌜ r ≡ cellAt n m (now (line .entry)) ⌝ }
+fn cell_in_turn(line: &[u8], form: u64, n: usize, m: usize) -> Four
+    ensures { λ r. ⌜ r ≡ cellAt form n m (now (line .entry)) ⌝ }
 {
+    let f = form::form_of(form);
     if m == 0 {
-        if n < CELL_LINES {
-            return form::read_cell_line(line, n as u64);
+        if n < f.most {
+            return form::read_cell_line(line, form, n as u64);
         }
     }
     Four::NoFour
 }
 
-// One line behind the first, after n cell lines and m ring lines, of `before` lines in all.
+// Whether a line is the cell's at n after m rings; its numbers are stored.
+fn store_cell(cells: &mut [f64], line: &[u8], form: u64, n: usize, m: usize) -> bool
+    ensures { λ r. ⌜ r ≡ taken (cellAt form n m (now (line .entry))) ⌝ }
+    ensures { λ r. ⌜ now (cells .exit) ≡ stored (formOf form .most) (now (cells .entry)) n (cellAt form n m (now (line .entry))) ⌝ }
+{
+    let f = form::form_of(form);
+    store(cells, f.most, n, cell_in_turn(line, form, n, m))
+}
+
+// One line behind the first of a file of this form, after n cell lines and m ring lines, of `before` lines in all.
 pub fn store_line(
     line: &[u8],
+    form: u64,
     n: usize,
     m: usize,
     before: u64,
     cells: &mut [f64],
     rings: &mut [f64],
 ) -> Took
-    ensures { λ r. ⌜ r ≡ tookOf n m before (now (line .entry)) ⌝ }
-    ensures { λ r. ⌜ now (cells .exit) ≡ stored mostCells (now (cells .entry)) n (cellAt n m (now (line .entry))) ⌝ }
-    ensures { λ r. ⌜ now (rings .exit) ≡ ringsAfter n m (now (line .entry)) (now (rings .entry)) ⌝ }
+    ensures { λ r. ⌜ r ≡ tookOf form n m before (now (line .entry)) ⌝ }
+    ensures { λ r. ⌜ now (cells .exit) ≡ stored (formOf form .most) (now (cells .entry)) n (cellAt form n m (now (line .entry))) ⌝ }
+    ensures { λ r. ⌜ now (rings .exit) ≡ ringsAfter form n m (now (line .entry)) (now (rings .entry)) ⌝ }
 {
-    let cell = cell_in_turn(line, n, m);
-    if store(cells, CELL_LINES, n, cell) {
+    if store_cell(cells, line, form, n, m) {
         return Took::Cell;
     }
     let ring = form::read_ring_line(line);
