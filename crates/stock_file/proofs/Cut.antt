@@ -41,13 +41,13 @@ byte-few j b w = by (stopped (j .job)) refl (eqb b 10) refl (ltb (length (j .hel
     by false e false f true g = let r : length (j .held) < 127 = ltb-true _ _ g in simp (e, f, g, no, yes) (omega (arith, r, length-append (j .held) (b ∷ [])))
     by false e false f false g = simp (e, f, g, no) (omega arith)
 
-takes-few : (s : List ℕ) (j : Hand State) → length (j .held) ≤ 127 → length (takes stopped onLine onLong j s .held) ≤ 127
+pub takes-few : (s : List ℕ) (j : Hand State) → length (j .held) ≤ 127 → length (takes stopped onLine onLong j s .held) ≤ 127
 unfolding takes
 takes-few [] j w = w
 takes-few (b ∷ s) j w = takes-few s (byteOn stopped onLine onLong j b) (byte-few j b w)
 
 -- what is held over is found again
-found-again : (h l : List ℕ) (n : ℕ) → length h ≤ 127 → n ≡ length h → heldIn n (over h l) ≡ h
+pub found-again : (h l : List ℕ) (n : ℕ) → length h ≤ 127 → n ≡ length h → heldIn n (over h l) ≡ h
 unfolding over
 found-again h l n w e =
     ap (λ (k : ℕ). take (min k 127) (h ++ drop (length h) l)) e
@@ -67,7 +67,7 @@ took-parts (part {reading} {len} {cells} {rings} {line} {p = p} {ps = ps} {r = r
 
 -- ---- the end
 
-end-is : (r : Reading) (cs rs : List Float) (h : List ℕ) → state (ended r (length h)) cs rs ≡ file.ended stopped onLong onEnd (state r cs rs) h
+pub end-is : (r : Reading) (cs rs : List Float) (h : List ℕ) → state (ended r (length h)) cs rs ≡ file.ended stopped onLong onEnd (state r cs rs) h
 unfolding ended file.ended
 end-is r cs rs h = by (r .refused) refl (eqb (length h) 0) refl (ltb (r .stage) 2) refl
   where

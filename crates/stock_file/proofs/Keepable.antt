@@ -39,7 +39,7 @@ minus-is : minusZero (ofBits binary64 0x8000000000000000) ≡ true
 unfolding minusZero ofBits ofFields odd
 minus-is = refl
 
-plus : (x : Float) → T (fits binary64 x) → T (not (minusZero x)) → toBits binary64 x ≡ 0x8000000000000000 → ⊥
+pub plus : (x : Float) → T (fits binary64 x) → T (not (minusZero x)) → toBits binary64 x ≡ 0x8000000000000000 → ⊥
 plus x h u = plus-bits x h (λ e. let q : minusZero x ≡ true = ap minusZero e ∙ minus-is in subst (λ (t : Bool). T (not t)) q u)
 
 pub holds : {t : Bool} → t ≡ true → T t

@@ -14,3 +14,5 @@ pub mod Spelt
 pub mod WriteAfter
 pub mod Rewritten
 pub mod Tells
+pub mod AnyBar
+pub mod Exactly

@@ -50,7 +50,7 @@ pieces-all (b ∷ s) = by (eqb b 10) refl (pieces-all s)
 abbrev pub walk : State → List (List ℕ) → State
 walk st ls = overPieces stopped onLine onLong onEnd st ls
 
-stopped-walk : (ls : List (List ℕ)) (st : State) → stopped st ≡ true → walk st ls ≡ st
+pub stopped-walk : (ls : List (List ℕ)) (st : State) → stopped st ≡ true → walk st ls ≡ st
 unfolding overPieces lineOn ended
 stopped-walk [] st e = refl
 stopped-walk (l ∷ []) st e = pick-true _ _ _ e
