@@ -9,6 +9,7 @@ pub mod bench;
 pub mod call;
 pub mod count;
 pub mod far;
+pub mod files;
 pub mod generate;
 pub mod guess;
 pub mod jobs;

@@ -55,6 +55,14 @@ pub mod c {
             state: *const [u64; 8], cells: *const [f64; 2048], rings: *const [f64; 256], k: usize,
             out: *mut [u8; 128], len: Size
         );
+        turning_read_part(
+            state: *mut [u64; 8], bar: *mut [f64; 5], cells: Out, cells_len: usize, rings: Out, rings_len: usize,
+            line: *mut [u8; 128], bytes: *const u8, bytes_len: usize
+        );
+        turning_read_end(
+            state: *const [u64; 8], bar: *const [f64; 5], max_cells: usize, cells: In, cells_len: usize, rings: In,
+            rings_len: usize, n: Size, rings_count: Size, line: Size
+        );
         turning_segments(
             points: In, points_len: usize, tolerance: f64, segments: Out, segments_len: usize, count: Size
         );
@@ -117,6 +125,13 @@ pub mod c {
         );
         turning_envelope_at(
             cells: In, cells_len: usize, z: f64, found: *mut u32, bore_lower: Out, outer_upper: Out
+        );
+        turning_stock_lines(
+            cells: In, cells_len: usize, rings: In, rings_len: usize, rings_count: usize, lines: Size
+        );
+        turning_stock_line(
+            cells: In, cells_len: usize, rings: In, rings_len: usize, rings_count: usize, k: usize,
+            line: *mut [u8; 128], len: Size
         );
     }
 }

@@ -1,9 +1,9 @@
 //! compare whole [SECONDS] [SEED] [PROGRAM..]
 //! compare FAMILY|all [COUNT] [SEED] | thousandths [STEP] | far|arcs [COUNT] [SEED] | record [COUNT] [SEED] [FAMILY] | bench [WORD] [PICTURE]
 //! compare stack [COUNT] [SEED]
-//! compare jobs [COUNT] [SEED] PROGRAM [WORD..] | job | job_bench PROGRAM [WORD..] | parts_bench
-use compare::generate::{FAMILIES, JOB_PARTS, SEQUENCE};
-use compare::{arcs, bench, far, jobs, record, run, stack, whole};
+//! compare jobs [COUNT] [SEED] PROGRAM [WORD..] | job | job_bench PROGRAM [WORD..] | parts_bench | files_bench
+use compare::generate::{FAMILIES, FILE, JOB_PARTS, SEQUENCE};
+use compare::{arcs, bench, far, files, jobs, record, run, stack, whole};
 use std::io::{Read, Write};
 use std::process::ExitCode;
 
@@ -32,7 +32,8 @@ fn usage() -> ExitCode {
     eprintln!("compare job                     the job on standard input, over the Rust");
     eprintln!("compare job_bench PROGRAM..     times a job program beside the Rust");
     eprintln!("compare parts_bench             times a job in parts, through the C calls");
-    let families = FAMILIES.iter().chain([&SEQUENCE, &JOB_PARTS]);
+    eprintln!("compare files_bench             times stock files beside a plain reader and writer");
+    let families = FAMILIES.iter().chain([&SEQUENCE, &JOB_PARTS, &FILE]);
     let names = families.map(|(name, count)| format!("{name} ({count})"));
     let names: Vec<String> = names.collect();
     eprintln!("families: {}", names.join(", "));
@@ -56,6 +57,10 @@ fn main() -> ExitCode {
     }
     if name == "parts_bench" {
         jobs::parts_bench();
+        return ExitCode::SUCCESS;
+    }
+    if name == "files_bench" {
+        files::bench::bench();
         return ExitCode::SUCCESS;
     }
     if name == "bench" {
@@ -91,7 +96,7 @@ fn main() -> ExitCode {
         let differences = jobs::compare(&words[3..], count as usize, seed);
         return ExitCode::from((differences > 0) as u8);
     }
-    let mut families = FAMILIES.iter().chain([&SEQUENCE, &JOB_PARTS]);
+    let mut families = FAMILIES.iter().chain([&SEQUENCE, &JOB_PARTS, &FILE]);
     let family = families.find(|(family, ..)| family == name);
     let default = match (name.as_str(), family) {
         (_, Some((_, count))) => *count as u64,
@@ -135,7 +140,7 @@ fn main() -> ExitCode {
         }
         "all" => {
             let mut differences = 0;
-            for (family, default) in FAMILIES.iter().chain([&SEQUENCE, &JOB_PARTS]) {
+            for (family, default) in FAMILIES.iter().chain([&SEQUENCE, &JOB_PARTS, &FILE]) {
                 differences += run::family(family, default / 100 * count, seed);
             }
             return ExitCode::from((differences > 0) as u8);

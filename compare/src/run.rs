@@ -1,7 +1,8 @@
 //! Runs a family: every call of it by the oracle and by the library.
 use crate::call::{Call, Outcome};
 use crate::count::Counts;
-use crate::generate::{self, JOB_PARTS, Rng, SEQUENCE};
+use crate::files::Files;
+use crate::generate::{self, FILE, JOB_PARTS, Rng, SEQUENCE};
 use crate::guess::{Guess, guess};
 use crate::jobs::Parts;
 use crate::memory::Memory;
@@ -35,6 +36,9 @@ pub fn source(name: &str, seed: u64) -> Box<dyn Source> {
     }
     if name == JOB_PARTS.0 {
         return Box::new(Parts::new(seed));
+    }
+    if name == FILE.0 {
+        return Box::new(Files::new(seed));
     }
     Box::new(Calls {
         name: name.into(),

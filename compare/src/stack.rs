@@ -1,5 +1,6 @@
 //! How much stack each call needs: a thread's stack is painted, and where the paint is gone after calls of every kind tells.
 //! What is counted begins in the caller, so that it is never less than what the call itself takes.
+use crate::files;
 use crate::generate::{FAMILIES, Rng, family};
 use crate::jobs::parts;
 use crate::memory::Memory;
@@ -53,7 +54,7 @@ pub fn needs(call: &Call) -> usize {
     })
 }
 
-/// The most of each call, over COUNT calls of each family and COUNT jobs from the seed, and every call at a limit.
+/// The most of each call, over COUNT calls of each family, COUNT jobs and COUNT stock files from the seed, and every call at a limit.
 pub fn most(count: usize, seed: u64) -> BTreeMap<&'static str, usize> {
     let measure = move || {
         let mut most = BTreeMap::new();
@@ -67,7 +68,8 @@ pub fn most(count: usize, seed: u64) -> BTreeMap<&'static str, usize> {
             let (make, mut rng) = (family(name).expect("a family"), Rng::new(seed));
             (0..count).for_each(|_| add(make(&mut rng)));
         }
-        for (name, bytes) in parts::stack(count, seed) {
+        let files = files::run::stack(count, seed);
+        for (name, bytes) in parts::stack(count, seed).into_iter().chain(files) {
             let entry = most.entry(name).or_insert(0);
             *entry = bytes.max(*entry);
         }

@@ -13,7 +13,7 @@ use std::thread;
 use std::time::{Duration, Instant};
 
 /// What part of the time each takes, in hundredths.
-const SHARES: [(&str, u64); 23] = [
+const SHARES: [(&str, u64); 24] = [
     ("root", 3),
     ("length", 4),
     ("stock", 4),
@@ -36,6 +36,7 @@ const SHARES: [(&str, u64); 23] = [
     ("sequence", 8),
     ("jobs", 5),
     ("job_parts", 3),
+    ("file", 3),
     ("far", 3),
 ];
 

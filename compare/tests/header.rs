@@ -252,7 +252,7 @@ fn the_archive_is_of_this_header() {
     let number: u32 = number.split_whitespace().next().unwrap().parse().unwrap();
     // SAFETY: it takes nothing.
     assert_eq!(unsafe { compare::library::c::turning_header() }, number);
-    assert_eq!(number, 2);
+    assert_eq!(number, 3);
     assert_eq!(header()[NO_CALL], ("uint32_t".to_string(), vec![]));
 }
 
@@ -266,9 +266,9 @@ fn the_library_is_called_as_the_header_declares() {
     assert_eq!(library(), header());
 }
 
-/// The calls of a job that src/jobs/parts.rs makes.
-fn called_in_parts() -> Vec<String> {
-    let text = read("compare/src/jobs/parts.rs");
+/// The calls that a file makes: those of a job src/jobs/parts.rs, those of a stock file src/files/run.rs.
+fn called_in(file: &str) -> Vec<String> {
+    let text = read(file);
     let calls = lists(&text).into_iter();
     calls
         .map(|(_, name, ..)| name.strip_prefix("turning_").unwrap().to_string())
@@ -282,7 +282,8 @@ fn every_call_is_compared() {
         let (make, mut rng) = (family(name).unwrap(), Rng::new(1));
         made.extend((0..100).map(|_| make(&mut rng).name().to_string()));
     }
-    made.extend(called_in_parts());
+    made.extend(called_in("compare/src/jobs/parts.rs"));
+    made.extend(called_in("compare/src/files/run.rs"));
     assert_eq!(made, declared());
 }
 
@@ -292,7 +293,7 @@ fn every_call_is_timed() {
     // jobs are timed in parts, by the calls that parts.rs makes
     let parts = read("compare/src/jobs/bench.rs");
     if parts.contains("answered(input.as_bytes().chunks(size))") {
-        timed.extend(called_in_parts());
+        timed.extend(called_in("compare/src/jobs/parts.rs"));
     }
     assert_eq!(timed, declared());
 }

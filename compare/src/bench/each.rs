@@ -12,7 +12,7 @@ type Row = (
 );
 
 #[rustfmt::skip]
-const EACH: [Row; 31] = [
+const EACH: [Row; 35] = [
     ("root", "1,024 of shop size", 1024, sides::root),
     ("length", "1,024 of shop size", 1024, sides::length),
     ("validate", "4,096 bins", 4096, sides::validate),
@@ -44,6 +44,10 @@ const EACH: [Row; 31] = [
     ("penetration", "64-point insert, 1,024 points that rise", 1024, sides::penetration),
     ("penetration", "4-point insert, 16 points that rise", 16, sides::penetration),
     ("eroded", "1,024 points that rise", 1024, sides::eroded),
+    ("read_part", "and `read_end`, a file of 4,096 cells and 256 rings", 4096, sides::read_file),
+    ("read_end", "4,096 cells and 256 rings", 4096, sides::read_end),
+    ("stock_lines", "4,096 cells and 256 rings", 4096, sides::stock_lines),
+    ("stock_line", "every line of 4,096 cells and 256 rings, with `stock_lines`", 4096, sides::stock_line),
 ];
 
 /// The names of the calls that the table has.

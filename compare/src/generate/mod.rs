@@ -107,5 +107,8 @@ pub const FAMILIES: [(&str, usize); 19] = [
 /// Sequences of calls on one stock.
 pub const SEQUENCE: (&str, usize) = ("sequence", 20_000);
 
+/// Stock files, read in parts and written line by line.
+pub const FILE: (&str, usize) = ("file", 1_000_000);
+
 /// Jobs handed over in parts.
 pub const JOB_PARTS: (&str, usize) = ("job_parts", 20_000);

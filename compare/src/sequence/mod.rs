@@ -11,7 +11,7 @@ mod shrink;
 
 pub use damage::Damage;
 pub use flat::list_of;
-pub use run::{AS_IT_IS, Bent, Difference, Sequences, run};
+pub use run::{AS_IT_IS, Bent, Difference, Sequences, left_by, run};
 
 use crate::call::{Simple, Spec, Store};
 

@@ -2,7 +2,7 @@
 use super::flat::Flat;
 use super::rust::Rust;
 use super::{Action, Sequence, Step};
-use crate::call::{Answer, Call, Outcome, Store};
+use crate::call::{Answer, Call, Outcome, Spec, Store};
 use crate::count::Counts;
 use crate::generate::{Rng, sequence};
 use crate::memory::Memory;
@@ -92,6 +92,26 @@ pub fn run(sequence: &Sequence, bent: Bent, counts: &mut Counts) -> Result<(), D
         done.map_err(|text| Difference { step, text })?;
     }
     Ok(())
+}
+
+/// The stock that the Rust's side of a sequence leaves; refused calls leave it as it was.
+pub fn left_by(sequence: &Sequence) -> (Spec, Vec<f64>, Store) {
+    let mut rust = Rust::new(sequence);
+    for Step { action, damage } in &sequence.steps {
+        match (rust.flat.call(action), damage) {
+            (None, _) => {
+                if let Action::Return { back } = action {
+                    rust.go_back(*back);
+                }
+            }
+            (Some(call), None) if oracle::answer(&call).is_ok() => {
+                rust.carry_out(action, &call);
+            }
+            _ => {}
+        }
+    }
+    let now = rust.flat.now;
+    (rust.flat.spec, now.cells, now.store)
 }
 
 fn carry_out(

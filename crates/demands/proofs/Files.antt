@@ -3,30 +3,35 @@ use Prim.Native.Nat.{ℕ, _+_, _*_, _^_, _≤_, _<_}
 use mathlib.Core.Path.{_≡_, ap, _∙_}
 use mathlib.Core.Bool.{true}
 use mathlib.Core.List.{List, [], _++_}
-use lib.ListN.{length}
-use lib.Ieee.{Float}
+use lib.Dec.{T}
+use lib.ListN.{length, take, getD}
+use lib.Ieee.{Float, nan, binary64, fits}
 use Rattle.refusals.specs.Lent.{over}
 use Rattle.refusals.specs.Paper.{answers}
 use Rattle.stock.specs.declared.TurnStockSpec.{TurnStockSpec}
 use Rattle.stock.specs.Spec.{cleanSpec}
 use Rattle.stock.specs.Cell.{stockOf}
-use Rattle.rings.specs.Store.{barRing, countFits}
+use Rattle.rings.specs.Store.{ringsOf, barRing, ringRoom, countFits}
+use Rattle.moves.specs.Move.{partsOf}
 use Rattle.lines.specs.File.{joined, piecesOf}
 use Rattle.lines.specs.Hands.{Hand, hand}
 use Rattle.stock_lines.specs.declared.Bar.{Bar}
 use Rattle.stock_lines.specs.Form.{endLine}
 use Rattle.stock_lines.specs.Reading.{State, state}
 use Rattle.stock_file.specs.declared.Kept.{Kept}
-use Rattle.stock_file.specs.Read.{freshReading, stopped, specOf, Stocked, toldAs, keptPaper, fileIn, readOf}
+use Rattle.stock_file.specs.Read.{freshReading, stopped, specOf, frontOf, Stocked, toldAs, keptPaper, fileIn, readOf}
 use Rattle.stock_file.specs.Write.{barOf, fileOf}
 use Rattle.stock_file.specs.InParts.{Finished}
 use Rattle.stock_file.proofs.Cut.{however-cut}
 use Rattle.stock_file.proofs.LineSteps.{reading}
 use Rattle.stock_file.proofs.ReadBack as back
 use Rattle.stock_file.proofs.Keepable.{Lent64, stock-back}
-use Rattle.stock_file.proofs.Tells.{told-spelled, told-unique}
+use Rattle.stock_file.proofs.Tells.{tells, told-spelled, told-unique}
 use Rattle.stock_file.proofs.Leaves.{Stays, room-left}
 use Rattle.stock_file.proofs.Begins as begins
+use Rattle.stock_file.proofs.Exactly.{LineExactly, line-exactly}
+use Rattle.demands.proofs.FileRings.{parts-as-they-stand}
+use Rattle.demands.proofs.FileRoom.{RoomHolds, room-holds}
 
 -- HOWEVER A FILE IS CUT, also with nothing in a part or inside a number: `finish` tells what the whole file tells, and the lent room holds what it leaves
 pub file-however-cut : {most : ℕ} {cs rs : List Float} {ps : List (List ℕ)} {r : Kept} (f : Finished most cs rs ps r)
@@ -76,3 +81,20 @@ file-begins-some cs rs p b n m l cs' rs' h e = begins.begins-some cs rs p b n m 
 -- WHAT THE LENT ROOM HOLDS after any read, refused or not: it keeps its length, and the numbers behind those of the lines that were counted stay
 pub file-room-left : (cs rs : List Float) (s : List ℕ) → Stays (state freshReading cs rs) (fileIn cs rs s)
 file-room-left cs rs s = room-left cs rs s
+
+-- and number by number: of each cell's and each ring's line before the refused one its four numbers at its place, as far as the room reaches, of rings 256, and every other number as it was lent
+pub file-room : (cs rs : List Float) (s : List ℕ) → length (piecesOf s) + 1 < 2 ^ 64 → RoomHolds cs rs (piecesOf s) (fileIn cs rs s)
+file-room cs rs s few = room-holds cs rs s few
+
+-- 16 AT LINE k + 1 EXACTLY WHEN the k lines before it begin some file of the form, and with it they begin none, or, where the bytes end in it or before it, they are none: of any bytes of fewer than 2^64 - 1 lines
+pub refused-exactly : (most : ℕ) (cs rs : List Float) (s : List ℕ) (k : ℕ) → length (piecesOf s) + 1 < 2 ^ 64 → LineExactly most cs rs s k
+refused-exactly most cs rs s k few = line-exactly most cs rs s k few
+
+-- RINGS OF A FILE THAT READS, handed to `from_parts` with its cells and with room for them, come back as they stand, in order: each lent number is a float of 64 bits
+pub rings-come-back : (most : ℕ) (cs rs : List Float) (s : List ℕ) (k : Stocked) → readOf most cs rs s ≡ answers k → ((i : ℕ) → T (fits binary64 (getD (fileIn cs rs s .rings) i nan)))
+    → (xs : List Float) → fileIn cs rs s .reading .rings ≤ ringRoom (length xs)
+    → partsOf (specOf (fileIn cs rs s .reading .bar) most) (frontOf (fileIn cs rs s .reading .cells) (fileIn cs rs s .cells)) (take (4 * fileIn cs rs s .reading .rings) (fileIn cs rs s .rings)) xs
+    ≡ answers (ringsOf (fileIn cs rs s .reading .rings) (fileIn cs rs s .rings))
+rings-come-back most cs rs s k e h xs room =
+    let t = tells (fileIn cs rs s) most k e in
+    parts-as-they-stand (specOf (fileIn cs rs s .reading .bar) most) (frontOf (fileIn cs rs s .reading .cells) (fileIn cs rs s .cells)) (fileIn cs rs s .rings) (t .count) (fileIn cs rs s .reading .rings) (t .stock) (t .fits) h xs room

@@ -1,5 +1,7 @@
 -- The first demand over the calls themselves, by their promises: a call is refused exactly as its rule is, a refusal returns its number only, and every lent buffer keeps its contents, but for the two lists that a line of a job is lent as scratch.
--- A buffer that a call is lent to read alone it cannot write: that is its type. Here are those that it is lent to write; at the C boundary they are in proofs/LeftAlone of turning. Assumes nothing.
+-- A buffer that a call is lent to read alone it cannot write: that is its type. Here are those that it is lent to write; at the C boundary they are in proofs/LeftAlone of turning.
+-- `stock_file::take_part` refuses nothing, and `finish`, which tells a refused line, is lent all to read alone. So the lines before a refused one stand in the lent room: beside the caller's own reading state (the reading, the held line) this is the
+-- only place where a refusal finds something written (`file-room`, proofs/Files). Assumes nothing.
 use mathlib.Core.Path.{_≡_, refl, sym, ap, _∙_, subst}
 use mathlib.Core.List.{List, map}
 use Prim.Native.Nat.{ℕ, _/_}

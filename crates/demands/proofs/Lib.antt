@@ -30,4 +30,6 @@ pub mod Inserts
 pub mod InsertFinite
 pub mod InsertExample
 pub mod Which
+pub mod FileRings
+pub mod FileRoom
 pub mod Files

@@ -54,7 +54,11 @@
 // whole file tells, and the lent room holds what that leaves; a stock's file, read in a room that
 // reaches, tells that stock; a file that tells a stock is the file of what it left, and so the only one;
 // where a line is refused every file that begins so is refused there, and whole lines that are not
-// begin some file; and what no line was written to stays. Crate `stock_file` has the laws behind it.
+// begin some file; 16 is told at a line exactly when those before it begin some file of the form and
+// with it they begin none (`refused-exactly`); the room holds the numbers of the lines before that, each
+// at its place, and what no line was written to stays (`file-room`); and the rings of a file that reads
+// come back from `from_parts` as they stand, in order (`rings-come-back`). Crate `stock_file` has the
+// laws behind it.
 //
 // Demand 3, of cuts: below. Of rings (`proofs/Rings`): accepted rings cover the same points in every
 // order, and no two stored rings share one; so it is of single rings, of a list, of a move, of several

@@ -1,12 +1,17 @@
 -- A REFUSAL LEAVES EVERY BUFFER AND EVERY OUT-PARAMETER of a call of the C boundary: a law for each kind of promise that proofs/Once lists the calls of. A call that returns a number
--- other than 0 is refused, with that number (`refused`), and all that it was lent to write is as it was. What it is lent to read alone it cannot write. Assumes nothing.
+-- other than 0 is refused, with that number (`refused`), and all that it was lent to write is as it was. What it is lent to read alone it cannot write.
+-- `turning_read_part` alone writes where it is refused: beside the caller's own reading state (state, bar, held line) the lent room, into which the lines before the refused one were read, is the only place where a refusal
+-- writes. What that call leaves is said of it below (`part-left`, `part-spare`), and of the room by `file-room-left` (`demands`, `proofs/Files`). Assumes nothing.
 use mathlib.Core.Path.{_≡_, refl, sym, ap, _∙_}
-use mathlib.Core.List.{List}
+use mathlib.Core.Bool.{Bool, true, false}
+use mathlib.Core.List.{List, [], _∷_}
 use mathlib.Core.Option.{Option}
-use Prim.Native.Nat.{ℕ, _<_}
+use Prim.Native.Nat.{ℕ, _≤_, _<_}
 use native.Mathlib.Omega.{arith}
-use lib.ListN.{length}
+use lib.ListN.{length, getD, set}
+use lib.Seq.{sets, getD-set-other}
 use lib.Ieee.{Float}
+use Rattle.floats.specs.Pick.{pick-true, pick-false}
 use Rattle.refusals.specs.Paper.{Paper, Reason, answers, refuses, only, at, onward}
 use Rattle.refusals.specs.Lent.{over}
 use Rattle.stock.specs.declared.TurnStockSpec.{TurnStockSpec}
@@ -18,7 +23,13 @@ use Rattle.rings.specs.declared.Ring.{Ring}
 use Rattle.rings.specs.Remove.{RingStore, ringsAfter}
 use Rattle.moves.specs.Move.{Left}
 use Rattle.profile.specs.Chords.{Chord, flatOf, writtenOf}
-use Rattle.turning.specs.Boundary.{codeOf, placeOut, Gives, GivesBin, GivesCells, GivesChanges, GivesStock, GivesTwo, GivesRings, GivesMove, GivesStore, GivesChords, GivesFound, GivesFoundTwo}
+use Rattle.lines.specs.Hands.{Hand}
+use Rattle.lines.proofs.Parts.{stopped-takes}
+use Rattle.stock_lines.specs.Reading.{State, state, onLine}
+use Rattle.stock_file.specs.Read.{stopped, onLong, heldIn}
+use Rattle.turning.specs.JobCalls.{Flat}
+use Rattle.turning.specs.Files.{refusedIn, heldFrom, readingFrom, takingIn, afterPart, TakesFile, GivesFileLine}
+use Rattle.turning.specs.Boundary.{codeOf, placeOut, Gives, GivesBin, GivesCells, GivesChanges, GivesStock, GivesTwo, GivesTwoPlace, GivesRings, GivesMove, GivesStore, GivesChords, GivesFound, GivesFoundTwo}
 
 no-code : {r : ℕ} → r ≡ 0 → 0 < r → ⊥
 no-code e h = omega arith
@@ -28,7 +39,7 @@ pub refused : {A : Type 0} (p : Paper A) (r : ℕ) → r ≡ codeOf p → 0 < r 
 refused (answers a) r e h = absurd (no-code e h)
 refused (refuses n) r e h = (n, refl, sym e)
 
--- `turning_root`, `turning_length`, `turning_validate`, `turning_envelope_order`: the number
+-- `turning_root`, `turning_length`, `turning_validate`, `turning_envelope_order`, `turning_stock_lines`: the number
 pub one-left : {A : Type 0} (p : Paper A) (r : ℕ) (x x' : A) → Gives p r x x' → 0 < r → x' ≡ x
 one-left (answers a) r x x' g h = absurd (no-code (g .code) h)
 one-left (refuses n) r x x' g h = g .out
@@ -100,3 +111,47 @@ found-left (refuses n) r f f' x x' g h = (g .found, g .out)
 pub found-two-left : {A : Type 0} {first second : A → Float} (p : Paper (Option A)) (r f f' : ℕ) (x x' y y' : Float) → GivesFoundTwo first second p r f f' x x' y y' → 0 < r → (f' ≡ f) × (x' ≡ x) × (y' ≡ y)
 found-two-left (answers a) r f f' x x' y y' g h = absurd (no-code (g .code) h)
 found-two-left (refuses n) r f f' x x' y y' g h = (g .found, g .one, g .other)
+
+-- `turning_stock_line`: the line and its length
+pub file-line-left : (p : Paper (List ℕ)) (r n n' : ℕ) (l l' : List ℕ) → GivesFileLine p r n n' l l' → 0 < r → (n' ≡ n) × (l' ≡ l)
+file-line-left (answers s) r n n' l l' g h = absurd (no-code (g .code) h)
+file-line-left (refuses c) r n n' l l' g h = (g .len, g .line)
+
+-- `turning_read_end`: both counts; *line is its place
+pub counts-left : {A B C : Type 0} {first : A → B} {second : A → C} (p : Paper A) (r : ℕ) (x x' : B) (y y' : C) (q q' : ℕ) → GivesTwoPlace first second p r x x' y y' q q' → 0 < r → (x' ≡ x) × (y' ≡ y)
+counts-left (answers a) r x x' y y' q q' g h = absurd (no-code (g .code) h)
+counts-left (refuses n) r x x' y y' q q' g h = (g .one, g .other)
+
+-- `turning_read_part` behind a refused line: 16, and all that is lent
+pub part-left : (f g : Flat) (s : List ℕ) (r : ℕ) → TakesFile f g s r → refusedIn (f .words) ≡ true → (g ≡ f) × (r ≡ 16)
+unfolding afterPart
+part-left f g s r t e =
+    let st : State = state (readingFrom (f .words) (f .bar)) (f .cells) (f .rings) in
+    let q : takingIn f s .job .reading .refused ≡ true = ap (λ (j : Hand State). j .job .reading .refused) (stopped-takes stopped onLine onLong s st (heldIn (heldFrom (f .words)) (f .line)) e) ∙ e in
+    (t .left ∙ pick-true _ _ _ e, t .code ∙ pick-true _ _ _ q)
+
+-- seven words put in front leave those behind
+behind-seven : (ws : List ℕ) (a b c d e f g k : ℕ) → 7 ≤ k → getD (sets ws 0 (a ∷ b ∷ c ∷ d ∷ e ∷ f ∷ g ∷ [])) k 0 ≡ getD ws k 0
+behind-seven ws a b c d e f g k h =
+    let w1 : List ℕ = set ws 0 a in
+    let w2 : List ℕ = set w1 1 b in
+    let w3 : List ℕ = set w2 2 c in
+    let w4 : List ℕ = set w3 3 d in
+    let w5 : List ℕ = set w4 4 e in
+    let w6 : List ℕ = set w5 5 f in
+    getD-set-other w6 6 k g 0 (λ q. omega arith)
+    ∙ getD-set-other w5 5 k f 0 (λ q. omega arith)
+    ∙ getD-set-other w4 4 k e 0 (λ q. omega arith)
+    ∙ getD-set-other w3 3 k d 0 (λ q. omega arith)
+    ∙ getD-set-other w2 2 k c 0 (λ q. omega arith)
+    ∙ getD-set-other w1 1 k b 0 (λ q. omega arith)
+    ∙ getD-set-other ws 0 k a 0 (λ q. omega arith)
+
+-- and always the word that is spare
+pub part-spare : (f g : Flat) (s : List ℕ) (r : ℕ) (k : ℕ) → 7 ≤ k → TakesFile f g s r → getD (g .words) k 0 ≡ getD (f .words) k 0
+unfolding afterPart
+part-spare f g s r k h t = ap (λ (x : Flat). getD (x .words) k 0) (t .left) ∙ by (refusedIn (f .words)) refl
+  where
+    by : (u : Bool) → refusedIn (f .words) ≡ u → getD (afterPart f s .words) k 0 ≡ getD (f .words) k 0
+    by true e = ap (λ (x : Flat). getD (x .words) k 0) (pick-true _ _ _ e)
+    by false e = ap (λ (x : Flat). getD (x .words) k 0) (pick-false _ _ _ e) ∙ behind-seven (f .words) _ _ _ _ _ _ _ k h

@@ -3,3 +3,5 @@ pub mod Once
 pub mod LeftAlone
 pub mod Keeping
 pub mod JobCut
+pub mod Filing
+pub mod FileCut

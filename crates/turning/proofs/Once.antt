@@ -18,6 +18,10 @@
 --   takes-job-once        turning_job_take
 --   ends-job-once         turning_job_finish
 --   writes-job-once       turning_job_output
+--   gives-once            turning_stock_lines
+--   gives-file-line-once  turning_stock_line
+--   takes-file-once       turning_read_part
+--   gives-two-place-once  turning_read_end
 -- A buffer that is lent to be read only is as it was.
 use mathlib.Core.Path.{_≡_, sym, _∙_}
 use mathlib.Core.List.{List}
@@ -36,10 +40,12 @@ use Rattle.profile.specs.Chords.{Chord}
 use Rattle.job_run.specs.declared.Run.{Run}
 use Rattle.job_run.specs.Run.{State, Hold}
 use Rattle.turning.specs.Jobs.{TakesJob, EndsJob, WritesJob}
-use Rattle.turning.specs.Boundary.{Gives, GivesTwo, GivesBin, GivesCells, GivesChanges, GivesStock, GivesRings, GivesMove, GivesStore, GivesChords, GivesFound, GivesFoundTwo}
+use Rattle.turning.specs.JobCalls.{Flat}
+use Rattle.turning.specs.Files.{TakesFile, GivesFileLine}
+use Rattle.turning.specs.Boundary.{Gives, GivesTwo, GivesTwoPlace, GivesBin, GivesCells, GivesChanges, GivesStock, GivesRings, GivesMove, GivesStore, GivesChords, GivesFound, GivesFoundTwo}
 
 -- the number of the header
-pub header-once : (r r' : ℕ) → r ≡ 2 → r' ≡ 2 → r ≡ r'
+pub header-once : (r r' : ℕ) → r ≡ 3 → r' ≡ 3 → r ≡ r'
 header-once r r' a b = a ∙ sym b
 
 -- one number
@@ -105,3 +111,15 @@ ends-job-once e r r' l l₁ l₂ a b = (a .code ∙ sym (b .code), a .line ∙ s
 -- a line of its answer, and its length
 pub writes-job-once : (st : State) (k r r' n₁ n₂ : ℕ) (out out₁ out₂ : List ℕ) → WritesJob st k r n₁ out out₁ → WritesJob st k r' n₂ out out₂ → (r ≡ r') × (n₁ ≡ n₂) × (out₁ ≡ out₂)
 writes-job-once st k r r' n₁ n₂ out out₁ out₂ a b = (a .code ∙ sym (b .code), a .line .wrote .end ∙ sym (b .line .wrote .end), a .line .wrote .text ∙ sym (b .line .wrote .text))
+
+-- a line of a stock's file, and its length
+pub gives-file-line-once : (p : Paper (List ℕ)) (r r' n n₁ n₂ : ℕ) (l l₁ l₂ : List ℕ) → GivesFileLine p r n n₁ l l₁ → GivesFileLine p r' n n₂ l l₂ → (r ≡ r') × (n₁ ≡ n₂) × (l₁ ≡ l₂)
+gives-file-line-once p r r' n n₁ n₂ l l₁ l₂ a b = (a .code ∙ sym (b .code), a .len ∙ sym (b .len), a .line ∙ sym (b .line))
+
+-- a file's words, its bar, the lent room and the unfinished line
+pub takes-file-once : (f g g' : Flat) (s : List ℕ) (r r' : ℕ) → TakesFile f g s r → TakesFile f g' s r' → (r ≡ r') × (g ≡ g')
+takes-file-once f g g' s r r' a b = (a .code ∙ sym (b .code), a .left ∙ sym (b .left))
+
+-- two numbers, and the place of a refusal
+pub gives-two-place-once : {A B C : Type 0} (f : A → B) (g : A → C) (p : Paper A) (r r' : ℕ) (x x₁ x₂ : B) (y y₁ y₂ : C) (q q₁ q₂ : ℕ) → GivesTwoPlace f g p r x x₁ y y₁ q q₁ → GivesTwoPlace f g p r' x x₂ y y₂ q q₂ → (r ≡ r') × (x₁ ≡ x₂) × (y₁ ≡ y₂) × (q₁ ≡ q₂)
+gives-two-place-once f g p r r' x x₁ x₂ y y₁ y₂ q q₁ q₂ a b = (a .code ∙ sym (b .code), a .one ∙ sym (b .one), a .other ∙ sym (b .other), a .position ∙ sym (b .position))

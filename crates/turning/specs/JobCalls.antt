@@ -5,7 +5,7 @@ use lib.Ieee.{Float}
 use Rattle.job_run.specs.Run.{state, Hold, hold, byteOn}
 use Rattle.turning.specs.Jobs.{runFrom, heldIn, TakesJob}
 
--- all that is lent for a job
+-- all that is lent for a job, or for the reading of a stock file
 pub record Flat : Type 0 where
   pub words : List ℕ
   pub bar : List Float

@@ -1,3 +1,5 @@
 pub mod Boundary
 pub mod Jobs
 pub mod JobCalls
+pub mod Files
+pub mod FileCalls

@@ -4,9 +4,11 @@
 // writes nothing but *position, where its number has one. The calls are thin: each makes the spec, calls the library, and turns its answer
 // into a number and out-parameters. Their promises cite the library's own rules.
 // `turning_job_finish` alone tells a refusal that is not its own: that of the job, with its line.
+// `turning_read_part` alone writes where it is refused: what it read before the refused line.
 // Each promise allows one outcome (`proofs/Once`).
 mod cuts_c;
 mod envelope_c;
+mod file_c;
 mod header_c;
 mod insert_c;
 mod job_c;
@@ -26,6 +28,10 @@ pub use envelope_c::turning_envelope_order;
 pub use envelope_c::turning_radius_at;
 pub use envelope_c::turning_radius_range;
 pub use envelope_c::turning_within;
+pub use file_c::turning_read_end;
+pub use file_c::turning_read_part;
+pub use file_c::turning_stock_line;
+pub use file_c::turning_stock_lines;
 pub use header_c::turning_header;
 pub use insert_c::turning_eroded;
 pub use insert_c::turning_excess;

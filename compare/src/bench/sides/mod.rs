@@ -1,6 +1,7 @@
 //! Both sides of each public call, by the size that its cost grows with.
 mod cuts;
 mod envelope;
+mod files;
 mod numbers;
 mod profile;
 mod rings;
@@ -8,6 +9,7 @@ mod stock;
 
 pub use cuts::*;
 pub use envelope::*;
+pub use files::*;
 pub use numbers::*;
 pub use profile::*;
 pub use rings::*;

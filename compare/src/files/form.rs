@@ -1,0 +1,150 @@
+//! A stock file read and written, from the words of Req 06 of 02: lines parted by newlines, fields by tabs.
+use crate::call::{Reason, Spec, Store};
+use crate::oracle::stock::{Bar, bar, cells as cells_of};
+use crate::oracle::{CELLS, MOST_RINGS, rings::stored};
+
+/// 16: a line that is not of the form, or is missing.
+pub const MALFORMED: u32 = 16;
+
+/// Four digits have no index after 9999.
+const MOST_CELL_LINES: usize = 10_000;
+
+/// What every pattern of a NaN counts as: which one the room holds is left open.
+pub const NAN: u64 = 0x7FF8_0000_0000_0000;
+
+/// A file as far as it was read.
+#[derive(Clone, Debug, Default, PartialEq)]
+pub struct Read {
+    /// The five numbers of the first line, by their bits.
+    pub bar: Option<[u64; 5]>,
+    pub cell_lines: usize,
+    pub ring_lines: usize,
+    pub lines: usize,
+    pub ended: bool,
+    /// The number, from 1, of the line that is refused.
+    pub refused: Option<usize>,
+    /// Bytes behind the last newline.
+    pub held: usize,
+}
+
+/// A number's bits, of 16 digits in capitals; not -0.0.
+fn number(field: &str) -> Option<u64> {
+    let digits = field.len() == 16 && field.chars().all(|c| matches!(c, '0'..='9' | 'A'..='F'));
+    let bits = digits.then(|| u64::from_str_radix(field, 16).ok())??;
+    match f64::from_bits(bits) {
+        x if x.is_nan() => Some(NAN),
+        _ => (bits != 1 << 63).then_some(bits),
+    }
+}
+
+fn numbers<const K: usize>(fields: &[&str]) -> Option<[u64; K]> {
+    let read: Option<Vec<u64>> = fields.iter().map(|f| number(f)).collect();
+    read?.try_into().ok()
+}
+
+/// Four numbers at a place of the room, where it reaches there.
+fn write(room: &mut [u64], place: usize, four: [u64; 4]) {
+    if let Some(to) = room.get_mut(4 * place..4 * place + 4) {
+        to.copy_from_slice(&four);
+    }
+}
+
+impl Read {
+    /// One line more; none where it is not of the form.
+    fn line(&mut self, line: &str, cells: &mut [u64], rings: &mut [u64]) -> Option<()> {
+        let fields: Vec<&str> = line.split('\t').collect();
+        match (self.bar, fields[0]) {
+            _ if self.ended => return None,
+            (None, "stock") if fields.get(1) == Some(&"1") => {
+                self.bar = Some(numbers(&fields[2..])?);
+            }
+            (Some(_), "cell") if self.ring_lines == 0 && self.cell_lines < MOST_CELL_LINES => {
+                let index = format!("{:04}", self.cell_lines);
+                (*fields.get(1)? == index).then_some(())?;
+                write(cells, self.cell_lines, numbers(&fields[2..])?);
+                self.cell_lines += 1;
+            }
+            (Some(_), "ring") => {
+                let ring = numbers(&fields[1..])?;
+                if self.ring_lines < MOST_RINGS {
+                    write(rings, self.ring_lines, ring);
+                }
+                self.ring_lines += 1;
+            }
+            (Some(_), "end") if fields[1..] == [self.lines.to_string()] => self.ended = true,
+            _ => return None,
+        }
+        self.lines += 1;
+        Some(())
+    }
+
+    /// The whole bytes, without what their end says.
+    pub fn bytes(bytes: &[u8], cells: &mut [u64], rings: &mut [u64]) -> Self {
+        let mut read = Self::default();
+        let mut pieces: Vec<&[u8]> = bytes.split(|b| *b == b'\n').collect();
+        let rest = pieces.pop().unwrap_or_default();
+        for piece in pieces {
+            // no line of the form is as long as that, and none has a byte above 127
+            let line = std::str::from_utf8(piece).ok().filter(|l| l.len() < 128);
+            if line.and_then(|l| read.line(l, cells, rings)).is_none() {
+                read.refused = Some(read.lines + 1);
+                return read;
+            }
+        }
+        // a line that is too long is refused at its 128th byte
+        if rest.len() > 127 {
+            read.refused = Some(read.lines + 1);
+            return read;
+        }
+        read.held = rest.len();
+        read
+    }
+
+    /// The stock at the end of the bytes: 16 with its line, 1, 2, 3, 4.
+    pub fn end(&self, most: usize, cells: &[u64], rings: &[u64]) -> Result<Bar, Reason> {
+        if let Some(line) = self.refused {
+            return Err(Reason::at(MALFORMED, line));
+        }
+        if self.held > 0 || !self.ended {
+            return Err(Reason::at(MALFORMED, self.lines + 1));
+        }
+        let floats =
+            |words: &[u64]| -> Vec<f64> { words.iter().map(|w| f64::from_bits(*w)).collect() };
+        let [z_min, z_max, outer, bore, cell] = self.bar.unwrap().map(f64::from_bits);
+        let spec = Spec {
+            z_min,
+            z_max,
+            outer,
+            bore,
+            cell,
+            max_cells: most,
+        };
+        let bar = bar(&spec)?;
+        let lent = cells.get(..4 * self.cell_lines);
+        cells_of(&bar, &floats(lent.ok_or(Reason::only(CELLS))?))?;
+        let store = Store {
+            rings: floats(rings),
+            count: self.ring_lines,
+        };
+        stored(&bar, &store)?;
+        Ok(bar)
+    }
+}
+
+fn fields(numbers: &[f64]) -> String {
+    numbers
+        .iter()
+        .map(|x| format!("\t{:016X}", x.to_bits()))
+        .collect()
+}
+
+/// The lines of a stock's file, each with its newline.
+pub fn lines(spec: &Spec, cells: &[[f64; 4]], rings: &[[f64; 4]]) -> Vec<String> {
+    let bar = [spec.z_min, spec.z_max, spec.outer, spec.bore, spec.cell].map(|x| x + 0.);
+    let mut lines = vec![format!("stock\t1{}\n", fields(&bar))];
+    let cell = |(i, c): (usize, &[f64; 4])| format!("cell\t{i:04}{}\n", fields(c));
+    lines.extend(cells.iter().enumerate().map(cell));
+    lines.extend(rings.iter().map(|r| format!("ring{}\n", fields(r))));
+    lines.push(format!("end\t{}\n", lines.len()));
+    lines
+}

@@ -1,0 +1,206 @@
+// Files of thousands of lines, made line by line and read line by line.
+use crate::shown;
+use crate::shown::LENT;
+use stock::TurnStockSpec;
+use stock_file::Kept;
+use stock_file::Taken;
+use stock_lines::Bar;
+use text::LINE_ROOM;
+
+// No file here has more lines.
+const LINES: usize = 10300;
+
+// The reader's max_cells.
+const MAX_CELLS: usize = 4096;
+
+// 4,096 cells, and 257 rings.
+const CELL_ROOM: usize = 16384;
+
+const RING_ROOM: usize = 1028;
+
+// What a file is made of: so many cell and ring lines, and a bar of so many bins.
+struct Long {
+    cells: usize,
+    rings: usize,
+    bins: usize,
+}
+
+fn float_of(i: usize) -> f64 {
+    std::num::nearest_u64_to_f64(i as u64)
+}
+
+// The line of the cell at i, another for each.
+fn cell(out: &mut [u8; LINE_ROOM], i: usize) -> usize {
+    let x = float_of(i) / 1024.0;
+    stock_lines::kept_cell_line(out, i as u64, x, 10.0, 0.0, x / 2.0)
+}
+
+// The line of the ring at i; each touches the one before it.
+fn ring(out: &mut [u8; LINE_ROOM], i: usize) -> usize {
+    let z = float_of(i);
+    text::ring_line(out, z, z + 1.0, 2.0, 10.0 - z / 512.0)
+}
+
+// Line k of a file; no bytes behind the last.
+fn line_of(out: &mut [u8; LINE_ROOM], long: Long, k: usize) -> usize {
+    if k == 0 {
+        let bar = Bar {
+            z_min_mm: 0.0,
+            z_max_mm: float_of(long.bins),
+            outer_radius_mm: 10.0,
+            bore_radius_mm: 0.0,
+            cell_mm: 1.0,
+        };
+        return stock_lines::stock_line(out, bar);
+    }
+    let i = k - 1;
+    if i < long.cells {
+        return cell(out, i);
+    }
+    let j = i - long.cells;
+    if j < long.rings {
+        return ring(out, j);
+    }
+    if j == long.rings {
+        return stock_lines::end_line(out, k as u64);
+    }
+    0
+}
+
+// Line k summed behind those before it.
+fn sum_line(before: u64, long: Long, k: usize) -> u64 {
+    let mut out = [0u8; LINE_ROOM];
+    let n = line_of(&mut out, long, k);
+    shown::sum_line(before, out, n)
+}
+
+// The sum of a file's bytes.
+fn sum_made(long: Long) -> u64 {
+    let mut s: u64 = 0;
+    let mut k: usize = 0;
+    while k < LINES {
+        s = sum_line(s, long, k);
+        k += 1;
+    }
+    s
+}
+
+// The first n bytes of a line read.
+fn take_front(
+    t: Taken,
+    made: [u8; LINE_ROOM],
+    n: usize,
+    cells: &mut [f64],
+    rings: &mut [f64],
+    line: &mut [u8; LINE_ROOM],
+) -> Taken {
+    let reading = t.reading;
+    stock_file::take_part(reading, cells, rings, line, t.len, text::front(&made, n))
+}
+
+// Line k read.
+fn take(
+    t: Taken,
+    long: Long,
+    k: usize,
+    cells: &mut [f64],
+    rings: &mut [f64],
+    line: &mut [u8; LINE_ROOM],
+) -> Taken {
+    let mut out = [0u8; LINE_ROOM];
+    let n = line_of(&mut out, long, k);
+    take_front(t, out, n, cells, rings, line)
+}
+
+// A file read, a line a part.
+fn read(long: Long, cells: &mut [f64], rings: &mut [f64]) -> Kept {
+    let mut line = [0u8; LINE_ROOM];
+    let mut t = Taken {
+        reading: stock_file::fresh(),
+        len: 0,
+    };
+    let mut k: usize = 0;
+    while k < LINES {
+        t = take(t, long, k, cells, rings, &mut line);
+        k += 1;
+    }
+    let reading = t.reading;
+    stock_file::finish(reading, t.len, MAX_CELLS, cells, rings)
+}
+
+// Line k of a stock's file, summed behind those before it.
+fn sum_spelled(
+    before: u64,
+    spec: TurnStockSpec,
+    cells: &[f64],
+    rings: &[f64],
+    m: usize,
+    k: usize,
+) -> u64 {
+    let mut out = [0u8; LINE_ROOM];
+    let n = shown::spell(&mut out, spec, cells, rings, m, k);
+    shown::sum_line(before, out, n)
+}
+
+// The sum of a stock's file.
+fn sum_lines(spec: TurnStockSpec, cells: &[f64], rings: &[f64], m: usize) -> u64 {
+    let count = shown::lines_of(spec, cells, rings, m);
+    let mut s: u64 = 0;
+    let mut k: usize = 0;
+    while k < count {
+        s = sum_spelled(s, spec, cells, rings, m, k);
+        k += 1;
+    }
+    s
+}
+
+fn sum_written(kept: Kept, cells: &[f64], rings: &[f64]) -> u64 {
+    match kept {
+        Kept::Stock(spec, n, m) => sum_lines(spec, shown::fours(cells, n), rings, m),
+        Kept::Refused(r) => 0,
+        Kept::RefusedAt(r, line) => 0,
+    }
+}
+
+fn say_count(words: &[u8], n: u64) {
+    io::write_all(1, words);
+    io::print_decimal(1, n);
+}
+
+fn say_name(long: Long) {
+    say_count(b"bins ", long.bins as u64);
+    say_count(b", cell lines ", long.cells as u64);
+    say_count(b", ring lines ", long.rings as u64);
+    io::write_all(1, b": ");
+}
+
+fn say_sums(made: u64, written: u64) {
+    say_count(b"sum of its bytes ", made);
+    say_count(b", written back ", written);
+    io::write_all(1, b"\n");
+}
+
+// A file, what was read of it, and the sums of its bytes and of those written back.
+fn say(long: Long) {
+    let mut cells = [LENT; CELL_ROOM];
+    let mut rings = [LENT; RING_ROOM];
+    say_name(long);
+    let kept = read(long, &mut cells, &mut rings);
+    let sum = shown::sum_of(kept, &cells, &rings);
+    shown::say_kept(kept, &cells, &rings, sum);
+    say_sums(sum_made(long), sum_written(kept, &cells, &rings));
+}
+
+fn say_of(bins: usize, cells: usize, rings: usize) {
+    say(Long { cells, rings, bins });
+}
+
+pub fn say_all() {
+    say_of(4096, 4096, 256);
+    say_of(4096, 4096, 257);
+    say_of(4096, 4097, 0);
+    say_of(4097, 4097, 0);
+    say_of(10000, 10000, 256);
+    say_of(10000, 10000, 0);
+    say_of(10001, 10001, 0);
+}
