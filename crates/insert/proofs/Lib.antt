@@ -1,4 +1,5 @@
 pub mod Steps
+pub mod Held
 pub mod Best
 pub mod Eroding
 pub mod Finite

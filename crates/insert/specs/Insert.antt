@@ -3,9 +3,10 @@ use mathlib.Core.Path.{_≡_}
 use mathlib.Core.Bool.{Bool, true, _&&_, _||_}
 use mathlib.Core.List.{List}
 use mathlib.Core.Option.{Option, none, some}
-use Prim.Native.Nat.{ℕ, zero, suc, _+_, _-_, _%_}
+use Prim.Native.Nat.{ℕ, zero, suc, _+_, _-_, _%_, _<_}
 use lib.Dec.{leb, eqb}
-use lib.Ieee.{Float, le, lt, eq}
+use lib.Ieee.{Float, nan, le, lt, eq}
+use lib.ListN.{length, getD}
 use Rattle.refusals.specs.Number.{reasonOf}
 use Rattle.refusals.specs.Limits.{pointLimit}
 use Rattle.refusals.specs.Paper.{Paper, answers, refuses, demand}
@@ -191,9 +192,28 @@ touchPaper (touch.By x) = answers (some x)
 touchPaper touch.Nothing = answers none
 touchPaper (touch.Refused c) = refuses (reasonOf c)
 
--- ---- what the code carries beside accepted points: their order, and the ends of the bore
-pub record Looks (ps : List Float) (l : Look) : Type 0 where
+-- ---- what the code carries beside accepted points: their order, and the ends of the bore where one is asked
+abbrev pub endOf : Which → Float → Float
+endOf Least x = zero64
+endOf Greatest x = x
+
+pub record Looks (w : Which) (ps : List Float) (l : Look) : Type 0 where
   pub good : pointsGood ps ≡ true
   pub order : l .order ≡ orderOf ps
-  pub front : l .front ≡ mostOf Greatest ps
-  pub deepest : l .deepest ≡ mostOf Least ps
+  pub front : l .front ≡ endOf w (mostOf Greatest ps)
+  pub deepest : l .deepest ≡ endOf w (mostOf Least ps)
+
+abbrev pub Bored : List Float → Look → Type 0
+Bored ps l = Looks Greatest ps l
+
+-- the first k of a list are the samples at the own u of the first k points
+abbrev pub HeldTo : Which → List Float → List Float → ℕ → Type 0
+HeldTo w ps hs k = (i : ℕ) → i < k → sampleAt w ps (uAt ps i) ≡ some (getD hs i nan)
+
+-- and all of it
+abbrev pub Held : Which → List Float → List Float → Type 0
+Held w ps hs = HeldTo w ps hs (length hs)
+
+pub record Carried (w : Which) (ps hs : List Float) (l : Look) : Type 0 where
+  pub looks : Looks w ps l
+  pub held : Held w ps hs

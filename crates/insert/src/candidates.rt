@@ -5,7 +5,7 @@ ghost use mathlib.Core.Path.{_≡_};
 ghost use Rattle.envelope.specs.Halving.{radiusOf};
 ghost use mathlib.Core.Option.{some};
 ghost use Rattle.envelope.specs.Envelope.{count, spanOf, higher};
-ghost use Rattle.insert.specs.Insert.{Looks, beyond, touchAt, withCandidate, withPoint, pointsIn, polygonTo};
+ghost use Rattle.insert.specs.Insert.{Carried, beyond, touchAt, withCandidate, withPoint, pointsIn, polygonTo};
 ghost use Rattle.floats.specs.Numbers.{_+₆₄_, _-₆₄_};
 use super::Which;
 use super::edges::edges_at;
@@ -34,11 +34,19 @@ fn beyond(w: Which, o: f64, e: f64) -> Radius
     }
 }
 
-fn touch_at(points: &[f64], polygon: &[f64], l: Look, w: Which, t: f64, u: f64) -> Radius
-    requires { ⌜ Looks (now points) l ⌝ }
+fn touch_at(
+    points: &[f64],
+    held: &[f64],
+    polygon: &[f64],
+    l: Look,
+    w: Which,
+    t: f64,
+    u: f64,
+) -> Radius
+    requires { ⌜ Carried w (now points) (now held) l ⌝ }
     ensures { λ r. ⌜ radiusOf r ≡ touchAt w (now (points .entry)) (now (polygon .entry)) t u ⌝ }
 {
-    let o = offset(points, l, w, t, u);
+    let o = offset(points, held, l, w, t, u);
     let e = edges_at(polygon, w, u);
     match o {
         Radius::Nowhere => Radius::Nowhere,
@@ -63,6 +71,7 @@ fn higher(a: Radius, b: Radius) -> Radius
 
 fn with_candidate(
     points: &[f64],
+    held: &[f64],
     polygon: &[f64],
     l: Look,
     w: Which,
@@ -70,11 +79,11 @@ fn with_candidate(
     found: Radius,
     u: f64,
 ) -> Radius
-    requires { ⌜ Looks (now points) l ⌝ }
+    requires { ⌜ Carried w (now points) (now held) l ⌝ }
     ensures { λ r. ⌜ radiusOf r ≡ withCandidate w (now (points .entry)) (now (polygon .entry)) a (radiusOf found) u ⌝ }
 {
     if (a.lo <= u) & (u <= a.hi) {
-        return higher(found, touch_at(points, polygon, l, w, a.tolerance, u));
+        return higher(found, touch_at(points, held, polygon, l, w, a.tolerance, u));
     }
     found
 }
@@ -82,6 +91,7 @@ fn with_candidate(
 // Three candidates of a point of the envelope.
 fn with_point(
     points: &[f64],
+    held: &[f64],
     polygon: &[f64],
     l: Look,
     w: Which,
@@ -89,18 +99,18 @@ fn with_point(
     found: Radius,
     u: f64,
 ) -> Radius
-    requires { ⌜ Looks (now points) l ⌝ }
+    requires { ⌜ Carried w (now points) (now held) l ⌝ }
     ensures { λ r. ⌜ radiusOf r ≡ withPoint w (now (points .entry)) (now (polygon .entry)) a (radiusOf found) u ⌝ }
 {
     let t = a.tolerance;
-    let before = with_candidate(points, polygon, l, w, a, found, u - t);
-    let there = with_candidate(points, polygon, l, w, a, before, u);
-    with_candidate(points, polygon, l, w, a, there, u + t)
+    let before = with_candidate(points, held, polygon, l, w, a, found, u - t);
+    let there = with_candidate(points, held, polygon, l, w, a, before, u);
+    with_candidate(points, held, polygon, l, w, a, there, u + t)
 }
 
 // Over the points of the envelope about the polygon.
-fn over_points(points: &[f64], polygon: &[f64], l: Look, w: Which, a: Trial) -> Radius
-    requires { ⌜ Looks (now points) l ⌝ }
+fn over_points(points: &[f64], held: &[f64], polygon: &[f64], l: Look, w: Which, a: Trial) -> Radius
+    requires { ⌜ Carried w (now points) (now held) l ⌝ }
     ensures { λ r. ⌜ radiusOf r ≡ polygonTo w (now (points .entry)) (now (polygon .entry)) a 0 ⌝ }
 {
     let t = a.tolerance;
@@ -112,6 +122,7 @@ fn over_points(points: &[f64], polygon: &[f64], l: Look, w: Which, a: Trial) -> 
     while i < end {
         found = with_point(
             points,
+            held,
             polygon,
             l,
             w,
@@ -125,16 +136,24 @@ fn over_points(points: &[f64], polygon: &[f64], l: Look, w: Which, a: Trial) -> 
 }
 
 // Over all candidates.
-pub fn over_all(points: &[f64], polygon: &[f64], l: Look, w: Which, a: Trial) -> Radius
-    requires { ⌜ Looks (now points) l ⌝ }
+pub fn over_all(
+    points: &[f64],
+    held: &[f64],
+    polygon: &[f64],
+    l: Look,
+    w: Which,
+    a: Trial,
+) -> Radius
+    requires { ⌜ Carried w (now points) (now held) l ⌝ }
     ensures { λ r. ⌜ radiusOf r ≡ polygonTo w (now (points .entry)) (now (polygon .entry)) a (count (now (polygon .entry))) ⌝ }
 {
     let n = polygon.len() / 2;
-    let mut found = over_points(points, polygon, l, w, a);
+    let mut found = over_points(points, held, polygon, l, w, a);
     let mut i: usize = 0;
     while i < n {
         found = with_candidate(
             points,
+            held,
             polygon,
             l,
             w,

@@ -12,11 +12,12 @@
 // (`samples`), the polygon's edges (`edges`), and the candidates where they are compared (`candidates`).
 ghost use mathlib.Core.Path.{_≡_};
 ghost use mathlib.Core.Bool.{true};
-ghost use Rattle.envelope.specs.Envelope.{pointsGood, orderOf, radiusAtPaper};
+ghost use Rattle.envelope.specs.Envelope.{count, pointsGood, orderOf, radiusAtPaper};
 ghost use Rattle.envelope.specs.Halving.{radiusOf};
-ghost use Rattle.insert.specs.Insert.{polygonGood, toleranceGood, chosen, Looks, touchOf, touched, excessOf, penetrationOf, erodedOf, touchPaper};
+ghost use Rattle.insert.specs.Insert.{polygonGood, toleranceGood, chosen, Looks, polygonTo, touchOf, touched, excessOf, penetrationOf, erodedOf, touchPaper};
 use envelope::Radius;
 use envelope::RadiusAt;
+use refusals::ENVELOPE_LIMIT;
 use refusals::POINT_LIMIT;
 use refusals::Refusal;
 
@@ -74,17 +75,36 @@ fn is_tolerance(t: f64) -> bool
 }
 
 // Accepted points beside their order.
-fn look_of(points: &[f64], order: i8) -> Look
+fn look_of(points: &[f64], order: i8, w: Which) -> Look
     requires { ⌜ (pointsGood (now points) ≡ true) × (order ≡ orderOf (now points)) ⌝ }
-    ensures { λ r. ⌜ Looks (now (points .entry)) r ⌝ }
+    ensures { λ r. ⌜ Looks w (now (points .entry)) r ⌝ }
 {
-    let front = samples::most(points, Which::Greatest);
-    let deepest = samples::most(points, Which::Least);
-    Look {
-        order,
-        front,
-        deepest,
+    match w {
+        Which::Least => Look {
+            order,
+            front: 0.0,
+            deepest: 0.0,
+        },
+        Which::Greatest => {
+            let front = samples::most(points, Which::Greatest);
+            let deepest = samples::most(points, Which::Least);
+            Look {
+                order,
+                front,
+                deepest,
+            }
+        }
     }
+}
+
+// Over all candidates, with the samples at the points' own u held in a list.
+fn over_held(points: &[f64], polygon: &[f64], l: Look, w: Which, a: Trial) -> Radius
+    requires { ⌜ Looks w (now points) l ⌝ }
+    ensures { λ r. ⌜ radiusOf r ≡ polygonTo w (now (points .entry)) (now (polygon .entry)) a (count (now (polygon .entry))) ⌝ }
+{
+    let mut room = [0.0f64; ENVELOPE_LIMIT];
+    let k = samples::hold(points, l, w, &mut room);
+    candidates::over_all(points, samples::first(&room, k), polygon, l, w, a)
 }
 
 // What an accepted insert does.
@@ -95,20 +115,18 @@ fn tried(points: &[f64], order: i8, polygon: &[f64], w: Which, t: f64) -> Radius
     if polygon.len() / 2 == 0 {
         return Radius::Nowhere;
     }
-    let l = look_of(points, order);
+    let l = look_of(points, order, w);
     let lo = samples::most(polygon, Which::Least);
     let hi = samples::most(polygon, Which::Greatest);
-    candidates::over_all(
-        points,
-        polygon,
-        l,
-        w,
-        Trial {
-            tolerance: t,
-            lo,
-            hi,
-        },
-    )
+    let a = Trial {
+        tolerance: t,
+        lo,
+        hi,
+    };
+    if order == 0 {
+        return over_held(points, polygon, l, w, a);
+    }
+    candidates::over_all(points, samples::first(points, 0), polygon, l, w, a)
 }
 
 fn touching(points: &[f64], polygon: &[f64], w: Which, tolerance: f64) -> Touch
@@ -153,9 +171,10 @@ pub fn eroded(points: &[f64], u: f64, tolerance: f64) -> RadiusAt
     if !(floats::is_usable(u) & is_tolerance(tolerance)) {
         return RadiusAt::Refused(Refusal::EnvelopeOutside);
     }
-    let l = look_of(points, order);
+    let l = look_of(points, order, Which::Least);
     let found = samples::offset(
         points,
+        samples::first(points, 0),
         l,
         Which::Least,
         floats::clean(tolerance),

@@ -14,6 +14,7 @@ use Rattle.envelope.proofs.Kept.{kept-good}
 use Rattle.insert.specs.declared.Which.the-variants.{Least}
 use Rattle.insert.specs.Insert.{erodedAsks, offsetOf, erodedOf}
 use Rattle.insert.proofs.Steps.{kept-refused, kept-accepted, asks-outside, asks-refused, asks-answered}
+use Rattle.insert.proofs.Held.{held-none, carried}
 use Rattle.insert.proofs.eroded.Statement.{statement}
 use Rattle.insert.proofs.eroded.Tie as tie
 
@@ -39,24 +40,26 @@ look-of-requires c κs =
     (g, toZ-ofZ (record { sfits = n .ok }) ∙ (n .ensures ∙ kept-good ps g))
 
 offset-requires : tie.Need-offset-requires
-offset-requires c κs = c .before .before .look-of .ensures
+offset-requires c κs =
+    let ps = now (c .before .before .before .before .before .before .before .before .before .before .args .points) in
+    carried Least ps ps 0 (c .before .before .before .look-of .ensures) (c .before .before .first .ensures) (held-none Least ps ps)
 
 returns-3 : tie.Need-returns-3
 unfolding erodedOf erodedAsks radiusOf
 returns-3 c =
-    let a = c .before .before .before .before .before .before .before .before .before .before .before .before .before .args in
+    let a = c .before .before .before .before .before .before .before .before .before .before .before .before .before .before .args in
     let ps = now (a .points) in
-    let n = c .before .before .before .before .before .before .before .before .before .before .before .number-of in
-    asks-answered _ _ _ (kept-accepted ps (λ (e : keptOf ps ≡ pos 2). c .before .before .before .before .before .before .before .before .before .before .if1 .left (rw (n .ensures, e)))) (ap₂ (λ a b. a && b) (sym (c .before .before .before .before .before .before .before .before .before .is-usable .ensures)) (sym (c .before .before .before .before .before .before .before .before .is-tolerance .ensures)) ∙ not-false _ (c .before .before .before .before .before .before .before .if2 .left))
+    let n = c .before .before .before .before .before .before .before .before .before .before .before .before .number-of in
+    asks-answered _ _ _ (kept-accepted ps (λ (e : keptOf ps ≡ pos 2). c .before .before .before .before .before .before .before .before .before .before .before .if1 .left (rw (n .ensures, e)))) (ap₂ (λ a b. a && b) (sym (c .before .before .before .before .before .before .before .before .before .before .is-usable .ensures)) (sym (c .before .before .before .before .before .before .before .before .before .is-tolerance .ensures)) ∙ not-false _ (c .before .before .before .before .before .before .before .before .if2 .left))
     (ap radiusOf (sym (c .before .found .given .1)) ∙ (c .before .before .before .offset .ensures ∙ ap₂ (offsetOf Least ps) (c .before .before .before .before .before .clean .ensures) (c .before .before .before .before .clean2 .ensures)))
 
 returns-4 : tie.Need-returns-4
 unfolding erodedOf erodedAsks radiusOf
 returns-4 c =
-    let a = c .before .before .before .before .before .before .before .before .before .before .before .before .args in
+    let a = c .before .before .before .before .before .before .before .before .before .before .before .before .before .args in
     let ps = now (a .points) in
-    let n = c .before .before .before .before .before .before .before .before .before .before .number-of in
-    asks-answered _ _ _ (kept-accepted ps (λ (e : keptOf ps ≡ pos 2). c .before .before .before .before .before .before .before .before .before .if1 .left (rw (n .ensures, e)))) (ap₂ (λ a b. a && b) (sym (c .before .before .before .before .before .before .before .before .is-usable .ensures)) (sym (c .before .before .before .before .before .before .before .is-tolerance .ensures)) ∙ not-false _ (c .before .before .before .before .before .before .if2 .left))
+    let n = c .before .before .before .before .before .before .before .before .before .before .before .number-of in
+    asks-answered _ _ _ (kept-accepted ps (λ (e : keptOf ps ≡ pos 2). c .before .before .before .before .before .before .before .before .before .before .if1 .left (rw (n .ensures, e)))) (ap₂ (λ a b. a && b) (sym (c .before .before .before .before .before .before .before .before .before .is-usable .ensures)) (sym (c .before .before .before .before .before .before .before .before .is-tolerance .ensures)) ∙ not-false _ (c .before .before .before .before .before .before .before .if2 .left))
     (ap radiusOf (sym (c .enum-told .given .1)) ∙ (c .before .before .offset .ensures ∙ ap₂ (offsetOf Least ps) (c .before .before .before .before .clean .ensures) (c .before .before .before .clean2 .ensures)))
 
 pub eroded-spec : {M : Type 1} → statement M
@@ -69,6 +72,7 @@ eroded-spec =
     (λ c κs. search needs)
     returns-2
     look-of-requires
+    (λ c κs. search needs)
     (λ c κs. search needs)
     (λ c κs. search needs)
     offset-requires

@@ -14,10 +14,10 @@ use Rattle.insert.proofs.candidates.over_points.Statement.{statement}
 use Rattle.insert.proofs.candidates.over_points.Tie as tie
 
 abbrev Inv-loop : tie.InvT-loop
-Inv-loop points polygon l w a t start end found₀ i₀ found i = (start ≤ i) × (i - start ≤ end - start) × (radiusOf found ≡ pointsTo w points polygon a start (i - start))
+Inv-loop points held polygon l w a t start end found₀ i₀ found i = (start ≤ i) × (i - start ≤ end - start) × (radiusOf found ≡ pointsTo w points polygon a start (i - start))
 
 abbrev μ-loop : tie.MeasureT-loop
-μ-loop points polygon l w a t start end found₀ i₀ found i = end - i
+μ-loop points held polygon l w a t start end found₀ i₀ found i = end - i
 
 loop-holds : tie.Need-loop-holds Inv-loop μ-loop
 unfolding pointsTo radiusOf
@@ -44,20 +44,20 @@ shared-slice-read-clean c =
 loop-again : tie.Need-loop-again Inv-loop μ-loop
 unfolding uAt
 loop-again c =
-    let a = c .before .before .before .before .before .before .before .before .before .before .before .args in
+    let a = c .before .before .before .before .before .before .before .before .before .before .before .before .args in
     let l = c .before .before .before .before .loop in
     (search needs, search needs, rw (points-more (a .w) (now (a .points)) (now (a .polygon)) (a .a) (c .before .before .before .before .before .span-over .result .start) (l .i) (l .inv .0), ← l .inv .2, ← c .before .clean .ensures) (c .with-point .ensures))
 
 returns : tie.Need-returns Inv-loop μ-loop
 unfolding polygonTo
 returns c =
-    let s = c .before .before .before .before .before .before .before .before in
+    let s = c .before .before .before .before .before .before .before .before .before in
     let a = s .args in
     let l = c .before .loop in
     let p = c .before .before .span-over .result in
     let e : l .i - p .start ≡ p .end - p .start = omega arith in
     l .inv .2 ∙ (ap (pointsTo (a .w) (now (a .points)) (now (a .polygon)) (a .a) (p .start)) e
-    ∙ ap (λ (x : Span). pointsTo (a .w) (now (a .points)) (now (a .polygon)) (a .a) (x .start) (x .end - x .start)) (c .before .before .span-over .ensures .ruled (s .pre .good) (toZ-ofZ (record { sfits = c .before .before .before .struct-told .given .0 .1 }) ∙ s .pre .order)))
+    ∙ ap (λ (x : Span). pointsTo (a .w) (now (a .points)) (now (a .polygon)) (a .a) (x .start) (x .end - x .start)) (c .before .before .span-over .ensures .ruled (s .pre .looks .good) (toZ-ofZ (record { sfits = c .before .before .before .struct-told .given .0 .1 }) ∙ s .pre .looks .order)))
 
 pub over-points-spec : {M : Type 1} → statement M
 over-points-spec =

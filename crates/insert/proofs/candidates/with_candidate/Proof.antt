@@ -12,7 +12,7 @@ use Rattle.insert.proofs.candidates.with_candidate.Tie as tie
 returns : tie.Need-returns
 unfolding withCandidate
 returns c =
-    let a = c .before .before .before .before .before .before .before .args in
+    let a = c .before .before .before .before .before .before .before .before .args in
     c .higher .ensures ∙ (ap (higher (radiusOf (a .found))) (c .before .touch-at .ensures) ∙ sym (pick-true _ _ _ (c .before .before .if1 .taken)))
 
 returns-2 : tie.Need-returns-2

@@ -12,7 +12,7 @@ use Rattle.insert.proofs.candidates.with_point.Tie as tie
 returns : tie.Need-returns
 unfolding withPoint
 returns c =
-    let a = c .before .before .before .before .before .args in
+    let a = c .before .before .before .before .before .before .args in
     let ps = now (a .points) in
     let gs = now (a .polygon) in
     c .with-candidate3 .ensures ∙ ap (λ (r : Option Float). withCandidate (a .w) ps gs (a .a) r (a .u +₆₄ a .a .tolerance)) (c .before .with-candidate2 .ensures ∙ ap (λ (r : Option Float). withCandidate (a .w) ps gs (a .a) r (a .u)) (c .before .before .with-candidate .ensures))

@@ -1,10 +1,10 @@
 -- `insert::samples::sample_at` meets its contract. Assumes nothing.
 use borrow.Author.Needs.{needs}
-use mathlib.Core.Path.{_≡_, sym, ap, ap₂, _∙_}
+use mathlib.Core.Path.{_≡_, sym, ap, ap₂, _∙_, subst}
 use denote.Ref.{now}
 use mir.Facts.{toZ-ofZ}
 use Rattle.insert.specs.declared.Which.{Which}
-use Rattle.insert.specs.Insert.{sampleAt}
+use Rattle.insert.specs.Insert.{sampleAt, Looks}
 use Rattle.insert.proofs.samples.sample_at.Statement.{statement}
 use Rattle.insert.proofs.samples.sample_at.Tie as tie
 
@@ -21,6 +21,11 @@ returns-2 c =
     let s = c .before .before .before .before in
     c .bore-at .ensures ∙ sym (ap (λ (w : Which). sampleAt w (now (s .args .points)) (s .args .u)) (c .before .enum-told2 .given .1))
 
+bore-at-requires : tie.Need-bore-at-requires
+bore-at-requires c κs =
+    let s = c .before .before .before in
+    subst (λ (w : Which). Looks w (now (s .args .points)) (s .args .l)) (c .enum-told2 .given .1) (s .pre)
+
 pub sample-at-spec : {M : Type 1} → statement M
 sample-at-spec =
     tie.close
@@ -28,6 +33,6 @@ sample-at-spec =
     (λ c. search needs)
     (λ c κs. search needs)
     (λ c. search needs)
-    (λ c κs. search needs)
+    bore-at-requires
     returns
     returns-2)
