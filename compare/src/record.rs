@@ -354,17 +354,30 @@ pub fn at_the_limits() -> Vec<String> {
     lines
 }
 
-/// So many lines of a family. Of each name and number no more are taken than its share, three in
-/// five for the accepted and one in five for a refusal, as long as others turn up.
+/// So many lines of a family, and of an insert's so many of each call.
 pub fn sample(name: &str, count: usize, seed: u64) -> Option<Vec<String>> {
     let make = generate::family(name)?;
+    let apart: &[Option<&str>] = match name {
+        "insert" => &[Some("excess"), Some("penetration"), Some("eroded")],
+        _ => &[None],
+    };
+    let lines = apart.iter().map(|only| drawn(make, *only, count, seed));
+    Some(lines.flatten().collect())
+}
+
+/// Of each name and number no more are taken than its share, three in five for the accepted and one in
+/// five for a refusal, as long as others turn up.
+fn drawn(make: fn(&mut Rng) -> Call, only: Option<&str>, count: usize, seed: u64) -> Vec<String> {
     let mut rng = Rng::new(seed);
     let mut taken: BTreeMap<(&str, u32), usize> = BTreeMap::new();
     let mut lines: Vec<String> = vec![];
     let mut tries = 0;
     while lines.len() < count {
-        tries += 1;
         let call = make(&mut rng);
+        if only.is_some_and(|name| name != call.name()) {
+            continue;
+        }
+        tries += 1;
         let outcome = oracle::answer(&call);
         let number = number(&outcome);
         let share = if number == 0 {
@@ -381,5 +394,5 @@ pub fn sample(name: &str, count: usize, seed: u64) -> Option<Vec<String>> {
             lines.push(text);
         }
     }
-    Some(lines)
+    lines
 }
