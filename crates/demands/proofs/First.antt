@@ -19,7 +19,7 @@ use lib.Ieee.{Float, nan, inf, fin, up, down, level, le, lt, eq, ofBits}
 use lib.Ieee.Bits.{is-true}
 use lib.Ieee.Fits.{up-pos}
 use Rattle.refusals.specs.Paper.{Paper, answers, refuses, demand, demandAt, placed, onward, demand-true, placed-answers, at}
-use Rattle.refusals.specs.Limits.{cellLimit, lastGeneration, lastPlace}
+use Rattle.refusals.specs.Limits.{cellLimit, pieceLimit, lastGeneration, lastPlace}
 use Rattle.floats.specs.Pick.{pick}
 use Rattle.floats.specs.Numbers.{_+₆₄_, _*₆₄_, zero64, usable}
 use Rattle.numbers.specs.Root.{rootOf}
@@ -50,9 +50,9 @@ use Rattle.changes.specs.Decide.{beginOf, stepsOf, concludeOf}
 use Rattle.changes.proofs.Decided.{conclude-is}
 use Rattle.changes.specs.Difference.{otherCell, differenceOf}
 use Rattle.rings.specs.declared.Ring.{Ring}
-use Rattle.rings.specs.Ring.{filled, clip, left}
+use Rattle.rings.specs.Ring.{filled, kept, inHand, clip, left}
 use Rattle.rings.specs.Store.{barRing, ringsOf, ringRoom, countFits, storeFits, finiteRing, badRing}
-use Rattle.rings.specs.Remove.{roomFor, added, addedAll, storedNext, removeAllIn, removeRings, removeIn, removeRing}
+use Rattle.rings.specs.Remove.{roomFor, added, addedAll, storedNext, removeAllIn, removeRings, removeIn, removeRing, leaves}
 use Rattle.moves.specs.Move.{generationAfter, moveIn, moveOf, partsOf}
 use Rattle.change_slices.specs.Move.{moveListOf}
 use Rattle.queries.specs.Envelope.{envelopeAt}
@@ -74,7 +74,7 @@ use Rattle.job_words.specs.declared.Line.the-variants.{Bar, Cutting, Removing, 
 use Rattle.job_words.specs.Kind.{lineOf}
 use Rattle.job_run.specs.declared.line.Job.{Job}
 use Rattle.job_run.specs.Job.{lineLimit, cellsOfJob, barLine, madeCut, cutLine, removingLine, firstLine, laterLine, jobLine}
-use Rattle.demands.specs.Refused.{Asked, ask, Exactly, rootAsks, lengthAsks, countGood, specAsks, binAsks, newAsks, stockAsks, roomGood, previewCutAsks, previewAsks, previewNoseAsks, previewPolygonAsks, previewToolAsks, eachAsks, changeAsks, passAsks, commitInAsks, commitAsks, applyAsks, differenceAsks, removeAsks, roomForAll, allStored, removeRingsAsks, partsAsks, moveInAsks, moveListAsks, moveAsks, volumeAsks, keptAsks, renewAsks, pointsAsks, radiusAsks, withinAsks, barAsks, cutLineAsks, firstLineAsks, laterLineAsks, lineAsks, chordsFit, segmentsAsks, insertAsks, erodingAsks, fileAsks, fileLineAsks}
+use Rattle.demands.specs.Refused.{Asked, ask, Exactly, rootAsks, lengthAsks, countGood, specAsks, binAsks, newAsks, stockAsks, roomGood, previewCutAsks, previewAsks, previewNoseAsks, previewPolygonAsks, previewToolAsks, eachAsks, changeAsks, passAsks, commitInAsks, commitAsks, applyAsks, differenceAsks, removeAsks, roomForAll, allStored, removeRingsAsks, leftAsks, partsAsks, moveInAsks, moveListAsks, moveAsks, volumeAsks, keptAsks, renewAsks, pointsAsks, radiusAsks, withinAsks, barAsks, cutLineAsks, firstLineAsks, laterLineAsks, lineAsks, chordsFit, segmentsAsks, insertAsks, erodingAsks, fileAsks, fileLineAsks}
 use Rattle.demands.proofs.Asking.{refusalOf, Asks, exactly, exactly-as, asks-none, asks-more, asks-of, asks-at, asks-of-at, asks-found, placed-demand, asks-on, asks-then, asks-as, asks-holds, asks-fails, onward-demand, unless, firstFailing}
 
 -- ---- the root and the length
@@ -348,6 +348,11 @@ rings-room spec xs n removed e = asks-as (demand-true _ 4 _ e) (added-asks _ _ _
 -- `remove_rings`, of a stock that is checked already: 4 for the count, 11
 pub remove-rings-exactly : (spec : TurnStockSpec) (xs : List Float) (n : ℕ) (removed : List Float) → Exactly (removeRings spec xs n removed) (removeRingsAsks spec xs n removed)
 remove-rings-exactly spec xs n removed = exactly (rings-asks spec xs n removed)
+
+-- `left_of`: 11
+pub left-exactly : (ks : List Ring) (q : Ring) → Exactly (leaves ks q) (leftAsks ks q)
+unfolding leaves
+left-exactly ks q = exactly (asks-more (inHand pieceLimit (kept q) ks) 11 (λ _. asks-none _))
 
 -- ---- parts and moves
 

@@ -40,7 +40,7 @@
 --   cuts      preview_tool, preview_cut, preview, preview_polygon, thread_cut, thread_cut_inner, drill (Proposals.once of changes)
 --   changes   list_change (listed-once), apply, commit_unasked (applied-once), changes_to (Proposals.once of changes)
 --   change_slices apply, read_changes, propose (Once of change_slices), apply_move (Once.moved-once of moves)
---   rings     remove_ring (removed-once), remove_rings (Once.stored-once of moves)
+--   rings     remove_ring (removed-once), remove_rings (Once.stored-once of moves), left_of (left-of-once)
 --   moves     apply_move (Once.moved-once of moves), from_parts (Once.stored-once of moves)
 --   blocks    renew (renewed-once), leave_block (left-once), range_kept (kept-once)
 --   envelope  span_over (span-over-once), highest (highest-once)
@@ -132,8 +132,11 @@ use Rattle.rings.specs.declared.Removed.{Removed}
 use Rattle.rings.specs.declared.Removed.the-variants as removed
 use Rattle.rings.specs.declared.Judged.{Judged}
 use Rattle.rings.specs.declared.Judged.the-variants as judged
+use Rattle.rings.specs.declared.Ring.{Ring}
+use Rattle.rings.specs.declared.Left.{Left}
+use Rattle.rings.specs.declared.Left.the-variants as pieces
 use Rattle.rings.specs.Store.{judgedPlace}
-use Rattle.rings.specs.Remove.{RingStore, RingCount, removedPaper, Removes}
+use Rattle.rings.specs.Remove.{RingStore, RingCount, removedPaper, Removes, leftPaper, LeavesOf}
 use Rattle.text.specs.Wrote.{Wrote, Put}
 use Rattle.job_run.specs.declared.Run.{Run}
 use Rattle.job_run.specs.declared.Taken.{Taken}
@@ -274,6 +277,12 @@ same-removed (removed.Refused c) (removed.RefusedAt d k) h = absurd (no-place c 
 same-removed (removed.RefusedAt c j) (removed.Refused d) h = absurd (no-place d c j (same-number (sym h)))
 same-removed (removed.RefusedAt c j) (removed.RefusedAt d k) h = let e = one-place c d j k (same-number h) in ap₂ removed.RefusedAt (e .0) (e .1)
 
+pub same-left : (r r' : Left) → leftPaper r ≡ leftPaper r' → r ≡ r'
+same-left (pieces.Pieces n) (pieces.Pieces m) h = ap pieces.Pieces (same-answer h)
+same-left (pieces.Pieces n) (pieces.Refused d) h = absurd (no-answer _ _ (sym h))
+same-left (pieces.Refused c) (pieces.Pieces m) h = absurd (no-answer _ _ h)
+same-left (pieces.Refused c) (pieces.Refused d) h = ap pieces.Refused (same-refusal c d h)
+
 -- rings that are judged
 pub same-judged : (r r' : Judged) → judgedPlace r ≡ judgedPlace r' → r ≡ r'
 same-judged judged.Good judged.Good h = refl
@@ -369,6 +378,9 @@ applied-once p r r' cs cs₁ cs₂ a b = (same-applied r r' (a .answer ∙ sym (
 
 pub removed-once : (xs : List Float) (p : Paper RingStore) (r r' : Removed) (xs₁ xs₂ : List Float) → Removes xs p r xs₁ → Removes xs p r' xs₂ → (r ≡ r') × (xs₁ ≡ xs₂)
 removed-once xs p r r' xs₁ xs₂ a b = (same-removed r r' (a .answer ∙ sym (b .answer)), a .store ∙ sym (b .store))
+
+pub left-of-once : (xs : List Float) (p : Paper (List Ring)) (r r' : Left) (xs₁ xs₂ : List Float) → LeavesOf xs p r xs₁ → LeavesOf xs p r' xs₂ → (r ≡ r') × (xs₁ ≡ xs₂)
+left-of-once xs p r r' xs₁ xs₂ a b = (same-left r r' (a .answer ∙ sym (b .answer)), a .store ∙ sym (b .store))
 
 -- ---- an envelope that is kept
 

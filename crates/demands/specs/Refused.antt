@@ -9,7 +9,7 @@ use lib.ListN.{length}
 use lib.Ieee.{Float, le}
 use lib.Ieee.Scale.{finite}
 use Rattle.refusals.specs.Paper.{Paper, Reason, answers, refuses, only, at}
-use Rattle.refusals.specs.Limits.{cellLimit, lastGeneration}
+use Rattle.refusals.specs.Limits.{cellLimit, pieceLimit, lastGeneration}
 use Rattle.floats.specs.Each.{Each}
 use Rattle.floats.specs.Pick.{pick}
 use Rattle.floats.specs.Numbers.{_+₆₄_, _*₆₄_, zero64, usable}
@@ -33,7 +33,7 @@ use Rattle.cuts.specs.Preview.{previewCut}
 use Rattle.changes.specs.Commit.{onlyRemoves, firstFall}
 use Rattle.changes.specs.Difference.{otherCell}
 use Rattle.rings.specs.declared.Ring.{Ring}
-use Rattle.rings.specs.Ring.{filled, clip, left}
+use Rattle.rings.specs.Ring.{filled, kept, inHand, clip, left}
 use Rattle.rings.specs.Store.{barRing, ringsOf, ringRoom, countFits, finiteRing, badRing}
 use Rattle.rings.specs.Remove.{roomFor}
 use Rattle.moves.specs.Move.{generationAfter}
@@ -230,6 +230,10 @@ allStored spec xs n removed = roomForAll (barRing (cleanSpec spec)) (ringRoom (l
 -- 4 for the count alone, 11: rings of a stock that is checked already
 abbrev pub removeRingsAsks : TurnStockSpec → List Float → ℕ → List Float → List Asked
 removeRingsAsks spec xs n removed = ask (leb n (ringRoom (length xs))) 4 ∷ ask (allStored spec xs n removed) 11 ∷ []
+
+-- 11, of a ring that is taken as it stands
+abbrev pub leftAsks : List Ring → Ring → List Asked
+leftAsks ks q = ask (inHand pieceLimit (kept q) ks) 11 ∷ []
 
 -- 1, 2, 3, 10, 11
 abbrev pub partsAsks : TurnStockSpec → List Float → List Float → List Float → List Asked

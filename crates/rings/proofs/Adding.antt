@@ -18,10 +18,11 @@ use Rattle.floats.specs.Pick.{pick, pick-true, pick-false}
 use Rattle.rings.specs.declared.Ring.{Ring}
 use Rattle.rings.specs.declared.StoredAs.{StoredAs}
 use Rattle.rings.specs.declared.StoredAs.the-variants.{Rings, Refused}
+use Rattle.rings.specs.declared.Left.the-variants as pieces
 use Rattle.rings.specs.Ring.{filled, apart, kept, subtract, subtractAll, inHand, clip, left}
 use Rattle.rings.specs.Store.{ringAt, ringsOf, storeAs, write, apartAll}
 use Rattle.rings.specs.Hand.{Subtracted}
-use Rattle.rings.specs.Remove.{roomFor, added, addedAll, countOf, storedPaper, storeAfter, StoresAs}
+use Rattle.rings.specs.Remove.{roomFor, added, addedAll, countOf, storedPaper, storeAfter, StoresAs, leaves, LeavesOf}
 use Rattle.rings.proofs.Flat.{rings-next, length-rings, rings-stored, stored-same, length-stored, write-behind, rings-copied}
 use Rattle.rings.proofs.Prefix.{apart-turns}
 use Rattle.rings.proofs.InHand.{kept-few, subtract-apart, in-hand-few, in-hand-more}
@@ -222,6 +223,31 @@ module _ (room count few : ℕ) (c : Ring) (xs hand : List Float) (r : ℕ) (cut
     where
       go : (t : Bool) → inHand 256 (kept c) (ringsOf count xs) ≡ t → roomFor room (ringsOf count xs) c ≡ false
       go false g = ap (λ (b : Bool). b && leb (length (ringsOf count xs) + length (left (ringsOf count xs) c)) room) g
+      go true g =
+          let a : r ≡ length (left (ringsOf count xs) c) = counted true (ap (λ (m : ℕ). inHand m (kept c) (ringsOf count xs)) h ∙ g) in
+          let m : length (left (ringsOf count xs) c) ≤ 256 = in-hand-few 256 (kept c) (ringsOf count xs) (let k = kept-few c in omega arith) g in
+          absurd (omega arith)
+
+  -- of a ring that is taken as it stands: the pieces in hand, copied to the front of others
+  pub leaves-pieces : (m : ℕ) → count ≡ m → few ≡ 256 → r ≤ few → (ys zs : List Float) → zs ≡ storeAs ys (ringsOf 0 ys ++ ringsOf r hand) → LeavesOf ys (leaves (ringsOf m xs) c) (pieces.Pieces r) zs
+  unfolding leaves left countOf onward ringsOf pick
+  leaves-pieces m k h l ys zs e =
+      subst (λ (n : ℕ). LeavesOf ys (leaves (ringsOf n xs) c) (pieces.Pieces r) zs) k
+      (let g = in-hand l in
+      let ks = ringsOf count xs in
+      let g' : inHand 256 (kept c) ks ≡ true = ap (λ (m : ℕ). inHand m (kept c) ks) (sym h) ∙ g in
+      let p : leaves ks c ≡ answers (left ks c) = demand-true (inHand 256 (kept c) ks) 11 (answers (left ks c)) g' in
+      record { answer = ap answers (counted true g) ∙ sym (ap countOf p); store = e ∙ ap (storeAs ys) (cut .same g) ∙ sym (ap (storeAfter ys) p) })
+
+  -- and more than 256
+  pub leaves-over : (m : ℕ) → count ≡ m → few ≡ 256 → few < r → (ys : List Float) → LeavesOf ys (leaves (ringsOf m xs) c) (pieces.Refused RingsOverRoom) ys
+  unfolding leaves left countOf onward pick
+  leaves-over m k h l ys = subst (λ (n : ℕ). LeavesOf ys (leaves (ringsOf n xs) c) (pieces.Refused RingsOverRoom) ys) k (go (inHand 256 (kept c) (ringsOf count xs)) refl)
+    where
+      go : (t : Bool) → inHand 256 (kept c) (ringsOf count xs) ≡ t → LeavesOf ys (leaves (ringsOf count xs) c) (pieces.Refused RingsOverRoom) ys
+      go false g =
+          let p : leaves (ringsOf count xs) c ≡ refuses (only 11) = demand-false (inHand 256 (kept c) (ringsOf count xs)) 11 (answers (left (ringsOf count xs) c)) g in
+          record { answer = sym (ap countOf p); store = sym (ap (storeAfter ys) p) }
       go true g =
           let a : r ≡ length (left (ringsOf count xs) c) = counted true (ap (λ (m : ℕ). inHand m (kept c) (ringsOf count xs)) h ∙ g) in
           let m : length (left (ringsOf count xs) c) ≤ 256 = in-hand-few 256 (kept c) (ringsOf count xs) (let k = kept-few c in omega arith) g in

@@ -1,5 +1,5 @@
 -- The rules by which rings are taken: one ring, or a list of them one after the other. Assumes nothing.
-use Prim.Native.Nat.{ℕ, _+_, _/_}
+use Prim.Native.Nat.{ℕ, _+_, _/_, min}
 use mathlib.Core.Path.{_≡_}
 use mathlib.Core.Bool.{Bool, _&&_}
 use mathlib.Core.List.{List, [], _∷_, _++_}
@@ -17,6 +17,8 @@ use Rattle.rings.specs.declared.Removed.{Removed}
 use Rattle.rings.specs.declared.Removed.the-variants as removed
 use Rattle.rings.specs.declared.StoredAs.{StoredAs}
 use Rattle.rings.specs.declared.StoredAs.the-variants as stored
+use Rattle.rings.specs.declared.Left.{Left}
+use Rattle.rings.specs.declared.Left.the-variants as pieces
 use Rattle.rings.specs.Ring.{filled, kept, inHand, clip, left}
 use Rattle.rings.specs.Store.{barRing, ringsOf, ringRoom, storeAs, countFits, finiteRing}
 
@@ -106,3 +108,25 @@ ringsAfter xs p = storeAfter xs (onward p (λ s. answers (s .rings)))
 pub record Removes (xs : List Float) (p : Paper RingStore) (r : Removed) (ys : List Float) : Type 0 where
   pub answer : removedPaper r ≡ countsOf p
   pub store : ys ≡ ringsAfter xs p
+
+-- ---- a ring taken as it stands
+
+-- the first n of the lent rings, or those that are lent where they are fewer
+abbrev pub lentRings : List Float → ℕ → List Ring
+lentRings xs n = ringsOf (min n (length xs / 4)) xs
+
+-- what the rings leave of the ring; 11 where over 256 pieces are in hand after one of them
+unfoldable pub leaves : List Ring → Ring → Paper (List Ring)
+leaves ks q = demand (inHand pieceLimit (kept q) ks) 11 (answers (left ks q))
+
+abbrev pub leftOf : List Float → ℕ → Ring → Paper (List Ring)
+leftOf xs n q = leaves (lentRings xs n) q
+
+abbrev pub leftPaper : Left → Paper ℕ
+leftPaper (pieces.Pieces n) = answers n
+leftPaper (pieces.Refused c) = refuses (reasonOf c)
+
+-- the pieces at the front and the rest as it was, or all as it was
+pub record LeavesOf (xs : List Float) (p : Paper (List Ring)) (r : Left) (ys : List Float) : Type 0 where
+  pub answer : leftPaper r ≡ countOf p
+  pub store : ys ≡ storeAfter xs p

@@ -12,8 +12,9 @@ ghost use Rattle.refusals.specs.Paper.{placeOr};
 ghost use Rattle.floats.specs.Pick.{pick};
 ghost use Rattle.stock.specs.Spec.{cleanSpec};
 ghost use Rattle.rings.specs.Store.{barRing, ringsOf, countFits, badFrom, badRing, judgedPlace, allGood, raisedBy};
-ghost use Rattle.rings.specs.Remove.{StoresAs, removeAllIn, removeRings, removeIn, removeRing, Removes};
+ghost use Rattle.rings.specs.Remove.{StoresAs, removeAllIn, removeRings, removeIn, removeRing, Removes, leftOf, LeavesOf};
 use refusals::LAST_GENERATION;
+use refusals::PIECE_LIMIT;
 use refusals::Refusal;
 use stock::Counted;
 use stock::TurnStockSpec;
@@ -52,6 +53,12 @@ pub enum StoredAs {
 pub enum Judged {
     Good,
     Bad(usize),
+}
+
+// What rings leave of one: so many pieces.
+pub enum Left {
+    Pieces(usize),
+    Refused(Refusal),
 }
 
 // z_min..z_max and 0..outer, -0.0 read as +0.0.
@@ -234,4 +241,20 @@ pub fn raised_by(spec: TurnStockSpec, removed: &[f64]) -> usize
         i += 1;
     }
     n
+}
+
+// What the first `count` lent rings leave of a ring that is taken as it stands, at the front of
+// `pieces`; 11. Where fewer are lent, those.
+pub fn left_of(rings: &[f64], count: usize, ring: Ring, pieces: &mut [f64; 1024]) -> Left
+    ensures { λ r. ⌜ LeavesOf (now (pieces .entry)) (leftOf (now (rings .entry)) count ring) r (now (pieces .exit)) ⌝ }
+{
+    let n = numbers::lesser(count, rings.len() / 4);
+    let mut hand = [0.0f64; 1024];
+    let mut next = [0.0f64; 1024];
+    let left = hand::cut_ring(rings, n, ring, &mut hand, PIECE_LIMIT, &mut next);
+    if PIECE_LIMIT < left {
+        return Left::Refused(Refusal::RingsOverRoom);
+    }
+    lent::copy_rings(&hand, left, pieces, 0);
+    Left::Pieces(left)
 }
