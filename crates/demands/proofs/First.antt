@@ -63,6 +63,7 @@ use Rattle.blocks.specs.Renew.{renewOf}
 use Rattle.stock_lines.specs.declared.Reading.{Reading}
 use Rattle.stock_file.specs.Read.{specOf, frontOf, stockIn, toldAs}
 use Rattle.stock_file.specs.Write.{lineCount, lineFor}
+use Rattle.side_by_side.specs.Compared.{Side, sameBar, bothInHand, chunksOf, comparedOf}
 use Rattle.profile.specs.Profile.{profileGood}
 use Rattle.profile.specs.Chords.{Chord, profileChords, segmentsOf}
 use Rattle.profile.specs.Chords as profile
@@ -74,7 +75,7 @@ use Rattle.job_words.specs.declared.Line.the-variants.{Bar, Cutting, Removing, 
 use Rattle.job_words.specs.Kind.{lineOf}
 use Rattle.job_run.specs.declared.line.Job.{Job}
 use Rattle.job_run.specs.Job.{lineLimit, cellsOfJob, barLine, madeCut, cutLine, removingLine, firstLine, laterLine, jobLine}
-use Rattle.demands.specs.Refused.{Asked, ask, Exactly, rootAsks, lengthAsks, countGood, specAsks, binAsks, newAsks, stockAsks, roomGood, previewCutAsks, previewAsks, previewNoseAsks, previewPolygonAsks, previewToolAsks, eachAsks, changeAsks, passAsks, commitInAsks, commitAsks, applyAsks, differenceAsks, removeAsks, roomForAll, allStored, removeRingsAsks, leftAsks, partsAsks, moveInAsks, moveListAsks, moveAsks, volumeAsks, keptAsks, renewAsks, pointsAsks, radiusAsks, withinAsks, barAsks, cutLineAsks, firstLineAsks, laterLineAsks, lineAsks, chordsFit, segmentsAsks, insertAsks, erodingAsks, fileAsks, fileLineAsks}
+use Rattle.demands.specs.Refused.{Asked, ask, Exactly, rootAsks, lengthAsks, countGood, specAsks, binAsks, newAsks, stockAsks, roomGood, previewCutAsks, previewAsks, previewNoseAsks, previewPolygonAsks, previewToolAsks, eachAsks, changeAsks, passAsks, commitInAsks, commitAsks, applyAsks, differenceAsks, removeAsks, roomForAll, allStored, removeRingsAsks, leftAsks, partsAsks, moveInAsks, moveListAsks, moveAsks, volumeAsks, keptAsks, renewAsks, pointsAsks, radiusAsks, withinAsks, barAsks, cutLineAsks, firstLineAsks, laterLineAsks, lineAsks, chordsFit, segmentsAsks, insertAsks, erodingAsks, fileAsks, fileLineAsks, compareAsks}
 use Rattle.demands.proofs.Asking.{refusalOf, Asks, exactly, exactly-as, asks-none, asks-more, asks-of, asks-at, asks-of-at, asks-found, placed-demand, asks-on, asks-then, asks-as, asks-holds, asks-fails, onward-demand, unless, firstFailing}
 
 -- ---- the root and the length
@@ -423,6 +424,11 @@ line-count-exactly spec cs rs m = exactly (asks-on (stockOf spec cs) _ (stock-as
 pub file-line-exactly : (spec : TurnStockSpec) (cs rs : List Float) (m k : ℕ) → Exactly (lineFor spec cs rs m k) (fileLineAsks spec cs rs m)
 unfolding lineFor
 file-line-exactly spec cs rs m k = exactly (asks-on (newOf spec (length cs)) _ (new-asks spec (length cs)) (λ _ _. asks-more (leb m (ringRoom (length rs))) 4 (λ _. asks-none _)))
+
+-- `side_by_side::compare`: 24, 11
+pub compare-exactly : (s : TurnStockSpec) (a : Side) (t : TurnStockSpec) (b : Side) → Exactly (comparedOf s a t b) (compareAsks s a t b)
+unfolding comparedOf
+compare-exactly s a t b = exactly (asks-more (sameBar s t) 24 (λ _. asks-more (bothInHand a b) 11 (λ _. asks-none _)))
 
 -- ---- kept numbers and ranges
 

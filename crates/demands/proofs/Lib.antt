@@ -33,3 +33,4 @@ pub mod Which
 pub mod FileRings
 pub mod FileRoom
 pub mod Files
+pub mod SideBySide

@@ -32,6 +32,7 @@
 --   insert    excess, penetration (same-touch), eroded (same-radius-at)
 --   queries   volume, envelope_at (Outcomes.volume-once, Outcomes.envelope-once of queries), shown (Outcomes.same-seen of queries)
 --   stock_file finish (Outcomes.same-kept of stock_file), line_count (Outcomes.same-lines of stock_file)
+--   side_by_side compare (Outcomes.same-compared of side_by_side)
 --   blocks    kept_cells (same-counted), range (Outcomes.same-seen of queries)
 --
 -- a record of equations: the answer and each lent buffer
@@ -51,6 +52,7 @@
 --   job_run   carry_out (Carrying.once of job_run; its two lists by the equations of `ChangesOver`), take_part (taken-once), output_line (wrote-once)
 --   stock_lines take_line (Readings.line-once of stock_lines), stock_line, kept_cell_line, end_line (wrote-once)
 --   stock_file take_part (Outcomes.part-once of stock_file), file_line (Outcomes.file-line-once of stock_file)
+--   side_by_side chunk (Outcomes.chunk-once of side_by_side), file_refused, pair_refused (wrote-once)
 --
 -- The calls of the C boundary: proofs/Once of turning. What `streams` and `job_streams` read and write is not determined by a promise: docs/OPEN_ANSWERS.md.
 use mathlib.Core.Path.{_≡_, refl, sym, ap, ap₂, _∙_}

@@ -49,6 +49,7 @@ use Rattle.stock_lines.specs.declared.Reading.{Reading}
 use Rattle.stock_file.specs.Read.{frontOf, specOf}
 use Rattle.profile.specs.Profile.{profileGood}
 use Rattle.profile.specs.Chords.{Chord, profileChords}
+use Rattle.side_by_side.specs.Compared.{Side, sameBar, bothInHand}
 
 -- ---- what "exactly when, in this order" means
 
@@ -266,6 +267,10 @@ fileAsks r most cs rs =
 -- 1, 2, 3 for the length alone, 4 for the count alone
 abbrev pub fileLineAsks : TurnStockSpec → List Float → List Float → ℕ → List Asked
 fileLineAsks spec cs rs m = newAsks spec (length cs) ++ (ask (leb m (ringRoom (length rs))) 4 ∷ [])
+
+-- 24, 11 of two stocks that were read
+abbrev pub compareAsks : TurnStockSpec → Side → TurnStockSpec → Side → List Asked
+compareAsks s a t b = ask (sameBar s t) 24 ∷ ask (bothInHand a b) 11 ∷ []
 
 -- ---- volume: 1, 2, 3, 4. `envelope_at` asks as a stock does.
 abbrev pub volumeAsks : TurnStockSpec → List Float → List Float → ℕ → List Asked

@@ -60,6 +60,12 @@
 // come back from `from_parts` as they stand, in order (`rings-come-back`). Crate `stock_file` has the
 // laws behind it.
 //
+// Two stocks side by side (`proofs/SideBySide`): the lines of cells are the changes from the first to
+// the second; the written rings cover what exactly one of the two stores covers, each point once; no
+// byte is written exactly where the cells are equal and the same points are covered; with the stocks
+// exchanged the parts change places; and so it is however the files are cut. Crate `side_by_side` has
+// the laws behind it.
+//
 // Demand 3, of cuts: below. Of rings (`proofs/Rings`): accepted rings cover the same points in every
 // order, and no two stored rings share one; so it is of single rings, of a list, of a move, of several
 // moves in two orders and of a stock rebuilt, by the rules and in the lent memory that the calls leave.
