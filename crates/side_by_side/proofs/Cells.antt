@@ -21,7 +21,7 @@ use Rattle.text.specs.Lines.{fourFields}
 use Rattle.text.specs.Wrote.{Wrote}
 use Rattle.text.proofs.Spelling.{four-long, digits-length}
 use Rattle.text.proofs.Sets.{and-then, retext}
-use Rattle.stock_lines.specs.Form.{keptCellLine, fieldsText}
+use Rattle.stock_lines.specs.Form.{formOf, keptCellLine, fieldsText}
 use Rattle.lines.specs.File.{joined}
 use Rattle.side_by_side.specs.Compared.{cellText, binText, binTexts}
 
@@ -82,7 +82,7 @@ unfolding binText
 bin-silent cs ds i e = pick-true _ _ _ e
 
 pub silent-bin : (cs ds : List Float) (i : ℕ) → binText cs ds i ≡ [] → sameCell (cellAt cs i) (cellAt ds i) ≡ true
-unfolding binText keptCellLine
+unfolding binText keptCellLine formOf
 silent-bin cs ds i e = go (sameCell (cellAt cs i) (cellAt ds i)) refl
   where
     go : (t : Bool) → sameCell (cellAt cs i) (cellAt ds i) ≡ t → sameCell (cellAt cs i) (cellAt ds i) ≡ true
@@ -167,7 +167,7 @@ bin-turned cs ds i = ap (λ (t : Bool). pick t [] (cellText i (cellAt ds i) ++ c
 
 -- a cell's line is of 78 bytes
 pub cell-long : (i : ℕ) (c : TurnCell) → length (cellText i c) ≡ 78
-unfolding keptCellLine fieldsText
+unfolding keptCellLine fieldsText formOf
 cell-long i c =
     omega
     (arith, length-append (99 ∷ 101 ∷ 108 ∷ 108 ∷ 9 ∷ digits 10 4 i) (fourFields (c .outer .«lower_mm») (c .outer .«upper_mm») (c .inner .«lower_mm») (c .inner .«upper_mm»)), digits-length 10 4 i, four-long (c .outer .«lower_mm») (c .outer .«upper_mm») (c .inner .«lower_mm») (c .inner .«upper_mm»))

@@ -15,7 +15,7 @@ use Rattle.rings.specs.declared.Ring.{Ring}
 use Rattle.rings.specs.Ring.{kept, inHand, left}
 use Rattle.rings.specs.Remove.{lentRings, leaves}
 use Rattle.text.specs.Lines.{ringLine}
-use Rattle.stock_lines.specs.Form.{keptCellLine}
+use Rattle.stock_lines.specs.Form.{writtenForm, keptCellLine}
 use Rattle.side_by_side.specs.declared.Compared.{Compared}
 use Rattle.side_by_side.specs.declared.Compared.the-variants.{Chunks, Refused}
 
@@ -32,7 +32,7 @@ side cs rs m = record { cells = cs; rings = lentRings rs m }
 
 -- the line of bin i's cell
 abbrev pub cellText : ℕ → TurnCell → List ℕ
-cellText i c = keptCellLine i (c .outer .«lower_mm») (c .outer .«upper_mm») (c .inner .«lower_mm») (c .inner .«upper_mm»)
+cellText i c = keptCellLine writtenForm i (c .outer .«lower_mm») (c .outer .«upper_mm») (c .inner .«lower_mm») (c .inner .«upper_mm»)
 
 -- bin i: where its cells are unequal as numbers, the first's line and then the second's
 unfoldable pub binText : List Float → List Float → ℕ → List ℕ
