@@ -97,11 +97,7 @@ pub fn at(words: &[u64; LIMIT], i: usize, k: usize) -> u64 {
 
 // Word i + k as the bits of an f64, a NaN for every pattern of one.
 pub fn number(words: &[u64; LIMIT], i: usize, k: usize) -> f64 {
-    let bits = at(words, i, k);
-    if bits % 0x8000_0000_0000_0000 <= 0x7ff0_0000_0000_0000 {
-        return f64::from_bits(bits);
-    }
-    0.0 / 0.0
+    text::float(at(words, i, k))
 }
 
 // n where b holds, else 0.
