@@ -118,6 +118,9 @@ impl Reading {
             Some(_) => 1 + read.ended as u64,
         };
         let refused = if read.refused.is_some() { 16 } else { 0 };
+        let nan = |bits: u64| f64::from_bits(bits).is_nan();
+        let bar = read.bar.unwrap_or(self.bar);
+        let other_bar = (0..5).any(|k| self.bar[k] != bar[k] && !(nan(self.bar[k]) && nan(bar[k])));
         let line = read.lines + read.refused.is_some() as usize;
         let wanted = [
             stage,
@@ -129,7 +132,9 @@ impl Reading {
             _ if self.state[..4] != wanted => Some("state"),
             _ if self.state[4] != read.held as u64 && refused == 0 => Some("held"),
             _ if self.state[5] != refused => Some("refused"),
+            _ if self.state[6] != read.bar.is_some() as u64 => Some("form"),
             _ if self.state[7] != 0 => Some("spare"),
+            _ if other_bar => Some("bar"),
             _ if !self.cells.is(cells) => Some("cells"),
             _ if !self.rings.is(rings) => Some("rings"),
             _ => None,
@@ -158,6 +163,10 @@ fn read_unlike(
             code,
             Some(format!("read_part answers {code}, wanted {part_code}")),
         );
+    }
+    let held = &bytes[bytes.len() - read.held..];
+    if read.refused.is_none() && reading.line[..read.held] != *held {
+        return (code, Some("the unfinished line".into()));
     }
     if let Some(what) = reading.unlike(&read, &wanted.cells, &wanted.rings) {
         return (
