@@ -39,7 +39,7 @@ use Rattle.job_run.specs.declared.line.Job.{Job}
 use Rattle.job_run.specs.Job.{Stand, lineLimit, fullRoom, cellsOfJob, madeCut, cutLine, jobLine}
 use Rattle.job_run.proofs.Carrying.{same-number}
 use Rattle.lines.specs.File.{piecesOf, ended, lineOn, overPieces}
-use Rattle.job_run.specs.Run.{State, state, next, refusedWith, answered, onLine, onLong, onEnd, stopped, jobOf}
+use Rattle.job_run.specs.Run.{State, state, next, refusedWith, answered, onLine, onLong, isEmpty, onEnd, stopped, jobOf}
 use Rattle.changes.specs.Change.{writtenOf}
 use Rattle.demands.specs.Refused.{Asked, ask, askNone, Stops, Exactly, previewCutAsks, eachAsks, firstLineAsks, laterLineAsks, lineAsks}
 use Rattle.demands.specs.Tool.{single, cutterAct}
@@ -180,7 +180,7 @@ lastOf st (refuses k) = answered st (refuses k)
 
 last-piece : (st : State) (l : List ℕ) → Going st → over st (l ∷ []) ≡ lastOf st (wrongWith st l [])
 unfolding overPieces ended wrongWith lastOf answered demand pick
-last-piece st l g = pick-false (stopped st) st (pick (eqb (length l) 0) (onEnd st) (onLong st)) (ap not (eq-eqb _ _ g)) ∙ go (eqb (length l) 0) (eqb (st .run .lines) 0)
+last-piece st l g = pick-false (stopped st) st (pick (eqb (length l) 0) (onEnd st) (onLong st)) (ap not (eq-eqb _ _ g)) ∙ go (eqb (length l) 0) (isEmpty (st .run))
   where
     go : (a b : Bool) → pick a (pick b (onLong st) st) (onLong st) ≡ lastOf st (demand a 15 (demand (not b) 15 (answers tt)))
     go true true = refl
@@ -212,7 +212,7 @@ lines-reach (b ∷ bs) line after st reached g e = go (lineIn st b) refl (λ s f
 -- what a piece that is refused leaves: the run stops at the next line, and its cells and rings are as that line found them
 wrong-stops : (line : List ℕ) (after : List (List ℕ)) (st : State) (k : Reason) → Going st → wrongWith st line after ≡ refuses k → (0 < k .number) × (over st (line ∷ after) ≡ answered st (refuses k))
 unfolding wrongWith lastOf demand onward
-wrong-stops line [] st k g e = (go (eqb (length line) 0) (eqb (st .run .lines) 0) e, last-piece st line g ∙ ap (lastOf st) e)
+wrong-stops line [] st k g e = (go (eqb (length line) 0) (isEmpty (st .run)) e, last-piece st line g ∙ ap (lastOf st) e)
   where
     go : (a b : Bool) → _≡_ {A = Paper (Unit {0})} (demand a 15 (demand (not b) 15 (answers tt))) (refuses k) → 0 < k .number
     go true false f = absurd (no-answer k tt (sym f))
@@ -253,12 +253,12 @@ no-bytes (b ∷ l) e = absurd (false≢true (sym (ne-eqb (suc (length l)) 0 (λ 
 
 found-last : (st : State) (l : List ℕ) → Found st (l ∷ [])
 unfolding wrongWith linesOn demand
-found-last st l = go (eqb (length l) 0) refl (eqb (st .run .lines) 0) refl
+found-last st l = go (eqb (length l) 0) refl (isEmpty (st .run)) refl
   where
     here : (k : Reason) → wrongWith st l [] ≡ refuses k → Found st (l ∷ [])
     here k e = offending {m = next (st .run)} {k = k .number} (record { before = []; line = l; after = []; order = refl; reached = st; carried = refl; number = refl; why = k; wrong = e; refusal = refl })
 
-    go : (a : Bool) → eqb (length l) 0 ≡ a → (b : Bool) → eqb (st .run .lines) 0 ≡ b → Found st (l ∷ [])
+    go : (a : Bool) → eqb (length l) 0 ≡ a → (b : Bool) → isEmpty (st .run) ≡ b → Found st (l ∷ [])
     go false e b f = here (only 15) (demand-false _ _ _ e)
     go true e true f = here (only 15) (demand-true _ _ _ e ∙ demand-false _ _ _ (ap not f))
     go true e false f = none {end = st} (record { lines = []; order = ap (λ (x : List ℕ). x ∷ []) (no-bytes l e); carried = refl; some = f })

@@ -59,7 +59,7 @@ use Rattle.changes.proofs.Proposal.{act-cuts}
 use Rattle.job_run.specs.declared.line.Job.{Job}
 use Rattle.demands.specs.Refused.{hasPlace}
 use Rattle.job_run.specs.Job.{fullRoom, Stand, stand, barLine, madeCut, cutLine, removingLine, firstLine, laterLine, jobLine}
-use Rattle.job_run.specs.Run.{State, state, freshRun, refusedWith, answered, onLine, onLong, onEnd, stopped, jobOf}
+use Rattle.job_run.specs.Run.{State, state, freshRun, refusedWith, answered, onLine, onLong, isEmpty, onEnd, stopped, jobOf}
 use Rattle.lines.specs.File.{piecesOf}
 use Rattle.lines.proofs.Alike.{alike-file}
 use Rattle.demands.specs.Tool.{single, cutterAct, cutterGood}
@@ -414,7 +414,7 @@ unfolding refusedWith
 numbered-long st h = record { long = h .long; fitting = h .fitting; number = inr malformed }
 
 numbered-end : (st : State) → Numbered st → Numbered (onEnd st)
-numbered-end st h = either Numbered (eqb (st .run .lines) 0) (onLong st) st (numbered-long st h) h
+numbered-end st h = either Numbered (isEmpty (st .run)) (onLong st) st (numbered-long st h) h
 
 -- the same state twice, of which it holds
 record Both (a b : State) : Type 0 where

@@ -17,7 +17,7 @@
 --   envelope  within, of the numbers of the part that is lent back; number_of
 --   text      part, front, of the bytes that are lent back; part_count, same, read_whole, read_hex, float
 --   job_words read_line, read_number
---   job_run   fresh, finish
+--   job_run   fresh, resumed, finish
 --   stock_lines refuse
 --   stock_file fresh
 --

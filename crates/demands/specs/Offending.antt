@@ -14,7 +14,7 @@ use Rattle.job_words.specs.declared.Line.the-variants as line
 use Rattle.job_words.specs.declared.Line.the-variants.{Bar, Cutting, Removing, Bad}
 use Rattle.job_words.specs.Kind.{lineOf}
 use Rattle.job_run.specs.Job.{Stand, fullRoom, cellsOfJob, jobLine}
-use Rattle.job_run.specs.Run.{State, next, answered}
+use Rattle.job_run.specs.Run.{State, next, answered, isEmpty}
 use Rattle.demands.specs.Tool.{Cutter, single}
 
 -- a line on a run, as `carry_out` has it
@@ -27,9 +27,9 @@ linesOn st [] = answers st
 linesOn st (l ∷ ls) = onward (lineIn st l) (λ s. linesOn (answered st (answers s)) ls)
 
 -- What is wrong with a piece of the input that has these behind it. A line has a newline behind it, and so a piece: it is refused as it is carried out, 13 and 15 among its
--- numbers. Behind the last newline nothing stands, and some line stands before it: else 15.
+-- numbers. Behind the last newline nothing stands, and some line stands before it, where no bar is given before: else 15.
 unfoldable pub wrongWith : State → List ℕ → List (List ℕ) → Paper (Unit {0})
-wrongWith st l [] = demand (eqb (length l) 0) 15 (demand (not (eqb (st .run .lines) 0)) 15 (answers tt))
+wrongWith st l [] = demand (eqb (length l) 0) 15 (demand (not (isEmpty (st .run))) 15 (answers tt))
 wrongWith st l (m ∷ ls) = onward (lineIn st l) (λ _. answers tt)
 
 -- Line m is the first that offends, with the number k: all lines before it are carried out, and it is refused with k.
@@ -45,12 +45,12 @@ pub record Offends (st : State) (ps : List (List ℕ)) (m k : ℕ) : Type 0 wher
   pub wrong : wrongWith reached line after ≡ refuses why
   pub refusal : k ≡ why .number
 
--- No line offends: all are carried out, there is one, and nothing stands behind the last newline.
+-- No line offends: all are carried out, there is one where no bar is given before, and nothing stands behind the last newline.
 pub record NoneOffends (st : State) (ps : List (List ℕ)) (end : State) : Type 0 where
   pub lines : List (List ℕ)
   pub order : ps ≡ lines ++ ([] ∷ [])
   pub carried : linesOn st lines ≡ answers end
-  pub some : eqb (end .run .lines) 0 ≡ false
+  pub some : isEmpty (end .run) ≡ false
 
 -- ---- lines that are cuts
 

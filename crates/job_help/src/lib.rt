@@ -94,3 +94,64 @@ pub fn write_why(fd: i32, ended: Ended, line: &[u8; LINE_LIMIT]) -> bool {
     let out = streams::put(fd, streams::fresh(), &mut gathered, front(&words, n));
     streams::flush(fd, out, &gathered)
 }
+
+// What the number of a refusal means for a stock file.
+fn say_stock(out: &mut [u8], at: usize, number: u64) -> usize
+    ensures { λ r. ⌜ r ≤ length (now (out .entry)) ⌝ }
+{
+    match number {
+        1 => put_text(out, at, b"the bar has numbers outside their limits"),
+        2 => put_text(out, at, b"the bar has more than 512 cells"),
+        3 => put_text(
+            out,
+            at,
+            b"the cells are not as many as the bar has, or one does not fit into it",
+        ),
+        4 => put_text(
+            out,
+            at,
+            b"more than 64 rings, or one that lies outside the bar or shares a point with another",
+        ),
+        16 => put_text(
+            out,
+            at,
+            b"no line of a stock file, or one out of its order, cut off or missing",
+        ),
+        _ => put_text(out, at, b"the file was refused"),
+    }
+}
+
+// Puts why a stock file was refused with a number, at line k where that is not 0, and answers the words'
+// length; 256 bytes have room for any.
+pub fn stock_why(out: &mut [u8], number: u64, k: u64) -> usize
+    ensures { λ r. ⌜ r ≤ length (now (out .entry)) ⌝ }
+{
+    let a = put_text(out, 0, b"stock file");
+    let b = put_line_number(out, a, k);
+    let c = put_text(out, b, b": ");
+    let d = put_count(out, c, number);
+    let e = put_text(out, d, b": ");
+    let f = say_stock(out, e, number);
+    put_text(out, f, b"\n")
+}
+
+// The number of a line, where there is one.
+fn put_line_number(out: &mut [u8], at: usize, k: u64) -> usize
+    requires { ⌜ at ≤ length (now out) ⌝ }
+    ensures { λ r. ⌜ r ≤ length (now (out .entry)) ⌝ }
+{
+    if k == 0 {
+        return at;
+    }
+    let a = put_text(out, at, b", line ");
+    put_count(out, a, k)
+}
+
+// Writes why a stock file was refused, in one line. Tells whether all is written.
+pub fn write_stock_why(fd: i32, number: u64, k: u64) -> bool {
+    let mut words = [0u8; 256];
+    let n = stock_why(&mut words, number, k);
+    let mut gathered = [0u8; GATHERED];
+    let out = streams::put(fd, streams::fresh(), &mut gathered, front(&words, n));
+    streams::flush(fd, out, &gathered)
+}

@@ -24,7 +24,7 @@ use Rattle.job_words.specs.Kind.{maxCells}
 use Rattle.job_answer.specs.Answer.{cellLineAt, ringLineAt, linesTo, answerOf}
 use Rattle.job_answer.proofs.Nth.{lines-length}
 use Rattle.job_run.specs.declared.Run.{Run}
-use Rattle.job_run.specs.Run.{State, state, next, refusedWith, refusing, answered, onLine, onLong, hold, byteOn, finishOf, outputOf, maxRings, mostLines}
+use Rattle.job_run.specs.Run.{State, state, next, refusedWith, refusing, answered, onLine, onLong, hold, byteOn, isEmpty, finishOf, outputOf, maxRings, mostLines}
 
 -- ---- a line
 
@@ -70,13 +70,13 @@ pub finish-cut : (j : Run) (n : ℕ) → j .refused ≡ 0 → (n ≡ 0 → ⊥) 
 unfolding finishOf
 finish-cut j n h k = simp (eq-eqb _ _ h, ne-eqb _ _ k, no, yes)
 
-pub finish-empty : (j : Run) (n : ℕ) → j .refused ≡ 0 → n ≡ 0 → j .lines ≡ 0 → refusing j LineMalformed ≡ finishOf j n
+pub finish-empty : (j : Run) (n : ℕ) → j .refused ≡ 0 → n ≡ 0 → isEmpty j ≡ true → refusing j LineMalformed ≡ finishOf j n
 unfolding finishOf
-finish-empty j n h k l = simp (eq-eqb _ _ h, eq-eqb _ _ k, eq-eqb _ _ l, no, yes)
+finish-empty j n h k l = simp (eq-eqb _ _ h, eq-eqb _ _ k, l, no, yes)
 
-pub finish-done : (j : Run) (n : ℕ) → j .refused ≡ 0 → n ≡ 0 → (j .lines ≡ 0 → ⊥) → j ≡ finishOf j n
+pub finish-done : (j : Run) (n : ℕ) → j .refused ≡ 0 → n ≡ 0 → isEmpty j ≡ false → j ≡ finishOf j n
 unfolding finishOf
-finish-done j n h k l = simp (eq-eqb _ _ h, eq-eqb _ _ k, ne-eqb _ _ l, no)
+finish-done j n h k l = simp (eq-eqb _ _ h, eq-eqb _ _ k, l, no)
 
 -- ---- a byte
 pub byte-stopped : (st : State) (l : List ℕ) (n b : ℕ) → (st .run .refused ≡ 0 → ⊥) → hold st l n ≡ byteOn (hold st l n) b

@@ -1,6 +1,6 @@
 -- What the lent room held before the first byte does not show: neither in the cells and rings of a job nor in its answer. Assumes nothing.
-use mathlib.Core.Path.{_≡_, refl, sym, ap, _∙_}
-use mathlib.Core.Bool.{Bool, true, false, not}
+use mathlib.Core.Path.{_≡_, refl, sym, ap, ap₂, _∙_}
+use mathlib.Core.Bool.{Bool, true, false, not, _&&_}
 use mathlib.Core.List.{List, [], _∷_, _++_}
 use Prim.Native.Nat.{ℕ, zero, suc, _+_, _*_, _≤_, _<_}
 use native.Mathlib.Omega.{arith}
@@ -213,7 +213,7 @@ unfolding refusedWith
 alike-long a b h = record { lines = ap (λ (n : ℕ). next (record { job = a .run .job; lines = n; refused = 0 })) (h .lines); refused = refl; jobs = h .jobs }
 
 alike-end : (a b : State) → Alike a b → Alike (onEnd a) (onEnd b)
-alike-end a b h = alike-pick Alike _ _ _ _ _ _ (ap (λ (n : ℕ). eqb n 0) (h .lines)) (alike-long a b h) h
+alike-end a b h = alike-pick Alike _ _ _ _ _ _ (ap₂ (λ (n m : ℕ). eqb n 0 && eqb m 0) (h .lines) (h .jobs .count)) (alike-long a b h) h
 
 -- a file makes jobs that are alike of such
 pub alike-job : (s : List ℕ) (a b : State) → Alike a b → Alike (jobOf a s) (jobOf b s)

@@ -15,7 +15,7 @@ use Rattle.floats.specs.Pick.{pick}
 use Rattle.text.proofs.Chosen.{yes, no}
 use Rattle.job_run.specs.declared.Run.{Run}
 use Rattle.lines.specs.File.{ended, joined}
-use Rattle.job_run.specs.Run.{State, state, refusedWith, refusing, onLine, onLong, onEnd, stopped, Hold, hold, byteOn, finishOf, jobOf, cutOf}
+use Rattle.job_run.specs.Run.{State, state, refusedWith, refusing, onLine, onLong, onEnd, stopped, Hold, hold, byteOn, isEmpty, finishOf, jobOf, cutOf}
 use Rattle.lines.specs.Hands.{Hand, hand, takes, inTurn, byteOn as handOn}
 use Rattle.lines.proofs.AnyCut.{any-cut}
 
@@ -100,11 +100,11 @@ parts-follow (p ∷ ps) h f =
 -- the end of the input, by the number of bytes that are held
 finish-ended : (r : Run) (cells rings : List Float) (h : List ℕ) (n : ℕ) → n ≡ length h → state (finishOf r n) cells rings ≡ ended stopped onLong onEnd (state r cells rings) h
 unfolding finishOf ended
-finish-ended r cells rings h n e = rw e (by (not (eqb (r .refused) 0)) refl (eqb (length h) 0) refl (eqb (r .lines) 0) refl)
+finish-ended r cells rings h n e = rw e (by (not (eqb (r .refused) 0)) refl (eqb (length h) 0) refl (isEmpty r) refl)
   where
-    by : (t : Bool) → not (eqb (r .refused) 0) ≡ t → (u : Bool) → eqb (length h) 0 ≡ u → (v : Bool) → eqb (r .lines) 0 ≡ v
-        → state (pick (not (eqb (r .refused) 0)) r (pick (not (eqb (length h) 0)) (refusing r LineMalformed) (pick (eqb (r .lines) 0) (refusing r LineMalformed) r))) cells rings
-        ≡ pick (not (eqb (r .refused) 0)) (state r cells rings) (pick (eqb (length h) 0) (pick (eqb (r .lines) 0) (state (refusing r LineMalformed) cells rings) (state r cells rings)) (state (refusing r LineMalformed) cells rings))
+    by : (t : Bool) → not (eqb (r .refused) 0) ≡ t → (u : Bool) → eqb (length h) 0 ≡ u → (v : Bool) → isEmpty r ≡ v
+        → state (pick (not (eqb (r .refused) 0)) r (pick (not (eqb (length h) 0)) (refusing r LineMalformed) (pick (isEmpty r) (refusing r LineMalformed) r))) cells rings
+        ≡ pick (not (eqb (r .refused) 0)) (state r cells rings) (pick (eqb (length h) 0) (pick (isEmpty r) (state (refusing r LineMalformed) cells rings) (state r cells rings)) (state (refusing r LineMalformed) cells rings))
     by true e u f v g = simp (e, yes)
     by false e true f true g = simp (e, f, g, yes, no)
     by false e true f false g = simp (e, f, g, yes, no)

@@ -1,7 +1,7 @@
 -- A job as its bytes come: its lines one by one, to the first refusal. Assumes nothing.
 use mathlib.Core.Path.{_≡_}
 use Prim.Native.Nat.{ℕ, _+_, _-_, _*_, _%_, _^_}
-use mathlib.Core.Bool.{Bool, not}
+use mathlib.Core.Bool.{Bool, not, _&&_}
 use mathlib.Core.List.{List, [], _∷_, _++_, foldl}
 use lib.Dec.{eqb, ltb}
 use lib.ListN.{length, take, set}
@@ -14,6 +14,7 @@ use Rattle.refusals.specs.Paper.{Paper, answers, refuses}
 use Rattle.refusals.specs.Lent.{Lent}
 use Rattle.floats.specs.Pick.{pick}
 use Rattle.floats.specs.Numbers.{zero64}
+use Rattle.stock.specs.declared.TurnStockSpec.{TurnStockSpec}
 use Rattle.job_words.specs.Kind.{maxCells}
 use Rattle.job_run.specs.Job.{Stand, lineLimit, fullRoom, jobLine}
 use Rattle.job_answer.specs.Answer.{answerOf}
@@ -39,6 +40,10 @@ freshRun =
       refused = 0;
     }
 
+-- the same with a stock, whose cells and rings stand first in the lent numbers: its bar is given
+abbrev pub resumedRun : TurnStockSpec → ℕ → ℕ → Run
+resumedRun spec n m = record { job = record { spec = spec; cells = n; rings = m; generation = 0 }; lines = 0; refused = 0 }
+
 -- ---- a line
 
 -- the number of the next line
@@ -61,7 +66,7 @@ answered st (refuses n) = state (refusedWith (st .run) (n .number)) (st .cells) 
 unfoldable pub onLine : State → List ℕ → State
 onLine st s = answered st (jobLine (st .run .job) s fullRoom (st .cells) (st .rings))
 
--- a line that is too long, or that the input's end cuts off, and an input with no line
+-- a line that is too long, or that the input's end cuts off, and an input with no line where no bar is given
 abbrev pub onLong : State → State
 onLong st = state (refusing (st .run) LineMalformed) (st .cells) (st .rings)
 
@@ -118,12 +123,16 @@ pub record TakesPart (run : Run) (len : ℕ) (cells rings : Lent Float) (line : 
 
 -- ---- the end
 
+-- no line was taken, and no bar is given
+abbrev pub isEmpty : Run → Bool
+isEmpty r = eqb (r .lines) 0 && eqb (r .job .cells) 0
+
 -- the run at the input's end, where so many bytes of an unfinished line are held
 unfoldable pub finishOf : Run → ℕ → Run
 finishOf r n =
     pick (not (eqb (r .refused) 0)) r
     (pick (not (eqb n 0)) (refusing r LineMalformed)
-    (pick (eqb (r .lines) 0) (refusing r LineMalformed) r))
+    (pick (isEmpty r) (refusing r LineMalformed) r))
 
 -- the job's own cells and rings stand first in the lent ones
 unfoldable pub outputOf : State → List (List ℕ)
@@ -136,7 +145,7 @@ mostLines = maxCells + maxRings + 1
 -- ---- a whole file, which no byte of it is taken apart for
 
 abbrev pub onEnd : State → State
-onEnd st = pick (eqb (st .run .lines) 0) (onLong st) st
+onEnd st = pick (isEmpty (st .run)) (onLong st) st
 
 -- what its lines do in order, and what stands behind the last newline
 abbrev pub jobOf : State → List ℕ → State

@@ -16,7 +16,7 @@ ghost use Prim.Native.Nat.{_*_, _≤_};
 ghost use lib.ListN.{length, take, set, getD};
 ghost use Rattle.job_run.specs.Job.{Full};
 ghost use Rattle.text.specs.Wrote.{WritesLine};
-ghost use Rattle.job_run.specs.Run.{freshRun, refusing, onLine, byteOn, finishOf, outputOf, mostLines, stateFound, stateLeft, asFound, asLeft, TakesPart};
+ghost use Rattle.job_run.specs.Run.{freshRun, resumedRun, isEmpty, refusing, onLine, byteOn, finishOf, outputOf, mostLines, stateFound, stateLeft, asFound, asLeft, TakesPart};
 use job_words::MAX_CELLS;
 use refusals::Refusal;
 use stock::TurnStockSpec;
@@ -46,27 +46,36 @@ pub struct Taken {
     pub len: usize,
 }
 
-// Before the first byte.
-pub fn fresh() -> Run
-    ensures { λ r. ⌜ r ≡ freshRun ⌝ }
+// Before the first byte, with a stock of n cells and m rings, which stand first in the lent numbers: its
+// bar is given.
+pub fn resumed(spec: TurnStockSpec, n: usize, m: usize) -> Run
+    ensures { λ r. ⌜ r ≡ resumedRun spec n m ⌝ }
 {
     Run {
         job: Job {
-            spec: TurnStockSpec {
-                z_min_mm: 0.0,
-                z_max_mm: 0.0,
-                outer_radius_mm: 0.0,
-                bore_radius_mm: 0.0,
-                cell_mm: 0.0,
-                max_cells: 0,
-            },
-            cells: 0,
-            rings: 0,
+            spec,
+            cells: n,
+            rings: m,
             generation: 0,
         },
         lines: 0,
         refused: 0,
     }
+}
+
+// The same with no stock yet.
+pub fn fresh() -> Run
+    ensures { λ r. ⌜ r ≡ freshRun ⌝ }
+{
+    let none = TurnStockSpec {
+        z_min_mm: 0.0,
+        z_max_mm: 0.0,
+        outer_radius_mm: 0.0,
+        bore_radius_mm: 0.0,
+        cell_mm: 0.0,
+        max_cells: 0,
+    };
+    resumed(none, 0, 0)
 }
 
 // The next line refused.
@@ -206,6 +215,14 @@ pub fn take_part(
     take_bytes(run, cells, rings, line, len, bytes)
 }
 
+// Whether no line was taken and no bar is given.
+fn is_empty(run: Run) -> bool
+    ensures { λ r. ⌜ r ≡ isEmpty run ⌝ }
+{
+    let job = run.job;
+    (run.lines == 0) & (job.cells == 0)
+}
+
 // The end of the bytes, where len of an unfinished line are held.
 pub fn finish(run: Run, len: usize) -> Run
     ensures { λ r. ⌜ r ≡ finishOf run len ⌝ }
@@ -216,7 +233,7 @@ pub fn finish(run: Run, len: usize) -> Run
     if len != 0 {
         return refuse(run, Refusal::LineMalformed);
     }
-    if run.lines == 0 {
+    if is_empty(run) {
         return refuse(run, Refusal::LineMalformed);
     }
     run

@@ -14,7 +14,7 @@ use Rattle.streams.specs.declared.Got.{Got}
 use Rattle.streams.specs.declared.Got.the-variants as got
 use Rattle.job_run.specs.declared.Run.{Run}
 use Rattle.lines.specs.File.{joined}
-use Rattle.job_run.specs.Run.{State, state, freshRun, stopped, Hold, hold, byteOn, asFound, asLeft, finishOf, jobOf}
+use Rattle.job_run.specs.Run.{State, state, stopped, Hold, hold, byteOn, asFound, asLeft, finishOf, jobOf}
 use borrow.Author.Tests.{eqb-false}
 use Rattle.job_run.proofs.Lines.{finish-stopped}
 use Rattle.job_run.proofs.WholeFile.{endOf, endCutOf, however-cut, cut-finish}
@@ -47,8 +47,8 @@ pub after-length : {h k : Hold} → After h k → length (k .line) ≡ length (h
 after-length {h} a = ap (λ (x : Hold). length (x .line)) (a .same) ∙ bytes-length (a .bytes) h
 
 -- before the first byte
-pub after-fresh : (run : Run) (cells rings : List Float) (line : List ℕ) → run ≡ freshRun → After (hold (state freshRun cells rings) line 0) (hold (state run cells rings) line 0)
-after-fresh run cells rings line e = record { bytes = []; same = ap (λ (x : Run). hold (state x cells rings) line 0) e }
+pub after-none : (h : Hold) → After h h
+after-none h = record { bytes = []; same = refl }
 
 -- and on from there
 pub after-more : {h k m : Hold} → After h k → After k m → After h m

@@ -12,7 +12,7 @@ use Rattle.floats.specs.Pick.{pick}
 use Rattle.streams.specs.declared.Got.{Got}
 use Rattle.streams.specs.declared.Got.the-variants as got
 use Rattle.job_run.specs.declared.Run.{Run}
-use Rattle.job_run.specs.Run.{State, state, freshRun, Hold, byteOn, JobRoom, asFound, asLeft, finishOf, jobOf, cutOf}
+use Rattle.job_run.specs.Run.{State, state, Hold, byteOn, JobRoom, asFound, asLeft, finishOf, jobOf, cutOf}
 use Rattle.job_streams.specs.declared.End.{End}
 use Rattle.job_streams.specs.declared.End.the-variants as ends
 use Rattle.job_streams.specs.declared.Ended.{Ended}
@@ -73,6 +73,6 @@ pub record JobOfSome (e : End) (a b : State) : Type 0 where
   pub bytes : List ℕ
   pub same : b ≡ jobBy e a bytes
 
--- from before the first byte to the end of the input
-abbrev pub ReadsJob : Ended → Lent Float → Lent Float → Type 0
-ReadsJob r cells rings = JobOfSome (r .end) (state freshRun (now (cells .entry)) (now (rings .entry))) (state (r .run) (now (cells .exit)) (now (rings .exit)))
+-- a run from before the first byte to the end of the input
+abbrev pub ReadsJob : Run → Ended → Lent Float → Lent Float → Type 0
+ReadsJob start r cells rings = JobOfSome (r .end) (state start (now (cells .entry)) (now (rings .entry))) (state (r .run) (now (cells .exit)) (now (rings .exit)))

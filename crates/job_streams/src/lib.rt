@@ -165,17 +165,19 @@ fn end_by(got: Got, run: Run, len: usize) -> Ended
     }
 }
 
-// Reads a job to the end of its input, at most so many bytes at a time, from 1 to 65,536.
+// Reads a job to the end of its input, on a run as it is before the first byte, at most so many bytes
+// at a time, from 1 to 65,536.
 pub fn read_job(
     fd: i32,
     most: usize,
+    start: Run,
     cells: &mut [f64; CELL_NUMBERS],
     rings: &mut [f64; RING_NUMBERS],
     line: &mut [u8; LINE_LIMIT],
 ) -> Ended
-    ensures { λ r. ⌜ ReadsJob r cells rings ⌝ }
+    ensures { λ r. ⌜ ReadsJob start r cells rings ⌝ }
 {
-    let mut run = job_run::fresh();
+    let mut run = start;
     let mut len: usize = 0;
     let mut turns = u64::MAX;
     loop {

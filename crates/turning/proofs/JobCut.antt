@@ -13,7 +13,7 @@ use Rattle.floats.specs.Pick.{pick}
 use Rattle.text.proofs.Chosen.{yes, no}
 use Rattle.lines.specs.File.{joined}
 use Rattle.job_run.specs.declared.Run.{Run}
-use Rattle.job_run.specs.Run.{State, state, freshRun, refusedWith, Hold, hold, byteOn, finishOf, outputOf, jobOf}
+use Rattle.job_run.specs.Run.{State, state, freshRun, refusedWith, Hold, hold, byteOn, isEmpty, finishOf, outputOf, jobOf}
 use Rattle.job_run.proofs.WholeFile.{takeParts, endOf, however-cut}
 use Rattle.job_run.proofs.Streamed.{parts-stay}
 use Rattle.job_run.proofs.Room.{Alike, alike-job, alike-output, alike-fresh}
@@ -67,24 +67,24 @@ took-flat s (part {f} {g} {p = p} {ps = ps} t r) =
 no-bar : (r r' : Run) (n : ℕ) (cs rs : List Float) → r .lines ≡ r' .lines → r .refused ≡ r' .refused → r .job .cells ≡ r' .job .cells → r .job .rings ≡ r' .job .rings → r .job .generation ≡ r' .job .generation
     → outputOf (state (finishOf r n) cs rs) ≡ outputOf (state (finishOf r' n) cs rs)
 unfolding outputOf finishOf refusedWith
-no-bar r r' n cs rs el er ec ek eg = by (not (eqb (r .refused) 0)) refl (not (eqb n 0)) refl (eqb (r .lines) 0) refl
+no-bar r r' n cs rs el er ec ek eg = by (not (eqb (r .refused) 0)) refl (not (eqb n 0)) refl (isEmpty r) refl
   where
-    by : (t : Bool) → not (eqb (r .refused) 0) ≡ t → (u : Bool) → not (eqb n 0) ≡ u → (v : Bool) → eqb (r .lines) 0 ≡ v → outputOf (state (finishOf r n) cs rs) ≡ outputOf (state (finishOf r' n) cs rs)
+    by : (t : Bool) → not (eqb (r .refused) 0) ≡ t → (u : Bool) → not (eqb n 0) ≡ u → (v : Bool) → isEmpty r ≡ v → outputOf (state (finishOf r n) cs rs) ≡ outputOf (state (finishOf r' n) cs rs)
     by true e u f v g = simp (← el, ← er, ← ec, ← ek, ← eg, e, yes)
     by false e true f v g = simp (← el, ← er, ← ec, ← ek, ← eg, e, f, yes, no)
     by false e false f true g = simp (← el, ← er, ← ec, ← ek, ← eg, e, f, g, yes, no)
     by false e false f false g = simp (← el, ← er, ← ec, ← ek, ← eg, e, f, g, no)
 
 -- nor in what `turning_job_finish` tells
-no-bar-told : (r r' : Run) (n : ℕ) → r .lines ≡ r' .lines → r .refused ≡ r' .refused → (finishOf r n .refused ≡ finishOf r' n .refused) × (finishOf r n .lines ≡ finishOf r' n .lines)
+no-bar-told : (r r' : Run) (n : ℕ) → r .lines ≡ r' .lines → r .refused ≡ r' .refused → r .job .cells ≡ r' .job .cells → (finishOf r n .refused ≡ finishOf r' n .refused) × (finishOf r n .lines ≡ finishOf r' n .lines)
 unfolding finishOf refusedWith
-no-bar-told r r' n el er = by (not (eqb (r .refused) 0)) refl (not (eqb n 0)) refl (eqb (r .lines) 0) refl
+no-bar-told r r' n el er ec = by (not (eqb (r .refused) 0)) refl (not (eqb n 0)) refl (isEmpty r) refl
   where
-    by : (t : Bool) → not (eqb (r .refused) 0) ≡ t → (u : Bool) → not (eqb n 0) ≡ u → (v : Bool) → eqb (r .lines) 0 ≡ v → (finishOf r n .refused ≡ finishOf r' n .refused) × (finishOf r n .lines ≡ finishOf r' n .lines)
-    by true e u f v g = (simp (← el, ← er, e, yes), simp (← el, ← er, e, yes))
-    by false e true f v g = (simp (← el, ← er, e, f, yes, no), simp (← el, ← er, e, f, yes, no))
-    by false e false f true g = (simp (← el, ← er, e, f, g, yes, no), simp (← el, ← er, e, f, g, yes, no))
-    by false e false f false g = (simp (← el, ← er, e, f, g, no), simp (← el, ← er, e, f, g, no))
+    by : (t : Bool) → not (eqb (r .refused) 0) ≡ t → (u : Bool) → not (eqb n 0) ≡ u → (v : Bool) → isEmpty r ≡ v → (finishOf r n .refused ≡ finishOf r' n .refused) × (finishOf r n .lines ≡ finishOf r' n .lines)
+    by true e u f v g = (simp (← el, ← er, ← ec, e, yes), simp (← el, ← er, ← ec, e, yes))
+    by false e true f v g = (simp (← el, ← er, ← ec, e, f, yes, no), simp (← el, ← er, ← ec, e, f, yes, no))
+    by false e false f true g = (simp (← el, ← er, ← ec, e, f, g, yes, no), simp (← el, ← er, ← ec, e, f, g, yes, no))
+    by false e false f false g = (simp (← el, ← er, ← ec, e, f, g, no), simp (← el, ← er, ← ec, e, f, g, no))
 
 -- the job in hand after its parts, as if its input ended there, is alike to that of the whole file
 whole-alike : {f k : Flat} {ps : List (List ℕ)} → f .words ≡ (0 ∷ 0 ∷ 0 ∷ 0 ∷ 0 ∷ 0 ∷ 0 ∷ 0 ∷ []) → length (f .bar) ≡ 5 → length (f .line) ≡ 128 → TookFlat f ps k
@@ -108,7 +108,7 @@ job-in-c {k = k} zeros hb hl t cs rs ec er =
 pub job-end-in-c : {f k : Flat} {ps : List (List ℕ)} → f .words ≡ (0 ∷ 0 ∷ 0 ∷ 0 ∷ 0 ∷ 0 ∷ 0 ∷ 0 ∷ []) → length (f .bar) ≡ 5 → length (f .line) ≡ 128 → TookFlat f ps k
     → (cs rs : List Float) → length cs ≡ length (f .cells) → length rs ≡ length (f .rings) → (r l l' : ℕ) → EndsJob (endFrom (k .words)) r l l' → EndsJob (jobOf (state freshRun cs rs) (joined ps) .run) r l l'
 job-end-in-c {k = k} {ps = ps} zeros hb hl t cs rs ec er r l l' g =
-    let n = no-bar-told (runFrom (k .words) noBar) (runFrom (k .words) (k .bar)) (heldIn (k .words)) refl refl in
+    let n = no-bar-told (runFrom (k .words) noBar) (runFrom (k .words) (k .bar)) (heldIn (k .words)) refl refl refl in
     let a = whole-alike zeros hb hl t cs rs ec er in
     let refused : endFrom (k .words) .refused ≡ jobOf (state freshRun cs rs) (joined ps) .run .refused = n .0 ∙ a .refused in
     let lines : endFrom (k .words) .lines ≡ jobOf (state freshRun cs rs) (joined ps) .run .lines = n .1 ∙ a .lines in

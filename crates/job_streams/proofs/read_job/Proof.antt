@@ -1,19 +1,19 @@
 -- `job_streams::read_job` meets its contract. Assumes nothing.
-use Rattle.job_run.specs.Run.{state, freshRun, hold}
+use Rattle.job_run.specs.Run.{state, hold}
 use Rattle.job_streams.specs.Read.{After}
-use Rattle.job_streams.proofs.Taking.{after-fresh, after-more, done}
+use Rattle.job_streams.proofs.Taking.{after-none, after-more, done}
 use borrow.Author.Needs.{needs}
 use Rattle.job_streams.proofs.read_job.Statement.{statement}
 use Rattle.job_streams.proofs.read_job.Tie as tie
 
 abbrev Inv-loop : tie.InvT-loop
-Inv-loop fd most cells₀ rings₀ line₀ run₀ len₀ turns₀ cells rings line run len turns = After (hold (state freshRun cells₀ rings₀) line₀ 0) (hold (state run cells rings) line len)
+Inv-loop fd most cells₀ rings₀ line₀ run₀ len₀ turns₀ cells rings line run len turns = After (hold (state run₀ cells₀ rings₀) line₀ 0) (hold (state run cells rings) line len)
 
 abbrev μ-loop : tie.MeasureT-loop
 μ-loop fd most cells₀ rings₀ line₀ run₀ len₀ turns₀ cells rings line run len turns = turns
 
 loop-holds : tie.Need-loop-holds Inv-loop μ-loop
-loop-holds c = after-fresh _ _ _ _ (c .fresh .ensures)
+loop-holds c = after-none _
 
 returns : tie.Need-returns Inv-loop μ-loop
 returns c = let t = c .before .before .before .before in done _ (t .before .before .before .before .loop .inv) (t .take-some .ensures) (t .take-some .result .got) (c .end-by .ensures)
@@ -30,7 +30,6 @@ read-job-spec =
     (tie.spec
     Inv-loop
     μ-loop
-    (λ c κs. search needs)
     loop-holds
     (λ c κs. search needs)
     (λ c κs. search needs)
