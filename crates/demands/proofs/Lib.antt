@@ -34,3 +34,4 @@ pub mod FileRings
 pub mod FileRoom
 pub mod Files
 pub mod SideBySide
+pub mod SideLines

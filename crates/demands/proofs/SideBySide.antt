@@ -35,7 +35,7 @@ use Rattle.side_by_side.proofs.Written as written
 pub compared-cells : (cs ds : List Float) (n : ℕ) → joined (binTexts cs ds n) ≡ changeTexts (changesTo (otherCell ds) cs n)
 compared-cells cs ds n = bins-changes cs ds n
 
--- so they are the changes of the difference, which committed to the first gives the second's cells where no bin gains material (`difference-committed` of `changes`)
+-- so they are the changes of the difference, which committed to the first gives the second's cells where no bin gains material (`difference-committed` of `changes`), and else is refused with 23 at the first change that adds (`difference-adds`, proofs/Which)
 pub compared-difference : (spec : TurnStockSpec) (cs ds : List Float) (n room : ℕ) (l : List TurnChange) → stockOf spec cs ≡ answers n → differenceOf spec cs ds room ≡ answers l → joined (binTexts cs ds n) ≡ changeTexts l
 compared-difference spec cs ds n room l e f = bins-changes cs ds n ∙ ap changeTexts (sym (difference-is spec cs ds n room l e f))
 

@@ -25,6 +25,7 @@ use Rattle.stock.proofs.Count.{no-answer, same-answer, demanded, none-demanded,
 use Rattle.stock.proofs.Bins.{HeldSpec, HeldList}
 use Rattle.stock.proofs.EachFits.{stock-fits}
 use Rattle.reach.specs.Reach.{actCell}
+use Rattle.reach.proofs.Fit.{same-test}
 use Rattle.stock.proofs.Places.{none-some}
 use Rattle.changes.specs.Change.{changeOf, changeAt, changesTo, indicesOf}
 use Rattle.changes.specs.Commit.{onlyRemoves, appliesTo, passes, eachFrom, fallAfter, firstFall, passAll, putAll, Committed, commitIn, commitOf}
@@ -43,7 +44,7 @@ use Rattle.moves.proofs.Answered.{answered, unplaced}
 use Rattle.demands.specs.Tool.{Cutter, HeldCutter, cutterPreview, cutterAct}
 use Rattle.demands.proofs.Tools.{tool-sound, accepted-good}
 use Rattle.demands.proofs.Second.{preview-is}
-use Rattle.demands.specs.Which.{FirstBad, FirstFall, FirstBadRing, StaleAt}
+use Rattle.demands.specs.Which.{FirstBad, FirstFall, FirstBadRing, StaleAt, AddsAt}
 
 same-reason : {A : Type 0} {m n : Reason} → _≡_ {A = Paper A} (refuses m) (refuses n) → m ≡ n
 same-reason h = cc
@@ -325,6 +326,43 @@ module _ (s : TurnStockSpec) (n : ℕ) (ds : List Float) where
       go true q true p (inl f) = inl (goes-on k₀ c l (left-to-ask c (ps .0) ∙ demand-true _ _ _ q ∙ demand-true _ _ _ p) ∙ f)
       go true q true p (inr w) = inr (w .0, either-by (goes-on k₀ c l (left-to-ask c (ps .0) ∙ demand-true _ _ _ q ∙ demand-true _ _ _ p)) (w .1))
 
+  -- where each bin holds the before-cell: 23
+  abbrev Adds : ℕ → List TurnChange → Type 0
+  Adds k₀ l = (eachFrom s n ds k₀ l ≡ answers tt) ⊎ ((k : ℕ) × (eachFrom s n ds k₀ l ≡ refuses (at 23 (k₀ + k))) × AddsAt l k)
+
+  adds-each : (k₀ : ℕ) (l : List TurnChange) → Each (λ (c : TurnChange). Fit s n c × (sameCell (cellAt ds (c .index)) (c .before) ≡ true)) l → Adds k₀ l
+  adds-each k₀ [] ps = inl (none-left k₀)
+  adds-each k₀ (c ∷ l) ps = go (onlyRemoves (c .before) (c .after)) refl (adds-each (suc k₀) l (ps .1))
+    where
+      asked : passes s n ds c ≡ demand (onlyRemoves (c .before) (c .after)) 23 (answers tt)
+      asked = left-to-ask c (ps .0 .0) ∙ demand-true _ _ _ (ps .0 .1)
+
+      go : (t : Bool) → onlyRemoves (c .before) (c .after) ≡ t → Adds (suc k₀) l → Adds k₀ (c ∷ l)
+      go true q (inl f) = inl (goes-on k₀ c l (asked ∙ demand-true _ _ _ q) ∙ f)
+      go true q (inr w) =
+          let v = w .2 in
+          let z : suc k₀ + w .0 ≡ k₀ + suc (w .0) = omega arith in
+          inr (
+            suc (w .0),
+            goes-on k₀ c l (asked ∙ demand-true _ _ _ q) ∙ w .1 ∙ ap (λ (m : ℕ). refuses (at 23 m)) z,
+            record {
+              before = c ∷ v .before;
+              change = v .change;
+              after = v .after;
+              order = ap (λ (x : List TurnChange). c ∷ x) (v .order);
+              place = ap suc (v .place);
+              removes = (q, v .removes);
+              adds = v .adds;
+            },
+          )
+      go false q w =
+          let z : k₀ ≡ k₀ + 0 = omega arith in
+          inr (
+            0,
+            stops-at k₀ 23 c l (asked ∙ demand-false _ _ _ q) ∙ ap (λ (m : ℕ). refuses (at 23 m)) z,
+            record { before = []; change = c; after = l; order = refl; place = refl; removes = tt; adds = q },
+          )
+
 -- a commit, by how its changes come out
 module _ (spec : TurnStockSpec) (n : ℕ) (ds : List Float) (gen : ℕ) (l : List TurnChange) (st : stockOf spec ds ≡ answers n) where
   commit-goes : gen < lastGeneration → passAll (cleanSpec spec) n ds l ≡ answers tt → commitOf spec ds gen l ≡ answers (record { cells = putAll ds l; generation = gen + 1 })
@@ -393,3 +431,29 @@ difference-stale spec cs es ds n room gen l e first st g =
     go : firstFall l ≡ none → Either (cleanSpec spec) n ds 0 l → (commitOf spec ds gen l ≡ answers (record { cells = putAll ds l; generation = gen + 1 })) ⊎ ((k : ℕ) × ((commitOf spec ds gen l ≡ refuses (at 22 k)) ⊎ (commitOf spec ds gen l ≡ refuses (at 23 k))))
     go f (inl q) = inl (commit-goes spec n ds gen l st g (whole (cleanSpec spec) n ds l f (answers tt) q))
     go f (inr w) = inr (w .0, by (w .0) f (w .1))
+
+-- and on the first stock itself: accepted, or 23 at the first change that adds material
+one-held : (s : TurnStockSpec) (n k : ℕ) (f : ℕ → TurnCell → TurnCell) (cs : List Float) → k < n → cellFits s (f k (cellAt cs k)) ≡ true → sameCell (cellAt cs k) (cellAt cs k) ≡ true → (t : Bool) → Each (λ (c : TurnChange). Fit s n c × (sameCell (cellAt cs (c .index)) (c .before) ≡ true)) (pick t [] (changeOf f cs k ∷ []))
+unfolding pick
+one-held s n k f cs h e g true = tt
+one-held s n k f cs h e g false = (((e, h), g), tt)
+
+all-held : (s : TurnStockSpec) (n : ℕ) (f : ℕ → TurnCell → TurnCell) (cs : List Float) → ((i : ℕ) → i < n → cellFits s (f i (cellAt cs i)) ≡ true) → ((i : ℕ) → i < n → sameCell (cellAt cs i) (cellAt cs i) ≡ true) → (k : ℕ) → k ≤ n → Each (λ (c : TurnChange). Fit s n c × (sameCell (cellAt cs (c .index)) (c .before) ≡ true)) (changesTo f cs k)
+unfolding changesTo changeAt
+all-held s n f cs fits same zero h = tt
+all-held s n f cs fits same (suc k) h = each-append (λ (c : TurnChange). Fit s n c × (sameCell (cellAt cs (c .index)) (c .before) ≡ true)) (changesTo f cs k) (changeAt f cs k) (all-held s n f cs fits same k (omega arith)) (one-held s n k f cs h (fits k h) (same k h) (sameCell (cellAt cs k) (f k (cellAt cs k))))
+
+pub difference-adds : (spec : TurnStockSpec) (cs es : List Float) (n room gen : ℕ) (l : List TurnChange) → HeldSpec spec → HeldList cs → differenceOf spec cs es room ≡ answers l → stockOf spec cs ≡ answers n → gen < lastGeneration
+    → (commitOf spec cs gen l ≡ answers (record { cells = putAll cs l; generation = gen + 1 })) ⊎ ((k : ℕ) × (commitOf spec cs gen l ≡ refuses (at 23 k)) × AddsAt l k)
+difference-adds spec cs es n room gen l hs hc e first g =
+    let is = difference-is spec cs es n room l first e in
+    let fits = stock-fits spec es n (second-stock spec cs es n room l first e) in
+    let b = stock-good hs hc first in
+    let none-falls : firstFall l ≡ none = ap firstFall is ∙ rises-none _ (rises-test 0 n (changesTo (otherCell es) cs n) (rising (otherCell es) cs n)) in
+    go none-falls (subst (Adds (cleanSpec spec) n cs 0) (sym is) (adds-each (cleanSpec spec) n cs 0 (changesTo (otherCell es) cs n) (all-held (cleanSpec spec) n (otherCell es) cs fits (λ i p. same-test (cleanSpec spec) (cellAt cs i) (b .fit i p)) n (omega arith))))
+  where
+    go : firstFall l ≡ none → Adds (cleanSpec spec) n cs 0 l → (commitOf spec cs gen l ≡ answers (record { cells = putAll cs l; generation = gen + 1 })) ⊎ ((k : ℕ) × (commitOf spec cs gen l ≡ refuses (at 23 k)) × AddsAt l k)
+    go f (inl q) = inl (commit-goes spec n cs gen l first g (whole (cleanSpec spec) n cs l f (answers tt) q))
+    go f (inr w) =
+        let z : 0 + w .0 ≡ w .0 = omega arith in
+        inr (w .0, commit-stops spec n cs gen l first (at 23 (w .0)) (whole (cleanSpec spec) n cs l f (refuses (at 23 (w .0))) (w .1 ∙ ap (λ (m : ℕ). refuses (at 23 m)) z)), w .2)

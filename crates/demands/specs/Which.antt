@@ -11,7 +11,7 @@ use Rattle.stock.specs.declared.TurnStockSpec.{TurnStockSpec}
 use Rattle.stock.specs.declared.TurnChange.{TurnChange}
 use Rattle.stock.specs.Cell.{cellAt, sameCell}
 use Rattle.changes.specs.Change.{indicesOf}
-use Rattle.changes.specs.Commit.{passes}
+use Rattle.changes.specs.Commit.{onlyRemoves, passes}
 use Rattle.changes.specs.Decide.{rises}
 use Rattle.rings.specs.Store.{ringAt, ringsOf, goodRing, allGood}
 
@@ -49,3 +49,13 @@ pub record StaleAt (ds : List Float) (l : List TurnChange) (k : ℕ) : Type 0 wh
   pub place : k ≡ length before
   pub same : Each (λ (c : TurnChange). sameCell (cellAt ds (c .index)) (c .before) ≡ true) before
   pub differs : sameCell (cellAt ds (change .index)) (change .before) ≡ false
+
+-- 23 at k, of a list whose bins hold its before-cells: it is the first that adds material
+pub record AddsAt (l : List TurnChange) (k : ℕ) : Type 0 where
+  pub before : List TurnChange
+  pub change : TurnChange
+  pub after : List TurnChange
+  pub order : l ≡ before ++ (change ∷ after)
+  pub place : k ≡ length before
+  pub removes : Each (λ (c : TurnChange). onlyRemoves (c .before) (c .after) ≡ true) before
+  pub adds : onlyRemoves (change .before) (change .after) ≡ false

@@ -14,7 +14,8 @@
 // Which change it was (`proofs/Which`, with `specs/Which`): a place that is given is in its list; the
 // changes before it pass, and it passes the tests before its number and fails that one; the indices
 // before a fall rise, and the rings before a bad one are good. A list that passes on one stock is, on
-// another, accepted or refused with 22 at the first bin that differs.
+// another, accepted or refused with 22 at the first bin that differs. The difference of two stocks is,
+// on the first, accepted or refused with 23 at the first change that adds material.
 //
 // Demand 2, what the answers are (`proofs/Second`, with `specs/Wrote`): the root is the nearest value;
 // a preview lists the change of each bin that the cut changes and no other, and its count is that of
@@ -63,8 +64,8 @@
 // Two stocks side by side (`proofs/SideBySide`): the lines of cells are the changes from the first to
 // the second; the written rings cover what exactly one of the two stores covers, each point once; no
 // byte is written exactly where the cells are equal and the same points are covered; with the stocks
-// exchanged the parts change places; and so it is however the files are cut. Crate `side_by_side` has
-// the laws behind it.
+// exchanged the parts change places; and so it is however the files are cut. Each written ring reads
+// back from its line (`proofs/SideLines`). Crate `side_by_side` has the laws behind it.
 //
 // Demand 3, of cuts: below. Of rings (`proofs/Rings`): accepted rings cover the same points in every
 // order, and no two stored rings share one; so it is of single rings, of a list, of a move, of several
