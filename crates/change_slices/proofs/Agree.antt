@@ -13,6 +13,7 @@ use Rattle.stock.specs.declared.TurnStockSpec.{TurnStockSpec}
 use Rattle.stock.specs.declared.TurnChange.{TurnChange}
 use Rattle.stock.specs.Spec.{cleanSpec}
 use Rattle.stock.specs.Cell.{stockOf}
+use Rattle.stock.specs.Stock.{stockFrom}
 use Rattle.stock.proofs.Count.{no-answer, same-answer}
 use Rattle.changes.specs.declared.Previewed.{Previewed}
 use Rattle.changes.specs.declared.Previewed.the-variants.{Changes, Refused}
@@ -52,9 +53,9 @@ module _ (is : List ℕ) (ys : List Float) (k : ℕ) (room : k ≤ roomOf (lengt
       no-6 (stockOf spec cs) (λ n. moveIn spec n cs xs count g (changesFrom is ys k) removed) (roomOf (length is) (length ys)) k room
       ∙ ap (λ (x : List TurnChange). onward (stockOf spec cs) (λ n. moveIn spec n cs xs count g x removed)) same
 
-  pub move-agrees : (spec : TurnStockSpec) (cs cs₁ cs₂ xs xs₁ xs₂ : List Float) (count g : ℕ) (removed : List Float) (r r' : Moved) → Moves (moveOf spec cs xs count g is ys k removed) r cs cs₁ xs xs₁ → Moves (moveListOf spec cs xs count g l removed) r' cs cs₂ xs xs₂ → (r ≡ r') × (cs₁ ≡ cs₂) × (xs₁ ≡ xs₂)
+  pub move-agrees : (spec : TurnStockSpec) (cs cs₁ cs₂ xs xs₁ xs₂ : List Float) (count g : ℕ) (removed : List Float) (r r' : Moved) → Moves (stockFrom spec count g) (moveOf spec cs xs count g is ys k removed) r cs cs₁ xs xs₁ → Moves (stockFrom spec count g) (moveListOf spec cs xs count g l removed) r' cs cs₂ xs xs₂ → (r ≡ r') × (cs₁ ≡ cs₂) × (xs₁ ≡ xs₂)
   move-agrees spec cs cs₁ cs₂ xs xs₁ xs₂ count g removed r r' a b =
-      moved-once (moveListOf spec cs xs count g l removed) r r' cs cs₁ cs₂ xs xs₁ xs₂ (subst (λ (p : Paper Left). Moves p r cs cs₁ xs xs₁) (move-is spec cs xs count g removed) a) b
+      moved-once (stockFrom spec count g) (moveListOf spec cs xs count g l removed) r r' cs cs₁ cs₂ xs xs₁ xs₂ (subst (λ (p : Paper Left). Moves (stockFrom spec count g) p r cs cs₁ xs xs₁) (move-is spec cs xs count g removed) a) b
 
 -- ---- a preview or a difference
 flat-holds : (p : Paper (List TurnChange)) (r : Previewed) (is is' : List ℕ) (xs xs' : List Float) → Proposed p r is is' xs xs' → changesFrom is' xs' (countIn r) ≡ writtenOf p

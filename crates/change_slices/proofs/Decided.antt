@@ -10,14 +10,16 @@ use Rattle.refusals.specs.Number.{reasonOf, reasonAt}
 use Rattle.refusals.specs.Limits.{lastGeneration}
 use Rattle.refusals.specs.Paper.{Paper, Reason, answers, refuses, only, at, demand, demandNone, onward, demandNone-some, papers}
 use Rattle.stock.specs.declared.TurnStockSpec.{TurnStockSpec}
+use Rattle.stock.specs.declared.TurnStock.{TurnStock}
 use Rattle.stock.specs.declared.TurnChange.{TurnChange}
 use Rattle.stock.specs.Spec.{cleanSpec}
 use Rattle.stock.specs.Cell.{stockOf}
+use Rattle.stock.specs.Stock.{stockFrom}
 use Rattle.stock.proofs.Count.{no-answer}
 use Rattle.changes.specs.Change.{changesFrom}
 use Rattle.rings.specs.declared.Ring.{Ring}
 use Rattle.rings.specs.Store.{barRing, countFits, badRing}
-use Rattle.rings.specs.Remove.{removeRings}
+use Rattle.rings.specs.Remove.{removeRings, stockAfter}
 use Rattle.changes.specs.declared.Applied.{Applied}
 use Rattle.changes.specs.declared.Applied.the-variants as applied
 use Rattle.changes.specs.Commit.{appliedPaper, generationOf, Committed, firstFall, eachFrom, passAll, putAll, commitIn, commitOf}
@@ -66,13 +68,13 @@ module _ {A : Type 0} (spec : TurnStockSpec) (cs xs : List Float) (count : ℕ) 
 
 -- a refusal behind them: its answer, and the rings stay
 module _ (spec : TurnStockSpec) (cs xs : List Float) (count : ℕ) (removed : List Float) (x : Reason) where
-  asked-counts : askedFirst spec cs xs count removed (refuses x) ≡ countsOf (askedFirst spec cs xs count removed (refuses x))
+  asked-counts : (k : TurnStock) → askedFirst spec cs xs count removed (refuses x) ≡ stockAfter k (countsOf (askedFirst spec cs xs count removed (refuses x)))
   unfolding askedFirst onward demand demandNone
-  asked-counts = go (stockOf spec cs) (countFits (barRing (cleanSpec spec)) xs count) (badRing removed)
+  asked-counts k = go (stockOf spec cs) (countFits (barRing (cleanSpec spec)) xs count) (badRing removed)
     where
-      go : (p : Paper ℕ) (a : Bool) (o : Option ℕ) → onward p (λ _. demand a 4 (demandNone o 10 (refuses x))) ≡ countsOf (onward p (λ _. demand a 4 (demandNone o 10 (refuses x))))
+      go : (p : Paper ℕ) (a : Bool) (o : Option ℕ) → onward p (λ _. demand a 4 (demandNone o 10 (refuses x))) ≡ stockAfter k (countsOf (onward p (λ _. demand a 4 (demandNone o 10 (refuses x)))))
       go (answers n) true none = refl
-      go (answers n) true (some k) = refl
+      go (answers n) true (some j) = refl
       go (answers n) false o = refl
       go (refuses j) a o = refl
 
@@ -121,16 +123,20 @@ module _ (spec : TurnStockSpec) (xs : List Float) (count g : ℕ) (removed : Lis
   rest-cells false b p c rr cs = refl
 
   -- where it is stored they are those
-  rest-stored : (a : Bool) (b : Option ℕ) (p : Paper (Unit {0})) (c : Bool) (rr : Paper (List Ring)) (cs ds : List Float) (n h : ℕ) → movedPaper (moved.Stored n h) ≡ countsOf (rest a b p c rr ds) → movedCells (rest a b p c rr ds) cs ≡ ds
+  rest-stored : (a : Bool) (b : Option ℕ) (p : Paper (Unit {0})) (c : Bool) (rr : Paper (List Ring)) (cs ds : List Float) (k j : TurnStock) → movedPaper (moved.Stock j) ≡ stockAfter k (countsOf (rest a b p c rr ds)) → movedCells (rest a b p c rr ds) cs ≡ ds
   unfolding demand demandNone onward
-  rest-stored true none (answers u) true (answers rs) cs ds n h e = refl
-  rest-stored true none (answers u) true (refuses r) cs ds n h e = absurd (no-answer r _ (sym e))
-  rest-stored true none (answers u) false rr cs ds n h e = absurd (no-answer (only 12) _ (sym e))
-  rest-stored true none (refuses r) c rr cs ds n h e = absurd (no-answer r _ (sym e))
-  rest-stored true (some k) p c rr cs ds n h e = absurd (no-answer (at 10 k) _ (sym e))
-  rest-stored false b p c rr cs ds n h e = absurd (no-answer (only 4) _ (sym e))
+  rest-stored true none (answers u) true (answers rs) cs ds k j e = refl
+  rest-stored true none (answers u) true (refuses r) cs ds k j e = absurd (no-answer r _ (sym e))
+  rest-stored true none (answers u) false rr cs ds k j e = absurd (no-answer (only 12) _ (sym e))
+  rest-stored true none (refuses r) c rr cs ds k j e = absurd (no-answer r _ (sym e))
+  rest-stored true (some i) p c rr cs ds k j e = absurd (no-answer (at 10 i) _ (sym e))
+  rest-stored false b p c rr cs ds k j e = absurd (no-answer (only 4) _ (sym e))
 
 module _ (spec : TurnStockSpec) (cs xs : List Float) (count g : ℕ) (l : List TurnChange) (removed : List Float) where
+  -- the stock before the move
+  abbrev before : TurnStock
+  before = stockFrom spec count g
+
   abbrev fit : Bool
   fit = countFits (barRing (cleanSpec spec)) xs count
 
@@ -159,11 +165,11 @@ module _ (spec : TurnStockSpec) (cs xs : List Float) (count g : ℕ) (l : List T
       go (answers n) q = at-bins n q
       go (refuses j) q = refl
 
-  pub move-left : (decided : Applied) → appliedPaper decided ≡ generationOf (commitOf spec cs 0 l) → (r : Reason) (own q : Moved) → appliedPaper decided ≡ refuses r → movedPaper own ≡ refuses r → movedPaper q ≡ askedFirst spec cs xs count removed (movedPaper own) → Storing (moveListOf spec cs xs count g l removed) q cs cs xs xs
+  pub move-left : (decided : Applied) → appliedPaper decided ≡ generationOf (commitOf spec cs 0 l) → (r : Reason) (own q : Moved) → appliedPaper decided ≡ refuses r → movedPaper own ≡ refuses r → movedPaper q ≡ askedFirst spec cs xs count removed (movedPaper own) → Storing before (moveListOf spec cs xs count g l removed) q cs cs xs xs
   move-left decided e r own q d o f =
       let p = move-refused decided e r d in
       record {
-        answer = f ∙ ap (askedFirst spec cs xs count removed) o ∙ asked-counts spec cs xs count removed r ∙ ap countsOf (sym p);
+        answer = f ∙ ap (askedFirst spec cs xs count removed) o ∙ asked-counts spec cs xs count removed r before ∙ ap (λ (x : Paper Left). stockAfter before (countsOf x)) (sym p);
         cells = refl;
         rings = sym (ap (λ (x : Paper Left). movedRings x xs) p ∙ asked-rings spec cs xs count removed r);
       }
@@ -177,13 +183,13 @@ module _ (spec : TurnStockSpec) (cs xs : List Float) (count g : ℕ) (l : List T
   unfolding passAll firstFall eachFrom demandNone
   none-pass n = refl
 
-  pub move-stores : (decided : Applied) → appliedPaper decided ≡ generationOf (commitOf spec cs 0 l) → (h : ℕ) → decided ≡ applied.Generation h → (r : Moved) (cs' xs' : List Float) → Moves (moveOf spec cs xs count g [] [] 0 removed) r cs cs' xs xs' → Storing (moveListOf spec cs xs count g l removed) r cs cs' xs xs'
+  pub move-stores : (decided : Applied) → appliedPaper decided ≡ generationOf (commitOf spec cs 0 l) → (h : ℕ) → decided ≡ applied.Generation h → (r : Moved) (cs' xs' : List Float) → Moves before (moveOf spec cs xs count g [] [] 0 removed) r cs cs' xs xs' → Storing before (moveListOf spec cs xs count g l removed) r cs cs' xs xs'
   unfolding moveListOf moveOf commitOf demand changesFrom onward
   move-stores decided e h d r cs' xs' w = go (stockOf spec cs) (sym (ap appliedPaper d) ∙ e) w
     where
-      at : (p q : Paper Left) → p ≡ R (answers tt) (putAll cs l) → q ≡ R (answers tt) cs → Moves q r cs cs' xs xs' → Storing p r cs cs' xs xs'
+      at : (p q : Paper Left) → p ≡ R (answers tt) (putAll cs l) → q ≡ R (answers tt) cs → Moves before q r cs cs' xs xs' → Storing before p r cs cs' xs xs'
       at p q ep eq w = record {
-        answer = w .answer ∙ ap countsOf eq ∙ same-counts spec xs count g removed fit (badRing removed) (answers tt) few (removeRings spec xs count removed) cs (putAll cs l) ∙ ap countsOf (sym ep);
+        answer = w .answer ∙ ap (stockAfter before) (ap countsOf eq ∙ same-counts spec xs count g removed fit (badRing removed) (answers tt) few (removeRings spec xs count removed) cs (putAll cs l) ∙ ap countsOf (sym ep));
         cells = w .cells ∙ ap (λ (x : Paper Left). movedCells x cs) eq ∙ rest-cells spec xs count g removed fit (badRing removed) (answers tt) few (removeRings spec xs count removed) cs;
         rings = w .rings ∙ ap (λ (x : Paper Left). movedRings x xs) eq ∙ same-rings spec xs count g removed fit (badRing removed) (answers tt) few (removeRings spec xs count removed) cs (putAll cs l) ∙ ap (λ (x : Paper Left). movedRings x xs) (sym ep);
       }
@@ -191,26 +197,26 @@ module _ (spec : TurnStockSpec) (cs xs : List Float) (count g : ℕ) (l : List T
       none-is : (n : ℕ) → demand (leb 0 0) 6 (moveIn spec n cs xs count g (changesFrom [] [] 0) removed) ≡ R (answers tt) cs
       none-is n = in-is n [] ∙ ap (λ (x : Paper (Unit {0})). R x cs) (none-pass n)
 
-      go : (p : Paper ℕ) → answers h ≡ generationOf (onward p (λ n. commitIn (cleanSpec spec) n cs 0 l)) → Moves (onward p (λ n. demand (leb 0 0) 6 (moveIn spec n cs xs count g (changesFrom [] [] 0) removed))) r cs cs' xs xs' → Storing (onward p (λ n. moveIn spec n cs xs count g l removed)) r cs cs' xs xs'
+      go : (p : Paper ℕ) → answers h ≡ generationOf (onward p (λ n. commitIn (cleanSpec spec) n cs 0 l)) → Moves before (onward p (λ n. demand (leb 0 0) 6 (moveIn spec n cs xs count g (changesFrom [] [] 0) removed))) r cs cs' xs xs' → Storing before (onward p (λ n. moveIn spec n cs xs count g l removed)) r cs cs' xs xs'
       go (answers n) q w = at (moveIn spec n cs xs count g l removed) (demand (leb 0 0) 6 (moveIn spec n cs xs count g (changesFrom [] [] 0) removed)) (in-is n l ∙ ap (λ (x : Paper (Unit {0})). R x (putAll cs l)) (passed-by n h q)) (none-is n) w
       go (refuses j) q w = absurd (no-answer j h (sym q))
 
   -- ---- after the rings
-  kept : (p : Paper Left) (x : Reason) → refuses x ≡ countsOf p → cs ≡ movedCells p cs
+  kept : (p : Paper Left) (x : Reason) → refuses x ≡ stockAfter before (countsOf p) → cs ≡ movedCells p cs
   kept (answers a) x e = absurd (no-answer x _ e)
   kept (refuses j) x e = refl
 
-  pub move-kept : (r : Moved) (cs' xs' : List Float) → Storing (moveListOf spec cs xs count g l removed) r cs cs' xs xs' → isStored r ≡ false → Moves (moveListOf spec cs xs count g l removed) r cs cs' xs xs'
-  move-kept (moved.Stored n h) cs' xs' w t = absurd (false≢true (sym t))
+  pub move-kept : (r : Moved) (cs' xs' : List Float) → Storing before (moveListOf spec cs xs count g l removed) r cs cs' xs xs' → isStored r ≡ false → Moves before (moveListOf spec cs xs count g l removed) r cs cs' xs xs'
+  move-kept (moved.Stock j) cs' xs' w t = absurd (false≢true (sym t))
   move-kept (moved.Refused c) cs' xs' w t = record { answer = w .answer; cells = w .cells ∙ kept (moveListOf spec cs xs count g l removed) (reasonOf c) (w .answer); rings = w .rings }
   move-kept (moved.RefusedAt c k) cs' xs' w t = record { answer = w .answer; cells = w .cells ∙ kept (moveListOf spec cs xs count g l removed) (reasonAt c k) (w .answer); rings = w .rings }
 
-  pub move-done : (r : Moved) (cs' cs'' xs' : List Float) → Storing (moveListOf spec cs xs count g l removed) r cs cs' xs xs' → isStored r ≡ true → cs'' ≡ putAll cs' l → Moves (moveListOf spec cs xs count g l removed) r cs cs'' xs xs'
+  pub move-done : (r : Moved) (cs' cs'' xs' : List Float) → Storing before (moveListOf spec cs xs count g l removed) r cs cs' xs xs' → isStored r ≡ true → cs'' ≡ putAll cs' l → Moves before (moveListOf spec cs xs count g l removed) r cs cs'' xs xs'
   unfolding moveListOf onward moveIn
   move-done (moved.Refused c) cs' cs'' xs' w t q = absurd (false≢true t)
   move-done (moved.RefusedAt c k) cs' cs'' xs' w t q = absurd (false≢true t)
-  move-done (moved.Stored k h) cs' cs'' xs' w t q = record { answer = w .answer; cells = q ∙ ap (λ (x : List Float). putAll x l) (w .cells) ∙ sym (go (stockOf spec cs) (w .answer)); rings = w .rings }
+  move-done (moved.Stock j) cs' cs'' xs' w t q = record { answer = w .answer; cells = q ∙ ap (λ (x : List Float). putAll x l) (w .cells) ∙ sym (go (stockOf spec cs) (w .answer)); rings = w .rings }
     where
-      go : (p : Paper ℕ) → movedPaper (moved.Stored k h) ≡ countsOf (onward p (λ n. moveIn spec n cs xs count g l removed)) → movedCells (onward p (λ n. moveIn spec n cs xs count g l removed)) cs ≡ putAll cs l
-      go (answers n) e = rest-stored spec xs count g removed fit (badRing removed) (passAll (cleanSpec spec) n cs l) few (removeRings spec xs count removed) cs (putAll cs l) k h e
-      go (refuses j) e = absurd (no-answer j _ (sym e))
+      go : (p : Paper ℕ) → movedPaper (moved.Stock j) ≡ stockAfter before (countsOf (onward p (λ n. moveIn spec n cs xs count g l removed))) → movedCells (onward p (λ n. moveIn spec n cs xs count g l removed)) cs ≡ putAll cs l
+      go (answers n) e = rest-stored spec xs count g removed fit (badRing removed) (passAll (cleanSpec spec) n cs l) few (removeRings spec xs count removed) cs (putAll cs l) before j e
+      go (refuses r) e = absurd (no-answer r _ (sym e))

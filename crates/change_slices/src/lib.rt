@@ -6,6 +6,7 @@
 // records one by one.
 ghost use mathlib.Core.Path.{_≡_};
 ghost use Rattle.stock.specs.Cell.{putCell};
+ghost use Rattle.stock.specs.Stock.{stockFrom};
 ghost use Rattle.changes.specs.Commit.{commitOf, generationOf, appliedPaper, putAll, Commits};
 ghost use Rattle.cuts.specs.Tool.{previewTool};
 ghost use Rattle.moves.specs.Move.{MovesLent};
@@ -78,8 +79,8 @@ pub fn apply(
     answer
 }
 
-// Commit the changes and take the rings `removed`: the count of rings and the generation afterwards;
-// 1, 2, 3, 4, 10, 7, then change by change 8, 21, 22, 23, then 12, 11.
+// Commit the changes and take the rings `removed`: the stock afterwards; 1, 2, 3, 4, 10, 7, then change
+// by change 8, 21, 22, 23, then 12, 11.
 pub fn apply_move(
     spec: TurnStockSpec,
     cells: &mut [f64],
@@ -89,7 +90,9 @@ pub fn apply_move(
     changes: &[TurnChange],
     removed: &[f64],
 ) -> Moved
-    ensures { λ r. ⌜ MovesLent (moveListOf spec (now (cells .entry)) (now (rings .entry)) count generation (now (changes .entry)) (now (removed .entry))) r cells rings ⌝ }
+    ensures { λ r. ⌜ MovesLent (stockFrom spec count generation)
+        (moveListOf spec (now (cells .entry)) (now (rings .entry)) count generation (now (changes .entry)) (now (removed .entry)))
+        r cells rings ⌝ }
 {
     let decided = decide(spec, cells, 0, changes);
     let answer = moving::store(spec, cells, rings, count, generation, decided, removed);

@@ -7,6 +7,8 @@ use moves::Moved;
 use refusals::Refusal;
 use rings::Judged;
 use stock::Counted;
+use stock::Stamp;
+use stock::TurnStock;
 use stock::TurnStockSpec;
 
 // What refuses a move whose changes are refused with `own`: 1, 2, 3, 4 and 10 come first.
@@ -53,7 +55,12 @@ pub fn store(
             first_of(spec, cells, rings, count, removed, Moved::RefusedAt(r, at))
         }
         Applied::Generation(_) => {
-            moves::apply_move(spec, cells, rings, count, generation, &[], &[], 0, removed)
+            let stock = TurnStock {
+                spec,
+                stamp: Stamp { generation },
+                rings: count,
+            };
+            moves::apply_move(stock, cells, rings, &[], &[], 0, removed)
         }
     }
 }
@@ -63,7 +70,7 @@ pub fn is_stored(answer: Moved) -> bool
     ensures { λ r. ⌜ r ≡ isStored answer ⌝ }
 {
     match answer {
-        Moved::Stored(_, _) => true,
+        Moved::Stock(_) => true,
         Moved::Refused(_) => false,
         Moved::RefusedAt(_, _) => false,
     }

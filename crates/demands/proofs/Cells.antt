@@ -10,17 +10,19 @@ use native.Mathlib.Omega.{arith}
 use lib.ListN.{length, getD, List·getD-append}
 use lib.Seq.{getD-append-add}
 use lib.Ieee.{Float, binary64, nan}
-use Rattle.refusals.specs.Paper.{Paper, answers}
+use Rattle.refusals.specs.Paper.{Paper, answers, refuses}
 use Rattle.floats.specs.Kinds.{Finite}
 use Rattle.floats.proofs.Order.{number-of, le-self, le-trans, lt→le}
 use Rattle.floats.proofs.Within.{finite-within, finite-between}
 use Rattle.stock.specs.declared.TurnStockSpec.{TurnStockSpec}
 use Rattle.stock.specs.declared.TurnCell.{TurnCell}
 use Rattle.stock.specs.declared.RadiusBounds.{RadiusBounds}
-use Rattle.stock.specs.declared.Counted.the-variants.{Cells}
+use Rattle.stock.specs.declared.TurnStock.{TurnStock}
+use Rattle.stock.specs.declared.Made.the-variants.{Stock}
 use Rattle.stock.specs.Spec.{cleanSpec, cellsOf}
-use Rattle.stock.specs.Cell.{numberAt, cellAt, fourOf, cellFits, stockOf, freshCell, cellsLike, newOf, newCells, Filled}
-use Rattle.stock.proofs.Count.{checked, demanded, same-answer}
+use Rattle.stock.specs.Cell.{numberAt, cellAt, fourOf, cellFits, stockOf, freshCell, cellsLike, newOf, newCells}
+use Rattle.stock.specs.Stock.{stockMade, Filled}
+use Rattle.stock.proofs.Count.{checked, demanded, no-answer, same-answer}
 use Rattle.stock.proofs.Cells.{length-like}
 use Rattle.stock.proofs.Bins.{HeldSpec, Bar, bar-of}
 use Rattle.stock.proofs.Stored.{cell-path}
@@ -99,11 +101,20 @@ module _ {spec : TurnStockSpec} {n : ℕ} (hs : HeldSpec spec) (e : cellsOf spec
       let i = pair-finite (c .inner) (g .inner) in
       (o .0, o .1, i .0, i .1)
 
--- so it is of what the call leaves
-pub fill-fits : (spec : TurnStockSpec) (n : ℕ) (cs cs' : List Float) → HeldSpec spec → Filled spec (Cells n) cs cs' → stockOf spec cs' ≡ answers n
+-- so it is of what the call leaves: it fits, and has as many cells as its spec says
+pub record FilledCells (spec : TurnStockSpec) (cs : List Float) : Type 0 where
+  pub bins : ℕ
+  pub counted : cellsOf spec ≡ answers bins
+  pub fits : stockOf spec cs ≡ answers bins
+
+pub fill-fits : (spec : TurnStockSpec) (k : TurnStock) (cs cs' : List Float) → HeldSpec spec → Filled spec (Stock k) cs cs' → FilledCells spec cs'
 unfolding newOf
-fill-fits spec n cs cs' hs f =
-    let a = answered (cellsOf spec) _ n (sym (f .answer)) in
-    let s : a .value ≡ n = same-answer (demanded _ _ _ _ (a .then) .1) in
-    let e : cellsOf spec ≡ answers n = a .first ∙ ap answers s in
-    ap (stockOf spec) (f .cells ∙ ap (λ (p : Paper ℕ). newCells spec p cs) (sym (f .answer))) ∙ fresh-fits hs e
+fill-fits spec k cs cs' hs f = go (newOf spec (length cs)) refl (f .answer) (f .cells)
+  where
+    go : (p : Paper ℕ) → newOf spec (length cs) ≡ p → answers k ≡ stockMade spec p → cs' ≡ newCells spec p cs → FilledCells spec cs'
+    go (refuses r) e b c = absurd (no-answer r k (sym b))
+    go (answers n) e b c =
+        let a = answered (cellsOf spec) _ n e in
+        let s : a .value ≡ n = same-answer (demanded _ _ _ _ (a .then) .1) in
+        let h : cellsOf spec ≡ answers n = a .first ∙ ap answers s in
+        record { bins = n; counted = h; fits = ap (stockOf spec) c ∙ fresh-fits hs h }

@@ -11,15 +11,16 @@ use Rattle.floats.specs.Numbers.{zero64, leastOf, greatestOf, sizeOf, cleanOf, 
 use Rattle.numbers.specs.Whole.{wholeUp}
 use Rattle.stock.specs.Spec.{cleanSpec, specGood, cellsOf}
 use Rattle.stock.specs.Cell.{cellFits, fitTo, cellsFit, stockOf, cellsLike}
+use Rattle.stock.specs.Stock.{stockFrom}
 use Rattle.changes.specs.Change.{changesFrom}
 use Rattle.changes.specs.Commit.{eachFrom, firstFall, passAll}
 use Rattle.rings.specs.declared.Ring.{Ring}
-use Rattle.rings.specs.declared.StoredAs.the-variants as stored
 use Rattle.rings.specs.Ring as Ring
 use Rattle.rings.specs.Ring.{kept, around, split, subtract, subtractAll, inHand, clip, left}
 use Rattle.rings.specs.Store.{ringsOf, flatOf, storeAs, ringFits, apartAll, storeFits, countFits, badFrom, badRing, raisedBy}
-use Rattle.rings.specs.Remove.{roomFor, added, addedAll, countOf, removeAllIn, removeRings, storedNext, removeIn, removeRing, countsOf, ringsAfter, StoresAs}
-use Rattle.moves.specs.Move.{generationAfter, moveIn, moveOf, partsOf}
+use Rattle.rings.specs.Remove.{roomFor, added, addedAll, countOf, removeAllIn, removeRings, storedNext, removeIn, removeRing, countsOf, ringsAfter}
+use Rattle.moves.specs.declared.Rebuilt.the-variants as rebuilt
+use Rattle.moves.specs.Move.{generationAfter, moveIn, moveOf, partsOf, Rebuilds}
 use Rattle.text.specs.Parts.{intoFirst, partedAt}
 use Rattle.text.specs.Same.{sameBytes}
 use Rattle.text.specs.Whole.{allDigits, spelt, isWhole, wholeOf}
@@ -64,7 +65,7 @@ unfolding demand demandNone onward pick leastOf greatestOf sizeOf minusZero clea
 move-made = made-move (record { answer = refl; cells = refl; rings = refl }) no-moves
 
 -- and by `from_parts`
-pub parts-rebuilt : StoresAs empty (partsOf bar (whole .cells) (zero64 ∷ six ∷ two ∷ six ∷ []) empty) (stored.Rings 1) one
+pub parts-rebuilt : Rebuilds bar empty (partsOf bar (whole .cells) (zero64 ∷ six ∷ two ∷ six ∷ []) empty) (rebuilt.Stock (stockFrom bar 1 0)) one
 unfolding demand demandNone onward pick leastOf greatestOf sizeOf minusZero cleanOf over kept around split subtract subtractAll inHand clip left ringsOf flatOf storeAs ringFits apartAll storeFits countFits badFrom badRing roomFor added addedAll removeAllIn removeRings countOf partsOf cleanSpec specGood cellsOf wholeUp cellFits fitTo cellsFit stockOf Ieee.ofBits Ieee.ofFields Ieee.odd Ieee.eq Ieee.ne Ieee.lt Ieee.le Ieee.div Ieee.sub Ieee.add Ieee.mul Ieee.neg Ieee.sum Ieee.round Ieee.units Ieee.ofInt Ieee.size Ieee.span Ieee.climb Ieee.toUnsigned
 parts-rebuilt = record { answer = refl; store = refl }
 

@@ -13,9 +13,12 @@ use Rattle.refusals.specs.Number.{numberOf, reasonOf}
 use Rattle.refusals.specs.Lent.{over}
 use Rattle.refusals.specs.Paper.{Paper, Reason, answers, refuses, onward}
 use Rattle.stock.specs.declared.TurnStockSpec.{TurnStockSpec}
+use Rattle.stock.specs.declared.TurnStock.{TurnStock}
 use Rattle.stock.specs.declared.TurnChange.{TurnChange}
 use Rattle.stock.specs.declared.Counted.the-variants as counted
-use Rattle.stock.specs.Cell.{newOf, newCells, Filled}
+use Rattle.stock.specs.declared.Made.the-variants as made
+use Rattle.stock.specs.Cell.{newOf, newCells}
+use Rattle.stock.specs.Stock.{stockMade, Filled}
 use Rattle.stock.proofs.Count.{no-answer}
 use Rattle.blocks.specs.Renew.{renewOf, blocksAfter, Renewed}
 use Rattle.changes.specs.declared.Previewed.{Previewed}
@@ -27,10 +30,11 @@ use Rattle.rings.specs.declared.Ring.{Ring}
 use Rattle.rings.specs.declared.StoredAs.{StoredAs}
 use Rattle.rings.specs.declared.Removed.{Removed}
 use Rattle.rings.specs.Remove as rings
-use Rattle.rings.specs.Remove.{RingStore, storedPaper, StoresAs, removedPaper, countsOf, ringsAfter, Removes}
+use Rattle.rings.specs.Remove.{RingStore, storedPaper, StoresAs, stockAfter, removedPaper, countsOf, ringsAfter, Removes}
 use Rattle.moves.specs.declared.Moved.{Moved}
 use Rattle.moves.specs.Move as moves
-use Rattle.moves.specs.Move.{Left, movedPaper, Moves}
+use Rattle.moves.specs.declared.Rebuilt.{Rebuilt}
+use Rattle.moves.specs.Move.{Left, movedPaper, Moves, stockStored, rebuiltPaper, Rebuilds}
 use Rattle.envelope.specs.Halving.{keptOf, Kept}
 use Rattle.change_slices.specs.Proposal.{Written}
 use Rattle.job_run.specs.declared.line.Carried.{Carried}
@@ -92,20 +96,20 @@ commit-left (refuses m) r n cs cs' e h = (same-number (sym e ∙ h .answer), h .
 
 -- ---- one ring: the rings
 
-pub ring-call : {p : Paper RingStore} {r : Removed} {xs ys : List Float} {l : List Asked} → Removes xs p r ys → Exactly p l → Exactly (removedPaper r) l
+pub ring-call : {k : TurnStock} {p : Paper RingStore} {r : Removed} {xs ys : List Float} {l : List Asked} → Removes k xs p r ys → Exactly p l → Exactly (removedPaper r) l
 unfolding refusalOf countsOf onward
-ring-call {p} {r} h x = exactly-as (removedPaper r) (ap refusalOf (h .answer) ∙ same p) x
+ring-call {k} {p} {r} h x = exactly-as (removedPaper r) (ap refusalOf (h .answer) ∙ same p) x
   where
-    same : (p : Paper RingStore) → refusalOf (countsOf p) ≡ refusalOf p
-    same (answers k) = refl
+    same : (p : Paper RingStore) → refusalOf (stockAfter k (countsOf p)) ≡ refusalOf p
+    same (answers s) = refl
     same (refuses n) = refl
 
-pub ring-left : (p : Paper RingStore) (r : Removed) (n : Reason) (xs ys : List Float) → removedPaper r ≡ refuses n → Removes xs p r ys → (p ≡ refuses n) × (ys ≡ xs)
+pub ring-left : (k : TurnStock) (p : Paper RingStore) (r : Removed) (n : Reason) (xs ys : List Float) → removedPaper r ≡ refuses n → Removes k xs p r ys → (p ≡ refuses n) × (ys ≡ xs)
 unfolding countsOf ringsAfter onward
-ring-left (answers k) r n xs ys e h = absurd (no-answer n _ (sym e ∙ h .answer))
-ring-left (refuses m) r n xs ys e h = (same-number (sym e ∙ h .answer), h .store)
+ring-left k (answers s) r n xs ys e h = absurd (no-answer n _ (sym e ∙ h .answer))
+ring-left k (refuses m) r n xs ys e h = (same-number (sym e ∙ h .answer), h .store)
 
--- ---- a list of rings, and parts: the rings
+-- ---- a list of rings: the rings
 
 pub rings-call : {p : Paper (List Ring)} {r : StoredAs} {xs ys : List Float} {l : List Asked} → StoresAs xs p r ys → Exactly p l → Exactly (storedPaper r) l
 unfolding refusalOf rings.countOf onward
@@ -120,19 +124,34 @@ unfolding rings.countOf onward
 rings-left (answers k) r n xs ys e h = absurd (no-answer n (length k) (sym e ∙ h .answer))
 rings-left (refuses m) r n xs ys e h = (same-number (sym e ∙ h .answer), h .store)
 
--- ---- a move: the cells and the rings, nothing of either written before all is decided
+-- ---- parts: the rings
 
-pub move-call : {p : Paper Left} {r : Moved} {cs cs' xs xs' : List Float} {l : List Asked} → Moves p r cs cs' xs xs' → Exactly p l → Exactly (movedPaper r) l
-unfolding refusalOf
-move-call {p} {r} h x = exactly-as (movedPaper r) (ap refusalOf (h .answer) ∙ same p) x
+pub parts-call : {spec : TurnStockSpec} {p : Paper (List Ring)} {r : Rebuilt} {xs ys : List Float} {l : List Asked} → Rebuilds spec xs p r ys → Exactly p l → Exactly (rebuiltPaper r) l
+unfolding refusalOf rings.countOf onward
+parts-call {spec} {p} {r} h x = exactly-as (rebuiltPaper r) (ap refusalOf (h .answer) ∙ same p) x
   where
-    same : (p : Paper Left) → refusalOf (moves.countsOf p) ≡ refusalOf p
+    same : (p : Paper (List Ring)) → refusalOf (stockStored spec (rings.countOf p)) ≡ refusalOf p
     same (answers k) = refl
     same (refuses n) = refl
 
-pub move-left : (p : Paper Left) (r : Moved) (n : Reason) (cs cs' xs xs' : List Float) → movedPaper r ≡ refuses n → Moves p r cs cs' xs xs' → (p ≡ refuses n) × (cs' ≡ cs) × (xs' ≡ xs)
-move-left (answers k) r n cs cs' xs xs' e h = absurd (no-answer n _ (sym e ∙ h .answer))
-move-left (refuses m) r n cs cs' xs xs' e h = (same-number (sym e ∙ h .answer), h .cells, h .rings)
+pub parts-left : (spec : TurnStockSpec) (p : Paper (List Ring)) (r : Rebuilt) (n : Reason) (xs ys : List Float) → rebuiltPaper r ≡ refuses n → Rebuilds spec xs p r ys → (p ≡ refuses n) × (ys ≡ xs)
+unfolding rings.countOf onward
+parts-left spec (answers k) r n xs ys e h = absurd (no-answer n _ (sym e ∙ h .answer))
+parts-left spec (refuses m) r n xs ys e h = (same-number (sym e ∙ h .answer), h .store)
+
+-- ---- a move: the cells and the rings, nothing of either written before all is decided
+
+pub move-call : {k : TurnStock} {p : Paper Left} {r : Moved} {cs cs' xs xs' : List Float} {l : List Asked} → Moves k p r cs cs' xs xs' → Exactly p l → Exactly (movedPaper r) l
+unfolding refusalOf
+move-call {k} {p} {r} h x = exactly-as (movedPaper r) (ap refusalOf (h .answer) ∙ same p) x
+  where
+    same : (p : Paper Left) → refusalOf (stockAfter k (moves.countsOf p)) ≡ refusalOf p
+    same (answers a) = refl
+    same (refuses n) = refl
+
+pub move-left : (k : TurnStock) (p : Paper Left) (r : Moved) (n : Reason) (cs cs' xs xs' : List Float) → movedPaper r ≡ refuses n → Moves k p r cs cs' xs xs' → (p ≡ refuses n) × (cs' ≡ cs) × (xs' ≡ xs)
+move-left k (answers a) r n cs cs' xs xs' e h = absurd (no-answer n _ (sym e ∙ h .answer))
+move-left k (refuses m) r n cs cs' xs xs' e h = (same-number (sym e ∙ h .answer), h .cells, h .rings)
 
 -- ---- a line of a job: the cells and the rings. The two lists are scratch of the call: at the last generation a cut has written its changes there when its commit answers 12
 
@@ -155,8 +174,12 @@ line-left (refuses n) c cs cs' xs xs' h = (n, refl, ap numberIn (sym (h .answer)
 
 -- ---- a new stock: the numbers that it is to fill
 
-pub fill-left : (spec : TurnStockSpec) (c : Refusal) (cs cs' : List Float) → Filled spec (counted.Refused c) cs cs' → (newOf spec (length cs) ≡ refuses (reasonOf c)) × (cs' ≡ cs)
-fill-left spec c cs cs' h = (sym (h .answer), h .cells ∙ ap (λ (p : Paper ℕ). newCells spec p cs) (sym (h .answer)))
+pub fill-left : (spec : TurnStockSpec) (c : Refusal) (cs cs' : List Float) → Filled spec (made.Refused c) cs cs' → (newOf spec (length cs) ≡ refuses (reasonOf c)) × (cs' ≡ cs)
+fill-left spec c cs cs' h = go (newOf spec (length cs)) refl (h .answer) (h .cells)
+  where
+    go : (p : Paper ℕ) → newOf spec (length cs) ≡ p → refuses (reasonOf c) ≡ stockMade spec p → cs' ≡ newCells spec p cs → (newOf spec (length cs) ≡ refuses (reasonOf c)) × (cs' ≡ cs)
+    go (answers n) e b d = absurd (no-answer (reasonOf c) _ b)
+    go (refuses n) e b d = (e ∙ same-number b, d)
 
 -- ---- kept numbers that are worked out
 

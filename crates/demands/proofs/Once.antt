@@ -42,7 +42,7 @@
 --   changes   list_change (listed-once), apply, commit_unasked (applied-once), changes_to (Proposals.once of changes)
 --   change_slices apply, read_changes, propose (Once of change_slices), apply_move (Once.moved-once of moves)
 --   rings     remove_ring (removed-once), remove_rings (Once.stored-once of moves), left_of (left-of-once)
---   moves     apply_move (Once.moved-once of moves), from_parts (Once.stored-once of moves)
+--   moves     apply_move (Once.moved-once of moves), from_parts (Once.rebuilt-once of moves)
 --   blocks    renew (renewed-once), leave_block (left-once), range_kept (kept-once)
 --   envelope  span_over (span-over-once), highest (highest-once)
 --   envelope  held::Envelope: new (new-once), order (order-once), within (within-once, of the numbers), radius_at (radius-at-once), radius_range (radius-range-once)
@@ -84,7 +84,10 @@ use Rattle.stock.specs.declared.Binned.{Binned}
 use Rattle.stock.specs.declared.Binned.the-variants as binned
 use Rattle.stock.specs.Spec.{countedPaper}
 use Rattle.stock.specs.Bin.{binnedPaper}
-use Rattle.stock.specs.Cell.{Filled}
+use Rattle.stock.specs.declared.TurnStock.{TurnStock}
+use Rattle.stock.specs.declared.Made.{Made}
+use Rattle.stock.specs.declared.Made.the-variants as made
+use Rattle.stock.specs.Stock.{madePaper, Filled}
 use Rattle.stock.proofs.Count.{same-answer, no-answer}
 use Rattle.envelope.specs.declared.held.Envelope.{Envelope}
 use Rattle.envelope.specs.declared.Span.{Span}
@@ -138,7 +141,7 @@ use Rattle.rings.specs.declared.Ring.{Ring}
 use Rattle.rings.specs.declared.Left.{Left}
 use Rattle.rings.specs.declared.Left.the-variants as pieces
 use Rattle.rings.specs.Store.{judgedPlace}
-use Rattle.rings.specs.Remove.{RingStore, RingCount, removedPaper, Removes, leftPaper, LeavesOf}
+use Rattle.rings.specs.Remove.{RingStore, removedPaper, Removes, leftPaper, LeavesOf}
 use Rattle.text.specs.Wrote.{Wrote, Put}
 use Rattle.job_run.specs.declared.Run.{Run}
 use Rattle.job_run.specs.declared.Taken.{Taken}
@@ -188,6 +191,12 @@ same-counted (counted.Cells n) (counted.Cells m) h = ap counted.Cells (same-answ
 same-counted (counted.Cells n) (counted.Refused d) h = absurd (no-answer _ _ (sym h))
 same-counted (counted.Refused c) (counted.Cells m) h = absurd (no-answer _ _ h)
 same-counted (counted.Refused c) (counted.Refused d) h = ap counted.Refused (same-refusal c d h)
+
+same-made : (r r' : Made) → madePaper r ≡ madePaper r' → r ≡ r'
+same-made (made.Stock k) (made.Stock j) h = ap made.Stock (same-answer h)
+same-made (made.Stock k) (made.Refused d) h = absurd (no-answer _ _ (sym h))
+same-made (made.Refused c) (made.Stock j) h = absurd (no-answer _ _ h)
+same-made (made.Refused c) (made.Refused d) h = ap made.Refused (same-refusal c d h)
 
 pub same-binned : (r r' : Binned) → binnedPaper r ≡ binnedPaper r' → r ≡ r'
 same-binned (binned.At z) (binned.At y) h = ap binned.At (same-answer h)
@@ -267,14 +276,12 @@ same-applied (applied.RefusedAt c j) (applied.Refused d) h = absurd (no-place d 
 same-applied (applied.RefusedAt c j) (applied.RefusedAt d k) h = let e = one-place c d j k (same-number h) in ap₂ applied.RefusedAt (e .0) (e .1)
 
 pub same-removed : (r r' : Removed) → removedPaper r ≡ removedPaper r' → r ≡ r'
-same-removed (removed.Stored n g) (removed.Stored n' g') h =
-    let e : _≡_ {A = RingCount} (record { rings = n; generation = g }) (record { rings = n'; generation = g' }) = same-answer h in
-    ap₂ removed.Stored (ap (λ (c : RingCount). c .rings) e) (ap (λ (c : RingCount). c .generation) e)
-same-removed (removed.Stored n g) (removed.Refused d) h = absurd (no-answer _ _ (sym h))
-same-removed (removed.Refused c) (removed.Stored n g) h = absurd (no-answer _ _ h)
+same-removed (removed.Stock k) (removed.Stock k') h = ap removed.Stock (same-answer h)
+same-removed (removed.Stock k) (removed.Refused d) h = absurd (no-answer _ _ (sym h))
+same-removed (removed.Refused c) (removed.Stock k) h = absurd (no-answer _ _ h)
 same-removed (removed.Refused c) (removed.Refused d) h = ap removed.Refused (same-refusal c d h)
-same-removed (removed.Stored n g) (removed.RefusedAt d k) h = absurd (no-answer _ _ (sym h))
-same-removed (removed.RefusedAt c j) (removed.Stored n g) h = absurd (no-answer _ _ h)
+same-removed (removed.Stock k) (removed.RefusedAt d j) h = absurd (no-answer _ _ (sym h))
+same-removed (removed.RefusedAt c j) (removed.Stock k) h = absurd (no-answer _ _ h)
 same-removed (removed.Refused c) (removed.RefusedAt d k) h = absurd (no-place c d k (same-number h))
 same-removed (removed.RefusedAt c j) (removed.Refused d) h = absurd (no-place d c j (same-number (sym h)))
 same-removed (removed.RefusedAt c j) (removed.RefusedAt d k) h = let e = one-place c d j k (same-number h) in ap₂ removed.RefusedAt (e .0) (e .1)
@@ -356,8 +363,8 @@ same-radius-range (radius-range.Refused c) (radius-range.Refused d) h = ap radiu
 
 -- ---- promises with lent buffers
 
-pub filled-once : (spec : TurnStockSpec) (r r' : Counted) (cs cs₁ cs₂ : List Float) → Filled spec r cs cs₁ → Filled spec r' cs cs₂ → (r ≡ r') × (cs₁ ≡ cs₂)
-filled-once spec r r' cs cs₁ cs₂ a b = (same-counted r r' (a .answer ∙ sym (b .answer)), a .cells ∙ sym (b .cells))
+pub filled-once : (spec : TurnStockSpec) (r r' : Made) (cs cs₁ cs₂ : List Float) → Filled spec r cs cs₁ → Filled spec r' cs cs₂ → (r ≡ r') × (cs₁ ≡ cs₂)
+filled-once spec r r' cs cs₁ cs₂ a b = (same-made r r' (a .answer ∙ sym (b .answer)), a .cells ∙ sym (b .cells))
 
 pub renewed-once : (spec : TurnStockSpec) (cs : List Float) (r r' : Counted) (bs bs₁ bs₂ : List Float) → Renewed spec cs r bs bs₁ → Renewed spec cs r' bs bs₂ → (r ≡ r') × (bs₁ ≡ bs₂)
 renewed-once spec cs r r' bs bs₁ bs₂ a b = (same-counted r r' (a .answer ∙ sym (b .answer)), a .numbers ∙ sym (b .numbers))
@@ -378,8 +385,8 @@ swept-once ps side excess b lo hi start end r r' m n =
 pub applied-once : (p : Paper Committed) (r r' : Applied) (cs cs₁ cs₂ : List Float) → Applies p r cs cs₁ → Applies p r' cs cs₂ → (r ≡ r') × (cs₁ ≡ cs₂)
 applied-once p r r' cs cs₁ cs₂ a b = (same-applied r r' (a .answer ∙ sym (b .answer)), a .cells ∙ sym (b .cells))
 
-pub removed-once : (xs : List Float) (p : Paper RingStore) (r r' : Removed) (xs₁ xs₂ : List Float) → Removes xs p r xs₁ → Removes xs p r' xs₂ → (r ≡ r') × (xs₁ ≡ xs₂)
-removed-once xs p r r' xs₁ xs₂ a b = (same-removed r r' (a .answer ∙ sym (b .answer)), a .store ∙ sym (b .store))
+pub removed-once : (k : TurnStock) (xs : List Float) (p : Paper RingStore) (r r' : Removed) (xs₁ xs₂ : List Float) → Removes k xs p r xs₁ → Removes k xs p r' xs₂ → (r ≡ r') × (xs₁ ≡ xs₂)
+removed-once k xs p r r' xs₁ xs₂ a b = (same-removed r r' (a .answer ∙ sym (b .answer)), a .store ∙ sym (b .store))
 
 pub left-of-once : (xs : List Float) (p : Paper (List Ring)) (r r' : Left) (xs₁ xs₂ : List Float) → LeavesOf xs p r xs₁ → LeavesOf xs p r' xs₂ → (r ≡ r') × (xs₁ ≡ xs₂)
 left-of-once xs p r r' xs₁ xs₂ a b = (same-left r r' (a .answer ∙ sym (b .answer)), a .store ∙ sym (b .store))

@@ -11,25 +11,28 @@ use lib.Ieee.{Float}
 use Rattle.refusals.specs.Paper.{Paper, answers, refuses, onward}
 use Rattle.floats.specs.Pick.{pick}
 use Rattle.stock.specs.declared.TurnStockSpec.{TurnStockSpec}
+use Rattle.stock.specs.declared.TurnStock.{TurnStock}
+use Rattle.stock.specs.Stock.{stockFrom}
 use Rattle.stock.specs.Spec.{cleanSpec, specGood}
 use Rattle.stock.proofs.Count.{no-answer, same-answer}
 use Rattle.rings.specs.declared.Ring.{Ring}
-use Rattle.rings.specs.declared.Removed.the-variants.{Stored}
+use Rattle.rings.specs.declared.Removed.the-variants.{Stock}
 use Rattle.rings.specs.declared.StoredAs.the-variants as stored
 use Rattle.rings.specs.Ring.{covers, covered, filled, clip}
 use Rattle.rings.specs.Points.{Disjoint}
 use Rattle.rings.specs.Store.{barRing, ringsOf, storeAs, countFits, ringsGood, raisedBy}
 use Rattle.rings.specs.Remove as rings
-use Rattle.rings.specs.Remove.{RingStore, RingCount, countsOf, ringsAfter, removeRing, removeRings, StoresAs, Removes}
+use Rattle.rings.specs.Remove.{RingStore, stockAfter, countsOf, ringsAfter, removeRing, removeRings, StoresAs, Removes}
 use Rattle.rings.proofs.Flat.{rings-stored}
 use Rattle.rings.proofs.Fitting.{store-disjoint}
 use Rattle.rings.proofs.Covering.{covered-turns}
 use Rattle.rings.proofs.Taken.{ring-taken, ring-passes, ring-covers, rings-pass, rings-pass-again, rings-cover, rings-either-order}
 use Rattle.moves.specs.declared.Moved.the-variants as moved
+use Rattle.moves.specs.declared.Rebuilt.the-variants as rebuilt
 use Rattle.moves.specs.Move as moves
-use Rattle.moves.specs.Move.{Left, generationAfter, moveOf, partsOf, Moves}
+use Rattle.moves.specs.Move.{Left, generationAfter, moveOf, partsOf, Moves, stockStored, Rebuilds}
 use Rattle.moves.proofs.Accepted.{taken, passed-disjoint, raised-turns, move-disjoint, move-covers, either-cells, either-generation, either-covers}
-use Rattle.moves.proofs.Rebuilt.{parts-disjoint, parts-cover, parts-either-order}
+use Rattle.moves.proofs.FromParts.{parts-disjoint, parts-cover, parts-either-order}
 use Rattle.demands.specs.Run.{Store, RanRings, done, ring, Held, Move, ringsIn, RanMoves, no-moves, made-move}
 use Rattle.demands.proofs.Third.{perm-length}
 
@@ -48,21 +51,21 @@ record Took (spec : TurnStockSpec) (xs : List Float) (n g : ℕ) (q : Ring) (m h
   numbers : ys ≡ storeAs xs (store .rings)
   generation : h ≡ store .generation
 
-took : {spec : TurnStockSpec} {xs : List Float} {n g : ℕ} {q : Ring} {m h : ℕ} {ys : List Float} → Removes xs (removeRing spec xs n g q) (Stored m h) ys → Took spec xs n g q m h ys
+took : {spec : TurnStockSpec} {xs : List Float} {n g : ℕ} {q : Ring} {m h : ℕ} {ys : List Float} → Removes (stockFrom spec n g) xs (removeRing spec xs n g q) (Stock (stockFrom spec m h)) ys → Took spec xs n g q m h ys
 unfolding countsOf ringsAfter onward
 took {spec} {xs} {n} {g} {q} {m} {h} {ys} a = go (removeRing spec xs n g q) refl (a .answer) (a .store)
   where
-    go : (p : Paper RingStore) → removeRing spec xs n g q ≡ p → answers (record { rings = m; generation = h }) ≡ countsOf p → ys ≡ ringsAfter xs p → Took spec xs n g q m h ys
+    go : (p : Paper RingStore) → removeRing spec xs n g q ≡ p → answers (stockFrom spec m h) ≡ stockAfter (stockFrom spec n g) (countsOf p) → ys ≡ ringsAfter xs p → Took spec xs n g q m h ys
     go (refuses r) e b c = absurd (no-answer r _ (sym b))
     go (answers s) e b c =
-        let k : _≡_ {A = RingCount} (record { rings = m; generation = h }) (record { rings = length (s .rings); generation = s .generation }) = same-answer b in
+        let k : stockFrom spec m h ≡ stockFrom spec (length (s .rings)) (s .generation) = same-answer b in
         record {
           store = s;
           rule = e;
-          rings = ap₂ ringsOf (ap (λ (x : RingCount). x .rings) k) c ∙ rings-stored xs (s .rings);
-          count = ap (λ (x : RingCount). x .rings) k;
+          rings = ap₂ ringsOf (ap (λ (x : TurnStock). x .rings) k) c ∙ rings-stored xs (s .rings);
+          count = ap (λ (x : TurnStock). x .rings) k;
           numbers = c;
-          generation = ap (λ (x : RingCount). x .generation) k;
+          generation = ap (λ (x : TurnStock). x .stamp .generation) k;
         }
 
 -- ---- one call that is lent rings: `remove_rings`, `from_parts`, and `apply_move`
@@ -81,6 +84,14 @@ list-by {xs} {ys} {p} {m} a = go p (a .answer) (a .store)
     go (refuses r) b c = absurd (no-answer r m (sym b))
     go (answers l) b c = record { rings = l; rule = refl; held = ap₂ ringsOf (same-answer b) c ∙ rings-stored xs l }
 
+pub rebuilt-by : {spec : TurnStockSpec} {xs ys : List Float} {p : Paper (List Ring)} {a : TurnStock} → Rebuilds spec xs p (rebuilt.Stock a) ys → ListBy p (a .rings) ys
+unfolding rings.countOf onward
+rebuilt-by {spec} {xs} {ys} {p} {a} h = go p (h .answer) (h .store)
+  where
+    go : (p : Paper (List Ring)) → answers a ≡ stockStored spec (rings.countOf p) → ys ≡ rings.storeAfter xs p → ListBy p (a .rings) ys
+    go (refuses r) b c = absurd (no-answer r a (sym b))
+    go (answers l) b c = record { rings = l; rule = refl; held = ap₂ ringsOf (ap (λ (x : TurnStock). x .rings) (same-answer b)) c ∙ rings-stored xs l }
+
 pub record LeftBy (p : Paper Left) (m h : ℕ) (cs' ys : List Float) : Type 0 where
   pub left : Left
   pub rule : p ≡ answers left
@@ -88,14 +99,14 @@ pub record LeftBy (p : Paper Left) (m h : ℕ) (cs' ys : List Float) : Type 0 wh
   pub rings : ringsOf m ys ≡ left .rings
   pub generation : h ≡ left .generation
 
-pub left-by : {cs cs' xs ys : List Float} {p : Paper Left} {m h : ℕ} → Moves p (moved.Stored m h) cs cs' xs ys → LeftBy p m h cs' ys
-left-by {cs} {cs'} {xs} {ys} {p} {m} {h} a = go p (a .answer) (a .cells) (a .rings)
+pub left-by : {spec : TurnStockSpec} {n g : ℕ} {cs cs' xs ys : List Float} {p : Paper Left} {m h : ℕ} → Moves (stockFrom spec n g) p (moved.Stock (stockFrom spec m h)) cs cs' xs ys → LeftBy p m h cs' ys
+left-by {spec} {n} {g} {cs} {cs'} {xs} {ys} {p} {m} {h} a = go p (a .answer) (a .cells) (a .rings)
   where
-    go : (p : Paper Left) → answers (record { rings = m; generation = h }) ≡ moves.countsOf p → cs' ≡ moves.movedCells p cs → ys ≡ moves.movedRings p xs → LeftBy p m h cs' ys
+    go : (p : Paper Left) → answers (stockFrom spec m h) ≡ stockAfter (stockFrom spec n g) (moves.countsOf p) → cs' ≡ moves.movedCells p cs → ys ≡ moves.movedRings p xs → LeftBy p m h cs' ys
     go (refuses r) b c d = absurd (no-answer r _ (sym b))
     go (answers l) b c d =
-        let k : _≡_ {A = RingCount} (record { rings = m; generation = h }) (record { rings = length (l .rings); generation = l .generation }) = same-answer b in
-        record { left = l; rule = refl; cells = c; rings = ap₂ ringsOf (ap (λ (x : RingCount). x .rings) k) d ∙ rings-stored xs (l .rings); generation = ap (λ (x : RingCount). x .generation) k }
+        let k : stockFrom spec m h ≡ stockFrom spec (length (l .rings)) (l .generation) = same-answer b in
+        record { left = l; rule = refl; cells = c; rings = ap₂ ringsOf (ap (λ (x : TurnStock). x .rings) k) d ∙ rings-stored xs (l .rings); generation = ap (λ (x : TurnStock). x .stamp .generation) k }
 
 -- ---- single rings, one call after the other
 
@@ -195,16 +206,16 @@ module _ (spec : TurnStockSpec) (cs xs : List Float) (count g : ℕ) (is : List 
     moved-either-order = either-covers spec cs xs count g is ys k removed removed' a a' turn h h'
 
   -- the same of the lent numbers that the call leaves
-  pub moved-call-covers : (removed : List Float) (m h : ℕ) (cs' xs' : List Float) → Moves (moveOf spec cs xs count g is ys k removed) (moved.Stored m h) cs cs' xs xs' → (z r : Float)
+  pub moved-call-covers : (removed : List Float) (m h : ℕ) (cs' xs' : List Float) → Moves (stockFrom spec count g) (moveOf spec cs xs count g is ys k removed) (moved.Stock (stockFrom spec m h)) cs cs' xs xs' → (z r : Float)
       → covered (ringsOf m xs') z r ≡ (covered (ringsOf count xs) z r || covered (map (clipped spec) (ringsOf (length removed / 4) removed)) z r)
   moved-call-covers removed m h cs' xs' a z r = let w = left-by a in ap (λ (l : List Ring). covered l z r) (w .rings) ∙ moved-covers removed (w .left) (w .rule) z r
 
-  pub moved-call-disjoint : (removed : List Float) (m h : ℕ) (cs' xs' : List Float) → Moves (moveOf spec cs xs count g is ys k removed) (moved.Stored m h) cs cs' xs xs' → Disjoint (ringsOf m xs')
+  pub moved-call-disjoint : (removed : List Float) (m h : ℕ) (cs' xs' : List Float) → Moves (stockFrom spec count g) (moveOf spec cs xs count g is ys k removed) (moved.Stock (stockFrom spec m h)) cs cs' xs xs' → Disjoint (ringsOf m xs')
   moved-call-disjoint removed m h cs' xs' a = let w = left-by a in subst Disjoint (sym (w .rings)) (moved-disjoint removed (w .left) (w .rule))
 
   -- either order of its rings leaves the same cells and the same generation, and the same points covered
   pub moved-call-either-order : (removed removed' : List Float) (m m' h h' : ℕ) (cs' cs'' xs' xs'' : List Float) → List·Permᴰ (ringsOf (length removed / 4) removed) (ringsOf (length removed' / 4) removed')
-      → Moves (moveOf spec cs xs count g is ys k removed) (moved.Stored m h) cs cs' xs xs' → Moves (moveOf spec cs xs count g is ys k removed') (moved.Stored m' h') cs cs'' xs xs''
+      → Moves (stockFrom spec count g) (moveOf spec cs xs count g is ys k removed) (moved.Stock (stockFrom spec m h)) cs cs' xs xs' → Moves (stockFrom spec count g) (moveOf spec cs xs count g is ys k removed') (moved.Stock (stockFrom spec m' h')) cs cs'' xs xs''
       → (cs' ≡ cs'') × (h ≡ h') × ((z r : Float) → covered (ringsOf m xs') z r ≡ covered (ringsOf m' xs'') z r)
   moved-call-either-order removed removed' m m' h h' cs' cs'' xs' xs'' d a a' =
       let w = left-by a in
@@ -303,15 +314,15 @@ module _ (spec : TurnStockSpec) (cs xs : List Float) where
   rebuilt-either-order given given' l l' d h h' = parts-either-order spec cs xs given given' l l' d h h'
 
   -- the same of the lent numbers that the call leaves
-  pub rebuilt-call-covers : (given : List Float) (m : ℕ) (ys : List Float) → StoresAs xs (partsOf spec cs given xs) (stored.Rings m) ys → (z r : Float) → covered (ringsOf m ys) z r ≡ covered (map (clipped spec) (ringsOf (length given / 4) given)) z r
-  rebuilt-call-covers given m ys a z r = let w = list-by a in ap (λ (l : List Ring). covered l z r) (w .held) ∙ rebuilt-covers given (w .rings) (w .rule) z r
+  pub rebuilt-call-covers : (given : List Float) (b : TurnStock) (ys : List Float) → Rebuilds spec xs (partsOf spec cs given xs) (rebuilt.Stock b) ys → (z r : Float) → covered (ringsOf (b .rings) ys) z r ≡ covered (map (clipped spec) (ringsOf (length given / 4) given)) z r
+  rebuilt-call-covers given b ys a z r = let w = rebuilt-by a in ap (λ (l : List Ring). covered l z r) (w .held) ∙ rebuilt-covers given (w .rings) (w .rule) z r
 
-  pub rebuilt-call-disjoint : (given : List Float) (m : ℕ) (ys : List Float) → StoresAs xs (partsOf spec cs given xs) (stored.Rings m) ys → Disjoint (ringsOf m ys)
-  rebuilt-call-disjoint given m ys a = let w = list-by a in subst Disjoint (sym (w .held)) (rebuilt-disjoint given (w .rings) (w .rule))
+  pub rebuilt-call-disjoint : (given : List Float) (b : TurnStock) (ys : List Float) → Rebuilds spec xs (partsOf spec cs given xs) (rebuilt.Stock b) ys → Disjoint (ringsOf (b .rings) ys)
+  rebuilt-call-disjoint given b ys a = let w = rebuilt-by a in subst Disjoint (sym (w .held)) (rebuilt-disjoint given (w .rings) (w .rule))
 
-  pub rebuilt-call-either-order : (given given' : List Float) (m m' : ℕ) (ys ys' : List Float) → List·Permᴰ (ringsOf (length given / 4) given) (ringsOf (length given' / 4) given') → StoresAs xs (partsOf spec cs given xs) (stored.Rings m) ys
-      → StoresAs xs (partsOf spec cs given' xs) (stored.Rings m') ys' → (z r : Float) → covered (ringsOf m ys) z r ≡ covered (ringsOf m' ys') z r
-  rebuilt-call-either-order given given' m m' ys ys' d a a' z r =
-      let w = list-by a in
-      let w' = list-by a' in
+  pub rebuilt-call-either-order : (given given' : List Float) (b b' : TurnStock) (ys ys' : List Float) → List·Permᴰ (ringsOf (length given / 4) given) (ringsOf (length given' / 4) given') → Rebuilds spec xs (partsOf spec cs given xs) (rebuilt.Stock b) ys
+      → Rebuilds spec xs (partsOf spec cs given' xs) (rebuilt.Stock b') ys' → (z r : Float) → covered (ringsOf (b .rings) ys) z r ≡ covered (ringsOf (b' .rings) ys') z r
+  rebuilt-call-either-order given given' b b' ys ys' d a a' z r =
+      let w = rebuilt-by a in
+      let w' = rebuilt-by a' in
       ap (λ (l : List Ring). covered l z r) (w .held) ∙ rebuilt-either-order given given' (w .rings) (w' .rings) d (w .rule) (w' .rule) z r ∙ ap (λ (l : List Ring). covered l z r) (sym (w' .held))

@@ -30,6 +30,7 @@ use Rattle.stock.specs.declared.TurnStockSpec.{TurnStockSpec}
 use Rattle.stock.specs.declared.TurnChange.{TurnChange}
 use Rattle.stock.specs.Spec.{cleanSpec}
 use Rattle.stock.specs.Cell.{cellAt, stockOf}
+use Rattle.stock.specs.Stock.{stockFrom}
 use Rattle.stock.proofs.Count.{demanded, no-answer, same-answer, stocked}
 use Rattle.stock.proofs.Bins.{HeldSpec, HeldList}
 use Rattle.reach.specs.Reach.{actCell}
@@ -47,7 +48,7 @@ use Rattle.changes.proofs.Becomes.{difference-is}
 use Rattle.rings.specs.declared.Ring.{Ring}
 use Rattle.rings.specs.Ring.{covered, clip}
 use Rattle.rings.specs.Store.{barRing, ringsOf}
-use Rattle.moves.specs.declared.Moved.the-variants.{Stored}
+use Rattle.moves.specs.declared.Moved.the-variants.{Stock}
 use Rattle.moves.specs.Move.{Left, generationAfter, moveOf, Moves}
 use Rattle.moves.proofs.Answered.{answered}
 use Rattle.moves.proofs.Accepted.{taken}
@@ -177,7 +178,7 @@ move-writes spec cs xs count g is ys k removed a h =
     (subst (Writes (changesFrom is ys k) cs) (sym (t .cells)) (changes-written spec cs (t .bins) (changesFrom is ys k) (t .stock) (t .pass)), moved-covers spec cs xs count g is ys k removed a h, t .rises)
 
 -- the same of the call: what it leaves in the lent cells and rings
-pub move-call-writes : (spec : TurnStockSpec) (cs cs' xs xs' : List Float) (count g : ℕ) (is : List ℕ) (ys : List Float) (k : ℕ) (removed : List Float) (n h : ℕ) → Moves (moveOf spec cs xs count g is ys k removed) (Stored n h) cs cs' xs xs'
+pub move-call-writes : (spec : TurnStockSpec) (cs cs' xs xs' : List Float) (count g : ℕ) (is : List ℕ) (ys : List Float) (k : ℕ) (removed : List Float) (n h : ℕ) → Moves (stockFrom spec count g) (moveOf spec cs xs count g is ys k removed) (Stock (stockFrom spec n h)) cs cs' xs xs'
     → Writes (changesFrom is ys k) cs cs' × ((z r : Float) → covered (ringsOf n xs') z r ≡ (covered (ringsOf count xs) z r || covered (map (clip (barRing (cleanSpec spec))) (ringsOf (length removed / 4) removed)) z r)) × (h ≡ generationAfter spec g removed)
 move-call-writes spec cs cs' xs xs' count g is ys k removed n h m =
     let t = left-by m in

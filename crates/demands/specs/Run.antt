@@ -18,7 +18,8 @@ use Rattle.changes.specs.declared.Applied.the-variants.{Generation}
 use Rattle.changes.specs.Commit.{Committed, commitHeld, commitOf, appliedPaper, applyOf, Applies}
 use Rattle.change_slices.specs.Proposal.{Written}
 use Rattle.rings.specs.declared.Ring.{Ring}
-use Rattle.rings.specs.declared.Removed.the-variants.{Stored}
+use Rattle.stock.specs.Stock.{stockFrom}
+use Rattle.rings.specs.declared.Removed.the-variants.{Stock}
 use Rattle.rings.specs.Store.{ringsOf}
 use Rattle.rings.specs.Remove.{removeRing, Removes}
 use Rattle.moves.specs.declared.Moved.the-variants as move
@@ -64,10 +65,10 @@ pub record Store : Type 0 where
   pub count : ℕ
   pub generation : ℕ
 
--- From one store to another by rings qs. Each was handed to `remove_ring`, which answered `Stored m h` and left ys in the lent numbers, by its promise `Removes`.
+-- From one store to another by rings qs. Each was handed to `remove_ring`, which answered the stock with m rings at generation h and left ys in the lent numbers, by its promise `Removes`.
 pub data RanRings (spec : TurnStockSpec) : Store → List Ring → Store → Type 0 where
   done : {s : Store} → RanRings spec s [] s
-  ring : {q : Ring} {qs : List Ring} {xs ys : List Float} {n g m h : ℕ} {s : Store} → Removes xs (removeRing spec xs n g q) (Stored m h) ys → RanRings spec (record { numbers = ys; count = m; generation = h }) qs s
+  ring : {q : Ring} {qs : List Ring} {xs ys : List Float} {n g m h : ℕ} {s : Store} → Removes (stockFrom spec n g) xs (removeRing spec xs n g q) (Stock (stockFrom spec m h)) ys → RanRings spec (record { numbers = ys; count = m; generation = h }) qs s
       → RanRings spec (record { numbers = xs; count = n; generation = g }) (q ∷ qs) s
 
 -- a stock in lent memory: its cells, and its rings
@@ -87,8 +88,8 @@ unfoldable pub ringsIn : List Move → List Ring
 ringsIn [] = []
 ringsIn (v ∷ vs) = ringsOf (length (v .removed) / 4) (v .removed) ++ ringsIn vs
 
--- From one stock to another by moves. Each was handed to `apply_move`, which answered `Stored m h` and left cs' and ys in the lent numbers, by its promise `Moves`.
+-- From one stock to another by moves. Each was handed to `apply_move`, which answered the stock with m rings at generation h and left cs' and ys in the lent numbers, by its promise `Moves`.
 pub data RanMoves (spec : TurnStockSpec) : Held → List Move → Held → Type 0 where
   no-moves : {s : Held} → RanMoves spec s [] s
-  made-move : {v : Move} {vs : List Move} {cs cs' xs ys : List Float} {n g m h : ℕ} {s : Held} → Moves (moveOf spec cs xs n g (v .indices) (v .numbers) (v .count) (v .removed)) (move.Stored m h) cs cs' xs ys
+  made-move : {v : Move} {vs : List Move} {cs cs' xs ys : List Float} {n g m h : ℕ} {s : Held} → Moves (stockFrom spec n g) (moveOf spec cs xs n g (v .indices) (v .numbers) (v .count) (v .removed)) (move.Stock (stockFrom spec m h)) cs cs' xs ys
       → RanMoves spec (record { cells = cs'; store = record { numbers = ys; count = m; generation = h } }) vs s → RanMoves spec (record { cells = cs; store = record { numbers = xs; count = n; generation = g } }) (v ∷ vs) s

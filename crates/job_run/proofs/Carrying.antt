@@ -16,11 +16,14 @@ use Rattle.refusals.specs.Paper.{Paper, Reason, answers, refuses, only, onward,
 use Rattle.refusals.specs.Lent.{over}
 use Rattle.refusals.proofs.OneToOne.{one-reason}
 use Rattle.stock.specs.declared.TurnStockSpec.{TurnStockSpec}
+use Rattle.stock.specs.declared.TurnStock.{TurnStock}
 use Rattle.stock.specs.declared.TurnChange.{TurnChange}
+use Rattle.stock.specs.declared.Made.{Made}
 use Rattle.stock.specs.declared.Counted.{Counted}
 use Rattle.stock.specs.declared.Counted.the-variants as counted
 use Rattle.stock.specs.Spec.{cleanSpec, cellsOf, countedPaper}
-use Rattle.stock.specs.Cell.{newCells, freshCell, cellsLike, Filled}
+use Rattle.stock.specs.Cell.{newCells, freshCell, cellsLike}
+use Rattle.stock.specs.Stock.{stockFrom, stockWith, Filled}
 use Rattle.stock.proofs.Cells.{length-like}
 use Rattle.stock.proofs.Count.{no-answer, same-answer}
 use Rattle.stock.proofs.Fresh.{new-is}
@@ -35,7 +38,7 @@ use Rattle.rings.specs.declared.Ring.{Ring}
 use Rattle.rings.specs.declared.Removed.{Removed}
 use Rattle.rings.specs.declared.Removed.the-variants as removed
 use Rattle.rings.specs.Store.{storeAs}
-use Rattle.rings.specs.Remove.{RingStore, RingCount, removeRing, removedPaper, countsOf, ringsAfter, Removes}
+use Rattle.rings.specs.Remove.{RingStore, removeRing, removedPaper, countsOf, ringsAfter, Removes}
 use Rattle.job_words.specs.declared.Line.{Line}
 use Rattle.job_words.specs.declared.Line.the-variants as line
 use Rattle.job_words.specs.Kind.{lineOf}
@@ -71,12 +74,12 @@ module _ (spec : TurnStockSpec) (cs : List Float) where
       refused _ CellsDoNotFit cs rs (simp (papers, k, lt-leb (4 * n) (length cs) (omega arith)))
 
   -- the front, filled
-  filled : (n : ℕ) (f : Counted) (part' : List Float) → cellsOf spec ≡ answers n → n ≤ length cs / 4 → Filled spec f (take (4 * n) cs) part' → part' ≡ cellsLike (freshCell (cleanSpec spec)) n
+  filled : (n : ℕ) (f : Made) (part' : List Float) → cellsOf spec ≡ answers n → n ≤ length cs / 4 → Filled spec f (take (4 * n) cs) part' → part' ≡ cellsLike (freshCell (cleanSpec spec)) n
   filled n f part' k h w =
       let l : length (take (4 * n) cs) ≡ 4 * n = length-take-le (4 * n) cs (omega arith) in
       w .cells ∙ ap (λ (p : Paper ℕ). newCells spec p (take (4 * n) cs)) (sym (new-is spec _ n k l))
 
-  pub bar-made : (c : Counted) (n : ℕ) (f : Counted) (part' : List Float) → countedPaper c ≡ cellsOf spec → c ≡ counted.Cells n → n ≤ length cs / 4
+  pub bar-made : (c : Counted) (n : ℕ) (f : Made) (part' : List Float) → countedPaper c ≡ cellsOf spec → c ≡ counted.Cells n → n ≤ length cs / 4
       → Filled spec f (take (4 * n) cs) part' → CarriesCells (barLine spec cs) (carried.Onward (record { spec = spec; cells = n; rings = 0; generation = 0 })) cs (part' ++ drop (4 * n) cs)
   unfolding barLine over
   bar-made c n f part' e q h w rs =
@@ -143,10 +146,10 @@ unlisted l is xs e = rw e (record { indices = refl; numbers = refl })
 -- ---- a ring
 
 -- what an answer says of the rule
-ring-none : (p : Paper RingStore) (d : Removed) (n : Reason) (rs rs' : List Float) → removedPaper d ≡ refuses n → Removes rs p d rs' → (p ≡ refuses n) × (rs' ≡ rs)
+ring-none : (k : TurnStock) (p : Paper RingStore) (d : Removed) (n : Reason) (rs rs' : List Float) → removedPaper d ≡ refuses n → Removes k rs p d rs' → (p ≡ refuses n) × (rs' ≡ rs)
 unfolding countsOf ringsAfter onward
-ring-none (answers s) d n rs rs' e w = absurd (no-answer n _ (sym e ∙ w .answer))
-ring-none (refuses m) d n rs rs' e w = (ap refuses (sym (same-number {A = RingCount} (sym e ∙ w .answer))), w .store)
+ring-none k (answers s) d n rs rs' e w = absurd (no-answer n _ (sym e ∙ w .answer))
+ring-none k (refuses m) d n rs rs' e w = (ap refuses (sym (same-number {A = TurnStock} (sym e ∙ w .answer))), w .store)
 
 -- where an answer goes on
 onward-is : {A B : Type 0} (p : Paper A) (a : A) (f : A → Paper B) → p ≡ answers a → onward p f ≡ f a
@@ -160,24 +163,24 @@ pub record Left (p : Paper RingStore) (n g : ℕ) (rs rs' : List Float) : Type 0
   pub generation : store .generation ≡ g
   pub lent : rs' ≡ storeAs rs (store .rings)
 
-ring-left : (p : Paper RingStore) (n g : ℕ) (rs rs' : List Float) → Removes rs p (removed.Stored n g) rs' → Left p n g rs rs'
+ring-left : (k : TurnStock) (p : Paper RingStore) (a : TurnStock) (rs rs' : List Float) → Removes k rs p (removed.Stock a) rs' → Left p (a .rings) (a .stamp .generation) rs rs'
 unfolding countsOf ringsAfter onward
-ring-left (answers s) n g rs rs' w =
-    let e : _≡_ {A = RingCount} (record { rings = n; generation = g }) (record { rings = length (s .rings); generation = s .generation }) = same-answer (w .answer) in
-    record { store = s; rule = refl; count = sym (ap (λ (c : RingCount). c .rings) e); generation = sym (ap (λ (c : RingCount). c .generation) e); lent = w .store }
-ring-left (refuses m) n g rs rs' w = absurd (no-answer {A = RingCount} m (record { rings = n; generation = g }) (sym (w .answer)))
+ring-left k (answers s) a rs rs' w =
+    let e : a ≡ stockWith k (length (s .rings)) (s .generation) = same-answer (w .answer) in
+    record { store = s; rule = refl; count = sym (ap (λ (c : TurnStock). c .rings) e); generation = sym (ap (λ (c : TurnStock). c .stamp .generation) e); lent = w .store }
+ring-left k (refuses m) a rs rs' w = absurd (no-answer m a (sym (w .answer)))
 
-module _ (j : Job) (q : Ring) (rs rs' : List Float) (d : Removed) (w : Removes rs (removeRing (j .spec) rs (j .rings) (j .generation) q) d rs') where
+module _ (j : Job) (q : Ring) (rs rs' : List Float) (d : Removed) (w : Removes (stockFrom (j .spec) (j .rings) (j .generation)) rs (removeRing (j .spec) rs (j .rings) (j .generation) q) d rs') where
   pub ring-refused : (r : Refusal) (n : Reason) → numberOf r ≡ n .number → removedPaper d ≡ refuses n → CarriesRings (removingLine j q) (carried.Refused r) rs rs'
   unfolding removingLine
   ring-refused r n t e cs =
-      let k = ring-none _ d n rs rs' e w in
+      let k = ring-none _ _ d n rs rs' e w in
       rw (k .1) (refused-as _ r n cs rs t (simp (papers, k .0)))
 
-  pub ring-went : (n g : ℕ) → d ≡ removed.Stored n g → CarriesRings (removingLine j q) (carried.Onward (record { spec = j .spec; cells = j .cells; rings = n; generation = g })) rs rs'
+  pub ring-went : (a : TurnStock) → d ≡ removed.Stock a → CarriesRings (removingLine j q) (carried.Onward (record { spec = j .spec; cells = j .cells; rings = a .rings; generation = a .stamp .generation })) rs rs'
   unfolding removingLine
-  ring-went n g e cs =
-      let k = ring-left _ n g rs rs' (subst (λ (x : Removed). Removes rs (removeRing (j .spec) rs (j .rings) (j .generation) q) x rs') e w) in
+  ring-went a e cs =
+      let k = ring-left _ _ a rs rs' (subst (λ (x : Removed). Removes (stockFrom (j .spec) (j .rings) (j .generation)) rs (removeRing (j .spec) rs (j .rings) (j .generation) q) x rs') e w) in
       rw (k .lent) (went _ _ cs cs rs _ (onward-is _ _ _ (k .rule) ∙ simp (k .count, k .generation)))
 
 -- ---- a line by its kind

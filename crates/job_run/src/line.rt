@@ -19,6 +19,8 @@ use refusals::Refusal;
 use rings::Removed;
 use rings::Ring;
 use stock::Counted;
+use stock::Stamp;
+use stock::TurnStock;
 use stock::TurnStockSpec;
 
 // A job line has so many bytes at most, with its newline.
@@ -173,15 +175,22 @@ fn take_ring(job: Job, rings: &mut [f64], ring: Ring) -> Carried
     ensures { λ r. ⌜ RingsLent (removingLine job ring) r rings ⌝ }
 {
     let spec = job.spec;
-    let removed = rings::remove_ring(spec, rings, job.rings, job.generation, ring);
+    let stock = TurnStock {
+        spec,
+        stamp: Stamp {
+            generation: job.generation,
+        },
+        rings: job.rings,
+    };
+    let removed = rings::remove_ring(stock, rings, ring);
     match removed {
         Removed::Refused(r) => Carried::Refused(r),
         Removed::RefusedAt(r, _) => Carried::Refused(r),
-        Removed::Stored(n, generation) => Carried::Onward(Job {
+        Removed::Stock(after) => Carried::Onward(Job {
             spec,
             cells: job.cells,
-            rings: n,
-            generation,
+            rings: after.rings,
+            generation: after.stamp.generation,
         }),
     }
 }

@@ -4,4 +4,4 @@ pub mod Parting
 pub mod Once
 pub mod Cells
 pub mod Accepted
-pub mod Rebuilt
+pub mod FromParts

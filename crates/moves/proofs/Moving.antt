@@ -13,6 +13,7 @@ use Rattle.refusals.specs.Number.{reasonOf}
 use Rattle.refusals.specs.Paper.{Paper, Reason, answers, refuses, only, at, onward, demand-true, demandNone-some, papers}
 use Rattle.refusals.specs.Limits.{lastGeneration}
 use Rattle.stock.specs.declared.TurnStockSpec.{TurnStockSpec}
+use Rattle.stock.specs.declared.TurnStock.{TurnStock}
 use Rattle.stock.specs.declared.TurnChange.{TurnChange}
 use Rattle.stock.specs.Spec.{cleanSpec}
 use Rattle.stock.specs.Cell.{stockOf}
@@ -21,27 +22,28 @@ use Rattle.rings.specs.declared.Ring.{Ring}
 use Rattle.rings.specs.declared.StoredAs.{StoredAs}
 use Rattle.rings.specs.declared.StoredAs.the-variants as stored
 use Rattle.rings.specs.Store.{barRing, ringsOf, storeAs, countFits, badRing, raisedBy}
-use Rattle.rings.specs.Remove.{removeRings, storedPaper, StoresAs}
+use Rattle.rings.specs.declared.Counts.{Counts}
+use Rattle.rings.specs.declared.Counts.the-variants as counts
+use Rattle.rings.specs.Remove.{removeRings, storedPaper, countsPaper, StoresAs, stockAfter}
 use Rattle.rings.proofs.Adding.{accepted, refused}
 use Rattle.changes.specs.declared.Passing.{Passing}
 use Rattle.changes.specs.declared.Passing.the-variants as passing
 use Rattle.changes.specs.Commit.{passAll, passingPaper, firstRefusal, putAll, putHeld}
 use Rattle.changes.proofs.Written.{refusal-held, put-held}
 use Rattle.moves.specs.declared.Moved.{Moved}
-use Rattle.moves.specs.declared.Moved.the-variants as moved
-use Rattle.moves.specs.Move.{Left, generationAfter, moveIn, moveOf, movedPaper, countsOf, movedCells, movedRings, Moves}
+use Rattle.moves.specs.Move.{Left, generationAfter, moveIn, moveOf, countsOf, movedCells, movedRings, Shifts, movedPaper, Moves}
 
 -- ---- what is answered and left
 
 -- refused: cells and rings stay
-pub left-as : (p : Paper Left) (r : Moved) (x : Reason) (cs xs xs' : List Float) → movedPaper r ≡ refuses x → p ≡ refuses x → xs' ≡ xs → Moves p r cs cs xs xs'
+pub left-as : (p : Paper Left) (r : Counts) (x : Reason) (cs xs xs' : List Float) → countsPaper r ≡ refuses x → p ≡ refuses x → xs' ≡ xs → Shifts p r cs cs xs xs'
 left-as p r x cs xs xs' a e f = record { answer = a ∙ sym (ap countsOf e); cells = sym (ap (λ (q : Paper Left). movedCells q cs) e); rings = f ∙ sym (ap (λ (q : Paper Left). movedRings q xs) e) }
 
-pub left : (p : Paper Left) (x : Refusal) (cs xs xs' : List Float) → p ≡ refuses (reasonOf x) → xs' ≡ xs → Moves p (moved.Refused x) cs cs xs xs'
-left p x cs xs xs' e f = left-as p (moved.Refused x) (reasonOf x) cs xs xs' refl e f
+pub left : (p : Paper Left) (x : Refusal) (cs xs xs' : List Float) → p ≡ refuses (reasonOf x) → xs' ≡ xs → Shifts p (counts.Refused x) cs cs xs xs'
+left p x cs xs xs' e f = left-as p (counts.Refused x) (reasonOf x) cs xs xs' refl e f
 
 -- accepted
-pub done : (p : Paper Left) (a : Left) (m g : ℕ) (cs cs' xs xs' : List Float) → p ≡ answers a → m ≡ length (a .rings) → g ≡ a .generation → cs' ≡ a .cells → xs' ≡ storeAs xs (a .rings) → Moves p (moved.Stored m g) cs cs' xs xs'
+pub done : (p : Paper Left) (a : Left) (m g : ℕ) (cs cs' xs xs' : List Float) → p ≡ answers a → m ≡ length (a .rings) → g ≡ a .generation → cs' ≡ a .cells → xs' ≡ storeAs xs (a .rings) → Shifts p (counts.Stored m g) cs cs' xs xs'
 done p a m g cs cs' xs xs' e em eg ec ex =
     record {
       answer = ap (λ (k : ℕ). answers (record { rings = k; generation = g })) em ∙ ap (λ (k : ℕ). answers (record { rings = length (a .rings); generation = k })) eg ∙ sym (ap countsOf e);
@@ -50,8 +52,12 @@ done p a m g cs cs' xs xs' e em eg ec ex =
     }
 
 -- a rule that comes to another has its outcome
-pub same-outcome : (p q : Paper Left) (r : Moved) (cs cs' xs xs' : List Float) → p ≡ q → Moves q r cs cs' xs xs' → Moves p r cs cs' xs xs'
-same-outcome p q r cs cs' xs xs' e a = subst (λ (b : Paper Left). Moves b r cs cs' xs xs') (sym e) a
+pub same-outcome : (p q : Paper Left) (r : Counts) (cs cs' xs xs' : List Float) → p ≡ q → Shifts q r cs cs' xs xs' → Shifts p r cs cs' xs xs'
+same-outcome p q r cs cs' xs xs' e a = subst (λ (b : Paper Left). Shifts b r cs cs' xs xs') (sym e) a
+
+-- from counts to the stock that has them
+pub moves-from : {k : TurnStock} {p : Paper Left} {cs cs' xs xs' : List Float} {t : Counts} {r : Moved} → movedPaper r ≡ stockAfter k (countsPaper t) → Shifts p t cs cs' xs xs' → Moves k p r cs cs' xs xs'
+moves-from {k} e s = record { answer = e ∙ ap (stockAfter k) (s .answer); cells = s .cells; rings = s .rings }
 
 -- ---- the changes of a move, in a list that holds them
 module _ (spec s : TurnStockSpec) (n : ℕ) (cs : List Float) (is : List ℕ) (ys : List Float) (k : ℕ) (found : Passing) (clean : s ≡ cleanSpec spec) (h : k ≤ roomOf (length is) (length ys)) (e : passingPaper found ≡ firstRefusal s n cs is ys k) where
@@ -111,13 +117,13 @@ module _ (spec : TurnStockSpec) (n : ℕ) (cs xs : List Float) (count g : ℕ) (
           rings-say : (p : Paper (List Ring)) → removeRings spec xs count removed ≡ p → moveIn spec n cs xs count g l removed ≡ onward p (λ rs. answers (record { cells = putAll cs l; rings = rs; generation = generationAfter spec g removed }))
           rings-say p e = goes-on ∙ ap (λ (q : Paper (List Ring)). onward q (λ rs. answers (record { cells = putAll cs l; rings = rs; generation = generationAfter spec g removed }))) e
 
-          pub refuses-11 : (x : Reason) (r : Moved) → movedPaper r ≡ refuses x → storedPaper st ≡ refuses x → Moves (moveIn spec n cs xs count g l removed) r cs cs xs xs'
+          pub refuses-11 : (x : Reason) (r : Counts) → countsPaper r ≡ refuses x → storedPaper st ≡ refuses x → Shifts (moveIn spec n cs xs count g l removed) r cs cs xs xs'
           unfolding onward
           refuses-11 x r a e =
               let y = refused xs (removeRings spec xs count removed) st xs' x s e in
               left-as (moveIn spec n cs xs count g l removed) r x cs xs xs' a (rings-say (refuses x) (y .0)) (y .1)
 
-          pub moves : (m : ℕ) (cs' : List Float) → st ≡ stored.Rings m → cs' ≡ putAll cs l → Moves (moveIn spec n cs xs count g l removed) (moved.Stored m (g + 1 + raised)) cs cs' xs xs'
+          pub moves : (m : ℕ) (cs' : List Float) → st ≡ stored.Rings m → cs' ≡ putAll cs l → Shifts (moveIn spec n cs xs count g l removed) (counts.Stored m (g + 1 + raised)) cs cs' xs xs'
           unfolding onward
           moves m cs' e ec =
               let y = accepted xs (removeRings spec xs count removed) st xs' m s e in

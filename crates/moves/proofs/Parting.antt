@@ -1,5 +1,5 @@
 -- What a stock from parts answers and stores, by what its rule says. Assumes nothing.
-use mathlib.Core.Path.{_≡_, refl, sym, subst}
+use mathlib.Core.Path.{_≡_, refl, sym, ap, _∙_, subst}
 use mathlib.Core.Option.{none, some}
 use mathlib.Core.List.{List}
 use Prim.Native.Nat.{ℕ}
@@ -14,9 +14,10 @@ use Rattle.rings.specs.declared.Ring.{Ring}
 use Rattle.rings.specs.declared.StoredAs.{StoredAs}
 use Rattle.rings.specs.declared.StoredAs.the-variants as stored
 use Rattle.rings.specs.Store.{badRing}
-use Rattle.rings.specs.Remove.{removeRings, StoresAs}
+use Rattle.rings.specs.Remove.{removeRings, storedPaper, StoresAs}
 use Rattle.rings.proofs.Adding.{stores-none, stores-refused}
-use Rattle.moves.specs.Move.{partsOf}
+use Rattle.moves.specs.declared.Rebuilt.{Rebuilt}
+use Rattle.moves.specs.Move.{partsOf, stockStored, rebuiltPaper, Rebuilds}
 
 module _ (spec : TurnStockSpec) (cs given xs : List Float) where
   -- 1, 2, 3
@@ -37,3 +38,7 @@ module _ (spec : TurnStockSpec) (cs given xs : List Float) where
 
     pub parts-stored : (r : StoredAs) (xs' : List Float) → badRing given ≡ none → StoresAs xs (removeRings spec xs 0 given) r xs' → StoresAs xs (partsOf spec cs given xs) r xs'
     parts-stored r xs' f s = subst (λ (p : Paper (List Ring)). StoresAs xs p r xs') (sym (parts-are f)) s
+
+-- from the count of rings to the stock that has them
+pub rebuilds-from : {spec : TurnStockSpec} {xs ys : List Float} {p : Paper (List Ring)} {t : StoredAs} {r : Rebuilt} → rebuiltPaper r ≡ stockStored spec (storedPaper t) → StoresAs xs p t ys → Rebuilds spec xs p r ys
+rebuilds-from {spec} e s = record { answer = e ∙ ap (stockStored spec) (s .answer); store = s .store }

@@ -11,16 +11,21 @@ use Rattle.refusals.specs.Paper.{Paper, answers, refuses, demand, demandNone, o
 use Rattle.refusals.specs.Limits.{lastGeneration}
 use Rattle.refusals.specs.Lent.{Lent}
 use Rattle.stock.specs.declared.TurnStockSpec.{TurnStockSpec}
+use Rattle.stock.specs.declared.TurnStock.{TurnStock}
 use Rattle.stock.specs.declared.TurnChange.{TurnChange}
 use Rattle.stock.specs.Spec.{cleanSpec}
 use Rattle.stock.specs.Cell.{stockOf}
+use Rattle.stock.specs.Stock.{stockFrom}
 use Rattle.changes.specs.Change.{roomOf, changesFrom}
 use Rattle.rings.specs.declared.Ring.{Ring}
 use Rattle.rings.specs.Store.{barRing, ringsOf, storeAs, countFits, badRing, raisedBy}
-use Rattle.rings.specs.Remove.{RingCount, removeRings}
+use Rattle.rings.specs.declared.Counts.{Counts}
+use Rattle.rings.specs.Remove.{RingCount, countsPaper, countOf, storeAfter, stockAfter, removeRings}
 use Rattle.changes.specs.Commit.{passAll, putAll}
 use Rattle.moves.specs.declared.Moved.{Moved}
 use Rattle.moves.specs.declared.Moved.the-variants as moved
+use Rattle.moves.specs.declared.Rebuilt.{Rebuilt}
+use Rattle.moves.specs.declared.Rebuilt.the-variants as rebuilt
 
 -- ---- a move
 
@@ -53,11 +58,6 @@ moveOf spec cs xs count g is ys k removed =
 
 -- ---- what a move answers, case by case, and what the lent numbers hold afterwards
 
-abbrev pub movedPaper : Moved → Paper RingCount
-movedPaper (moved.Stored n g) = answers (record { rings = n; generation = g })
-movedPaper (moved.Refused c) = refuses (reasonOf c)
-movedPaper (moved.RefusedAt c k) = refuses (reasonAt c k)
-
 -- the count of rings and the generation
 abbrev pub countsOf : Paper Left → Paper RingCount
 countsOf (answers a) = answers (record { rings = length (a .rings); generation = a .generation })
@@ -73,15 +73,29 @@ abbrev pub movedRings : Paper Left → List Float → List Float
 movedRings (answers a) xs = storeAs xs (a .rings)
 movedRings (refuses n) xs = xs
 
--- the answer, the lent cells and the lent rings after a move
-pub record Moves (p : Paper Left) (r : Moved) (cs cs' xs xs' : List Float) : Type 0 where
-  pub answer : movedPaper r ≡ countsOf p
+-- the answer by counts, the lent cells and the lent rings after a move
+pub record Shifts (p : Paper Left) (r : Counts) (cs cs' xs xs' : List Float) : Type 0 where
+  pub answer : countsPaper r ≡ countsOf p
+  pub cells : cs' ≡ movedCells p cs
+  pub rings : xs' ≡ movedRings p xs
+
+abbrev pub movedPaper : Moved → Paper TurnStock
+movedPaper (moved.Stock k) = answers k
+movedPaper (moved.Refused c) = refuses (reasonOf c)
+movedPaper (moved.RefusedAt c k) = refuses (reasonAt c k)
+
+-- the stock, the lent cells and the lent rings after a move of the stock k
+pub record Moves (k : TurnStock) (p : Paper Left) (r : Moved) (cs cs' xs xs' : List Float) : Type 0 where
+  pub answer : movedPaper r ≡ stockAfter k (countsOf p)
   pub cells : cs' ≡ movedCells p cs
   pub rings : xs' ≡ movedRings p xs
 
 -- of lent cells and rings, at both moments
-abbrev pub MovesLent : Paper Left → Moved → Lent Float → Lent Float → Type 0
-MovesLent p r cells rings = Moves p r (now (cells .entry)) (now (cells .exit)) (now (rings .entry)) (now (rings .exit))
+abbrev pub ShiftsLent : Paper Left → Counts → Lent Float → Lent Float → Type 0
+ShiftsLent p r cells rings = Shifts p r (now (cells .entry)) (now (cells .exit)) (now (rings .entry)) (now (rings .exit))
+
+abbrev pub MovesLent : TurnStock → Paper Left → Moved → Lent Float → Lent Float → Type 0
+MovesLent k p r cells rings = Moves k p r (now (cells .entry)) (now (cells .exit)) (now (rings .entry)) (now (rings .exit))
 
 -- ---- a stock from its parts
 
@@ -91,3 +105,18 @@ partsOf spec cs given xs =
     onward (stockOf spec cs) (λ _.
     demandNone (badRing given) 10
     (removeRings spec xs 0 given))
+
+-- the stock with that many rings, at generation 0
+abbrev pub stockStored : TurnStockSpec → Paper ℕ → Paper TurnStock
+stockStored spec (answers n) = answers (stockFrom spec n 0)
+stockStored spec (refuses r) = refuses r
+
+abbrev pub rebuiltPaper : Rebuilt → Paper TurnStock
+rebuiltPaper (rebuilt.Stock k) = answers k
+rebuiltPaper (rebuilt.Refused c) = refuses (reasonOf c)
+rebuiltPaper (rebuilt.RefusedAt c k) = refuses (reasonAt c k)
+
+-- the stock, and the lent rings
+pub record Rebuilds (spec : TurnStockSpec) (xs : List Float) (p : Paper (List Ring)) (r : Rebuilt) (ys : List Float) : Type 0 where
+  pub answer : rebuiltPaper r ≡ stockStored spec (countOf p)
+  pub store : ys ≡ storeAfter xs p

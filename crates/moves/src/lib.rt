@@ -5,24 +5,36 @@
 // before anything is written. The generation rises by one for the commit and by one for each ring
 // that is not empty within the stock. Parts are cells and rings that were kept elsewhere: the rings
 // are taken into an empty store, and the generation is 0 again.
+ghost use mathlib.Core.Path.{_≡_};
 ghost use Prim.Native.Nat.{_≤_};
 ghost use lib.ListN.{length};
 ghost use Rattle.changes.specs.Change.{roomOf, changesFrom};
-ghost use Rattle.rings.specs.Remove.{StoresAs};
-ghost use Rattle.moves.specs.Move.{moveIn, moveOf, MovesLent, partsOf};
+ghost use Rattle.rings.specs.Remove.{storedPaper, countsPaper, StoresAs, stockAfter};
+ghost use Rattle.moves.specs.Move.{moveIn, moveOf, ShiftsLent, movedPaper, MovesLent, partsOf, stockStored, rebuiltPaper, Rebuilds};
 use changes::Passing;
 use refusals::LAST_GENERATION;
 use refusals::Refusal;
+use rings::Counts;
 use rings::Judged;
 use rings::StoredAs;
 use stock::Counted;
+use stock::Stamp;
+use stock::TurnStock;
 use stock::TurnStockSpec;
 
-// The count of rings and the generation after a move.
+// The stock after a move.
 pub enum Moved {
-    Stored(usize, u64),
+    Stock(TurnStock),
     Refused(Refusal),
     // at the place of the change or of the ring in its list
+    RefusedAt(Refusal, usize),
+}
+
+// A stock from its parts.
+pub enum Rebuilt {
+    Stock(TurnStock),
+    Refused(Refusal),
+    // at the place of the ring in its list
     RefusedAt(Refusal, usize),
 }
 
@@ -39,48 +51,46 @@ fn move_in(
     records: &[f64],
     k: usize,
     removed: &[f64],
-) -> Moved
+) -> Counts
     requires { ⌜ k ≤ roomOf (length (now indices)) (length (now records)) ⌝ }
-    ensures { λ r. ⌜ MovesLent
+    ensures { λ r. ⌜ ShiftsLent
         (moveIn spec n (now (cells .entry)) (now (rings .entry)) count generation
         (changesFrom (now (indices .entry)) (now (records .entry)) k)
         (now (removed .entry)))
         r cells rings ⌝ }
 {
     if !rings::rings_fit(spec, rings, count) {
-        return Moved::Refused(Refusal::StoredRings);
+        return Counts::Refused(Refusal::StoredRings);
     }
     let judged = rings::first_bad_ring(removed);
     if let Judged::Bad(at) = judged {
-        return Moved::RefusedAt(Refusal::RingOutside, at);
+        return Counts::RefusedAt(Refusal::RingOutside, at);
     }
     let s = stock::clean_spec(spec);
     let found = changes::first_refusal(s, n, cells, indices, records, k);
     match found {
-        Passing::Refused(r) => Moved::Refused(r),
-        Passing::RefusedAt(r, at) => Moved::RefusedAt(r, at),
+        Passing::Refused(r) => Counts::Refused(r),
+        Passing::RefusedAt(r, at) => Counts::RefusedAt(r, at),
         Passing::Pass => {
             let raised = rings::raised_by(spec, removed) as u64;
             if LAST_GENERATION - generation <= raised {
-                return Moved::Refused(Refusal::GenerationsSpent);
+                return Counts::Refused(Refusal::GenerationsSpent);
             }
             let stored = rings::remove_rings(spec, rings, count, removed);
             match stored {
-                StoredAs::Refused(r) => Moved::Refused(r),
-                StoredAs::RefusedAt(r, at) => Moved::RefusedAt(r, at),
+                StoredAs::Refused(r) => Counts::Refused(r),
+                StoredAs::RefusedAt(r, at) => Counts::RefusedAt(r, at),
                 StoredAs::Rings(m) => {
                     changes::put_after(cells, indices, records, k);
-                    Moved::Stored(m, generation + 1 + raised)
+                    Counts::Stored(m, generation + 1 + raised)
                 }
             }
         }
     }
 }
 
-// Commit k changes and take the rings `removed`: the count of rings and the generation afterwards;
-// 1, 2, 3, 6 where the lists hold fewer changes, 4, 10, 7, then change by change 8, 21, 22, 23, then
-// 12, 11.
-pub fn apply_move(
+// A move of a stock by its spec: 1, 2, 3, 6 where the lists hold fewer changes, then as above.
+fn move_from(
     spec: TurnStockSpec,
     cells: &mut [f64],
     rings: &mut [f64],
@@ -90,15 +100,15 @@ pub fn apply_move(
     records: &[f64],
     k: usize,
     removed: &[f64],
-) -> Moved
-    ensures { λ r. ⌜ MovesLent (moveOf spec (now (cells .entry)) (now (rings .entry)) count generation (now (indices .entry)) (now (records .entry)) k (now (removed .entry))) r cells rings ⌝ }
+) -> Counts
+    ensures { λ r. ⌜ ShiftsLent (moveOf spec (now (cells .entry)) (now (rings .entry)) count generation (now (indices .entry)) (now (records .entry)) k (now (removed .entry))) r cells rings ⌝ }
 {
     let counted = stock::cells_fit(spec, cells);
     match counted {
-        Counted::Refused(r) => Moved::Refused(r),
+        Counted::Refused(r) => Counts::Refused(r),
         Counted::Cells(n) => {
             if changes::room(indices.len(), records.len()) < k {
-                return Moved::Refused(Refusal::ChangesOverRoom);
+                return Counts::Refused(Refusal::ChangesOverRoom);
             }
             move_in(
                 spec,
@@ -116,9 +126,55 @@ pub fn apply_move(
     }
 }
 
-// A stock from its cells and the rings `given`: how many rings are stored in `rings`; the generation
-// is 0; 1, 2, 3, 10, 11.
-pub fn from_parts(spec: TurnStockSpec, cells: &[f64], given: &[f64], rings: &mut [f64]) -> StoredAs
+// The stock with the rings and the generation that it has then.
+fn with_counts(stock: TurnStock, counts: Counts) -> Moved
+    ensures { λ r. ⌜ movedPaper r ≡ stockAfter stock (countsPaper counts) ⌝ }
+{
+    let spec = stock.spec;
+    match counts {
+        Counts::Refused(r) => Moved::Refused(r),
+        Counts::RefusedAt(r, k) => Moved::RefusedAt(r, k),
+        Counts::Stored(n, generation) => Moved::Stock(TurnStock {
+            spec,
+            stamp: Stamp { generation },
+            rings: n,
+        }),
+    }
+}
+
+// Commit k changes and take the rings `removed`: the stock afterwards; 1, 2, 3, 6 where the lists hold
+// fewer changes, 4, 10, 7, then change by change 8, 21, 22, 23, then 12, 11.
+pub fn apply_move(
+    stock: TurnStock,
+    cells: &mut [f64],
+    rings: &mut [f64],
+    indices: &[usize],
+    records: &[f64],
+    k: usize,
+    removed: &[f64],
+) -> Moved
+    ensures { λ r. ⌜ MovesLent stock
+        (moveOf (stock .spec) (now (cells .entry)) (now (rings .entry)) (stock .rings) (stock .stamp .generation)
+        (now (indices .entry)) (now (records .entry)) k (now (removed .entry)))
+        r cells rings ⌝ }
+{
+    let spec = stock.spec;
+    let counts = move_from(
+        spec,
+        cells,
+        rings,
+        stock.rings,
+        stock.stamp.generation,
+        indices,
+        records,
+        k,
+        removed,
+    );
+    with_counts(stock, counts)
+}
+
+// How many of the rings `given` are stored in `rings`; 1, 2, 3, 10, 11.
+fn store_parts(spec: TurnStockSpec, cells: &[f64], given: &[f64], rings: &mut [f64]) -> StoredAs
     ensures { λ r. ⌜ StoresAs (now (rings .entry)) (partsOf spec (now (cells .entry)) (now (given .entry)) (now (rings .entry))) r (now (rings .exit)) ⌝ }
 {
     let counted = stock::cells_fit(spec, cells);
@@ -132,4 +188,28 @@ pub fn from_parts(spec: TurnStockSpec, cells: &[f64], given: &[f64], rings: &mut
             rings::remove_rings(spec, rings, 0, given)
         }
     }
+}
+
+// The stock with that many rings, at generation 0.
+fn with_rings(spec: TurnStockSpec, stored: StoredAs) -> Rebuilt
+    ensures { λ r. ⌜ rebuiltPaper r ≡ stockStored spec (storedPaper stored) ⌝ }
+{
+    match stored {
+        StoredAs::Refused(r) => Rebuilt::Refused(r),
+        StoredAs::RefusedAt(r, k) => Rebuilt::RefusedAt(r, k),
+        StoredAs::Rings(n) => Rebuilt::Stock(TurnStock {
+            spec,
+            stamp: Stamp { generation: 0 },
+            rings: n,
+        }),
+    }
+}
+
+// A stock from its cells and the rings `given`, which are stored in `rings`; its generation is 0;
+// 1, 2, 3, 10, 11.
+pub fn from_parts(spec: TurnStockSpec, cells: &[f64], given: &[f64], rings: &mut [f64]) -> Rebuilt
+    ensures { λ r. ⌜ Rebuilds spec (now (rings .entry)) (partsOf spec (now (cells .entry)) (now (given .entry)) (now (rings .entry))) r (now (rings .exit)) ⌝ }
+{
+    let stored = store_parts(spec, cells, given, rings);
+    with_rings(spec, stored)
 }

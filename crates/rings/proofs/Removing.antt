@@ -15,17 +15,19 @@ use Rattle.refusals.specs.Number.{reasonOf, reasonAt}
 use Rattle.refusals.specs.Paper.{Paper, Reason, answers, refuses, demand, demandAt, onward, demand-true, demand-false, demandAt-true, demandAt-false}
 use Rattle.floats.specs.Pick.{pick, pick-true, pick-false}
 use Rattle.stock.specs.declared.TurnStockSpec.{TurnStockSpec}
+use Rattle.stock.specs.declared.TurnStock.{TurnStock}
 use Rattle.stock.specs.declared.Counted.{Counted}
 use Rattle.stock.specs.declared.Counted.the-variants as counted
 use Rattle.stock.specs.Spec.{cleanSpec, cellsOf, countedPaper}
 use Rattle.rings.specs.declared.Ring.{Ring}
+use Rattle.rings.specs.declared.Counts.{Counts}
+use Rattle.rings.specs.declared.Counts.the-variants as counts
 use Rattle.rings.specs.declared.Removed.{Removed}
-use Rattle.rings.specs.declared.Removed.the-variants as removed
 use Rattle.rings.specs.declared.StoredAs.{StoredAs}
 use Rattle.rings.specs.declared.StoredAs.the-variants as stored
 use Rattle.rings.specs.Ring.{filled, clip}
 use Rattle.rings.specs.Store.{barRing, ringAt, ringsOf, ringRoom, storeAs, storeFits, countFits, finiteRing}
-use Rattle.rings.specs.Remove.{added, addedAll, storedPaper, StoresAs, removeAllIn, removeRings, RingStore, storedNext, removeIn, removeRing, removedPaper, countsOf, ringsAfter, Removes}
+use Rattle.rings.specs.Remove.{added, addedAll, storedPaper, StoresAs, removeAllIn, removeRings, RingStore, storedNext, removeIn, removeRing, countsPaper, countsOf, ringsAfter, Takes, stockAfter, removedPaper, Removes}
 use Rattle.rings.proofs.Flat.{length-rings, stored-same}
 use Rattle.rings.proofs.Adding.{stores-none, stores-refused, stores-rings, stores-as, accepted, refused, added-one}
 
@@ -48,15 +50,15 @@ unfolding countFits
 fits-within e xs n f = leb-true n (ringRoom (length xs)) (and-fst (leb n (ringRoom (length xs))) (storeFits e (ringsOf n xs)) f)
 
 -- ---- from a rule's answer to the promise
-removes-none : (xs ys : List Float) (p : Paper RingStore) (r : Removed) (x : Reason) → removedPaper r ≡ refuses x → p ≡ refuses x → ys ≡ xs → Removes xs p r ys
+removes-none : (xs ys : List Float) (p : Paper RingStore) (r : Counts) (x : Reason) → countsPaper r ≡ refuses x → p ≡ refuses x → ys ≡ xs → Takes xs p r ys
 unfolding countsOf ringsAfter onward
 removes-none xs ys p r x a e y = record { answer = a ∙ sym (ap countsOf e); store = y ∙ sym (ap (ringsAfter xs) e) }
 
-removes-refused : (xs : List Float) (p : Paper RingStore) (x : Refusal) → p ≡ refuses (reasonOf x) → Removes xs p (removed.Refused x) xs
-removes-refused xs p x e = removes-none xs xs p (removed.Refused x) (reasonOf x) refl e refl
+removes-refused : (xs : List Float) (p : Paper RingStore) (x : Refusal) → p ≡ refuses (reasonOf x) → Takes xs p (counts.Refused x) xs
+removes-refused xs p x e = removes-none xs xs p (counts.Refused x) (reasonOf x) refl e refl
 
 removes-stored : (xs : List Float) (p : Paper RingStore) (l : List Ring) (n g : ℕ) (ys : List Float) → p ≡ answers (record { rings = l; generation = g }) → n ≡ length l → ys ≡ storeAs xs l
-    → Removes xs p (removed.Stored n g) ys
+    → Takes xs p (counts.Stored n g) ys
 unfolding countsOf ringsAfter onward
 removes-stored xs p l n g ys e f y = record { answer = ap (λ (m : ℕ). answers (record { rings = m; generation = g })) f ∙ sym (ap countsOf e); store = y ∙ sym (ap (ringsAfter xs) e) }
 
@@ -65,15 +67,15 @@ module _ (e : Ring) (xs : List Float) (n g : ℕ) (q : Ring) where
   clipped : Paper RingStore
   clipped = pick (filled (clip e q)) (storedNext (ringRoom (length xs)) (ringsOf n xs) g (clip e q)) (answers (record { rings = ringsOf n xs; generation = g }))
 
-  pub refuses-4 : countFits e xs n ≡ false → Removes xs (removeIn e xs n g q) (removed.Refused StoredRings) xs
+  pub refuses-4 : countFits e xs n ≡ false → Takes xs (removeIn e xs n g q) (counts.Refused StoredRings) xs
   unfolding removeIn clipped
   refuses-4 f = removes-refused xs (removeIn e xs n g q) StoredRings (demand-false (countFits e xs n) 4 (demandAt (finiteRing q) 10 0 clipped) f)
 
   module _ (f : countFits e xs n ≡ true) where
-    pub refuses-10 : finiteRing q ≡ false → Removes xs (removeIn e xs n g q) (removed.RefusedAt RingOutside 0) xs
+    pub refuses-10 : finiteRing q ≡ false → Takes xs (removeIn e xs n g q) (counts.RefusedAt RingOutside 0) xs
     unfolding removeIn clipped
     refuses-10 h =
-        removes-none xs xs (removeIn e xs n g q) (removed.RefusedAt RingOutside 0) (reasonAt RingOutside 0) refl
+        removes-none xs xs (removeIn e xs n g q) (counts.RefusedAt RingOutside 0) (reasonAt RingOutside 0) refl
         (demand-true (countFits e xs n) 4 (demandAt (finiteRing q) 10 0 clipped) f ∙ demandAt-false (finiteRing q) 10 0 clipped h) refl
 
     module _ (h : finiteRing q ≡ true) where
@@ -82,7 +84,7 @@ module _ (e : Ring) (xs : List Float) (n g : ℕ) (q : Ring) where
       in-range = demand-true (countFits e xs n) 4 (demandAt (finiteRing q) 10 0 clipped) f ∙ demandAt-true (finiteRing q) 10 0 clipped h
 
       -- empty after clipping: nothing changes
-      pub keeps-all : filled (clip e q) ≡ false → Removes xs (removeIn e xs n g q) (removed.Stored n g) xs
+      pub keeps-all : filled (clip e q) ≡ false → Takes xs (removeIn e xs n g q) (counts.Stored n g) xs
       unfolding clipped
       keeps-all k =
           let b = fits-within e xs n f in
@@ -95,7 +97,7 @@ module _ (e : Ring) (xs : List Float) (n g : ℕ) (q : Ring) where
         unfolding clipped
         not-empty = in-range ∙ pick-true (filled (clip e q)) (storedNext (ringRoom (length xs)) (ringsOf n xs) g (clip e q)) (answers (record { rings = ringsOf n xs; generation = g })) k
 
-        pub refuses-12 : lastGeneration ≤ g → Removes xs (removeIn e xs n g q) (removed.Refused GenerationsSpent) xs
+        pub refuses-12 : lastGeneration ≤ g → Takes xs (removeIn e xs n g q) (counts.Refused GenerationsSpent) xs
         unfolding storedNext
         refuses-12 l = removes-refused xs (removeIn e xs n g q) GenerationsSpent (not-empty ∙ demand-false (ltb g lastGeneration) 12 (next) (le-ltb g lastGeneration l))
           where
@@ -109,13 +111,13 @@ module _ (e : Ring) (xs : List Float) (n g : ℕ) (q : Ring) where
               not-empty ∙ demand-true (ltb g lastGeneration) 12 (onward (added (ringRoom (length xs)) (ringsOf n xs) (clip e q)) (λ l. answers (record { rings = l; generation = g + 1 }))) (lt-ltb g lastGeneration l)
               ∙ ap₂ (λ (m : ℕ) (p : Ring). onward (added m (ringsOf n xs) p) (λ l. answers (record { rings = l; generation = g + 1 }))) (sym w) (sym v)
 
-          pub refuses-11 : (x : Reason) (a : Removed) → removedPaper a ≡ refuses x → storedPaper r ≡ refuses x → Removes xs (removeIn e xs n g q) a ys
+          pub refuses-11 : (x : Reason) (a : Counts) → countsPaper a ≡ refuses x → storedPaper r ≡ refuses x → Takes xs (removeIn e xs n g q) a ys
           unfolding onward
           refuses-11 x a t h =
               let y = refused xs (added room (ringsOf n xs) c) r ys x s h in
               removes-none xs ys (removeIn e xs n g q) a x t (rises ∙ ap (λ (b : Paper (List Ring)). onward b (λ l. answers (record { rings = l; generation = g + 1 }))) (y .0)) (y .1)
 
-          pub stores-ring : (m : ℕ) → r ≡ stored.Rings m → Removes xs (removeIn e xs n g q) (removed.Stored m (g + 1)) ys
+          pub stores-ring : (m : ℕ) → r ≡ stored.Rings m → Takes xs (removeIn e xs n g q) (counts.Stored m (g + 1)) ys
           unfolding onward
           stores-ring m h =
               let y = accepted xs (added room (ringsOf n xs) c) r ys m s h in
@@ -158,18 +160,22 @@ module _ (e : Ring) (xs : List Float) (n : ℕ) (news : List Float) where
 
 -- ---- the spec's own refusals
 module _ (spec : TurnStockSpec) (xs : List Float) (n g : ℕ) (q : Ring) where
-  pub refuses-spec : (r : Counted) (x : Refusal) → countedPaper r ≡ cellsOf spec → r ≡ counted.Refused x → Removes xs (removeRing spec xs n g q) (removed.Refused x) xs
+  pub refuses-spec : (r : Counted) (x : Refusal) → countedPaper r ≡ cellsOf spec → r ≡ counted.Refused x → Takes xs (removeRing spec xs n g q) (counts.Refused x) xs
   unfolding removeRing onward
   refuses-spec r x e h =
       removes-refused xs (removeRing spec xs n g q) x (ap (λ (p : Paper ℕ). onward p (λ _. removeIn (barRing (cleanSpec spec)) xs n g q)) (sym e ∙ ap countedPaper h))
 
-  pub past-spec : (r : Counted) (m : ℕ) (e : Ring) (a : Removed) (ys : List Float) → countedPaper r ≡ cellsOf spec → r ≡ counted.Cells m → e ≡ barRing (cleanSpec spec)
-      → Removes xs (removeIn e xs n g q) a ys → Removes xs (removeRing spec xs n g q) a ys
+  pub past-spec : (r : Counted) (m : ℕ) (e : Ring) (a : Counts) (ys : List Float) → countedPaper r ≡ cellsOf spec → r ≡ counted.Cells m → e ≡ barRing (cleanSpec spec)
+      → Takes xs (removeIn e xs n g q) a ys → Takes xs (removeRing spec xs n g q) a ys
   unfolding removeRing onward
   past-spec r m e a ys f h v s =
       let p : removeIn e xs n g q ≡ removeRing spec xs n g q =
       ap (λ (b : Ring). removeIn b xs n g q) v ∙ sym (ap (λ (p : Paper ℕ). onward p (λ _. removeIn (barRing (cleanSpec spec)) xs n g q)) (sym f ∙ ap countedPaper h)) in
-      subst (λ (b : Paper RingStore). Removes xs b a ys) p s
+      subst (λ (b : Paper RingStore). Takes xs b a ys) p s
+
+-- from counts to the stock that has them
+pub removes-from : {k : TurnStock} {xs ys : List Float} {p : Paper RingStore} {t : Counts} {r : Removed} → removedPaper r ≡ stockAfter k (countsPaper t) → Takes xs p t ys → Removes k xs p r ys
+removes-from {k} e s = record { answer = e ∙ ap (stockAfter k) (s .answer); store = s .store }
 
 -- a list of rings, in a stock
 pub all-of : (spec : TurnStockSpec) (e : Ring) (xs : List Float) (n : ℕ) (news : List Float) {r : StoredAs} {ys : List Float} → e ≡ barRing (cleanSpec spec)

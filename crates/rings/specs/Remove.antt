@@ -11,8 +11,12 @@ use Rattle.refusals.specs.Number.{reasonOf, reasonAt}
 use Rattle.refusals.specs.Paper.{Paper, answers, refuses, demand, demandAt, onward}
 use Rattle.floats.specs.Pick.{pick}
 use Rattle.stock.specs.declared.TurnStockSpec.{TurnStockSpec}
+use Rattle.stock.specs.declared.TurnStock.{TurnStock}
 use Rattle.stock.specs.Spec.{cleanSpec, cellsOf}
+use Rattle.stock.specs.Stock.{stockWith}
 use Rattle.rings.specs.declared.Ring.{Ring}
+use Rattle.rings.specs.declared.Counts.{Counts}
+use Rattle.rings.specs.declared.Counts.the-variants as counts
 use Rattle.rings.specs.declared.Removed.{Removed}
 use Rattle.rings.specs.declared.Removed.the-variants as removed
 use Rattle.rings.specs.declared.StoredAs.{StoredAs}
@@ -94,10 +98,10 @@ pub record RingCount : Type 0 where
   pub rings : ℕ
   pub generation : ℕ
 
-abbrev pub removedPaper : Removed → Paper RingCount
-removedPaper (removed.Stored n g) = answers (record { rings = n; generation = g })
-removedPaper (removed.Refused c) = refuses (reasonOf c)
-removedPaper (removed.RefusedAt c k) = refuses (reasonAt c k)
+abbrev pub countsPaper : Counts → Paper RingCount
+countsPaper (counts.Stored n g) = answers (record { rings = n; generation = g })
+countsPaper (counts.Refused c) = refuses (reasonOf c)
+countsPaper (counts.RefusedAt c k) = refuses (reasonAt c k)
 
 unfoldable pub countsOf : Paper RingStore → Paper RingCount
 countsOf p = onward p (λ s. answers (record { rings = length (s .rings); generation = s .generation }))
@@ -105,8 +109,24 @@ countsOf p = onward p (λ s. answers (record { rings = length (s .rings); genera
 unfoldable pub ringsAfter : List Float → Paper RingStore → List Float
 ringsAfter xs p = storeAfter xs (onward p (λ s. answers (s .rings)))
 
-pub record Removes (xs : List Float) (p : Paper RingStore) (r : Removed) (ys : List Float) : Type 0 where
-  pub answer : removedPaper r ≡ countsOf p
+-- the answer by counts
+pub record Takes (xs : List Float) (p : Paper RingStore) (r : Counts) (ys : List Float) : Type 0 where
+  pub answer : countsPaper r ≡ countsOf p
+  pub store : ys ≡ ringsAfter xs p
+
+-- a stock with that count of rings at that generation
+abbrev pub stockAfter : TurnStock → Paper RingCount → Paper TurnStock
+stockAfter k (answers c) = answers (stockWith k (c .rings) (c .generation))
+stockAfter k (refuses r) = refuses r
+
+abbrev pub removedPaper : Removed → Paper TurnStock
+removedPaper (removed.Stock k) = answers k
+removedPaper (removed.Refused c) = refuses (reasonOf c)
+removedPaper (removed.RefusedAt c k) = refuses (reasonAt c k)
+
+-- the stock and the lent rings after one ring of the stock k
+pub record Removes (k : TurnStock) (xs : List Float) (p : Paper RingStore) (r : Removed) (ys : List Float) : Type 0 where
+  pub answer : removedPaper r ≡ stockAfter k (countsOf p)
   pub store : ys ≡ ringsAfter xs p
 
 -- ---- a ring taken as it stands

@@ -12,11 +12,13 @@ ghost use Rattle.refusals.specs.Paper.{placeOr};
 ghost use Rattle.floats.specs.Pick.{pick};
 ghost use Rattle.stock.specs.Spec.{cleanSpec};
 ghost use Rattle.rings.specs.Store.{barRing, ringsOf, countFits, badFrom, badRing, judgedPlace, allGood, raisedBy};
-ghost use Rattle.rings.specs.Remove.{StoresAs, removeAllIn, removeRings, removeIn, removeRing, Removes, leftOf, LeavesOf};
+ghost use Rattle.rings.specs.Remove.{StoresAs, removeAllIn, removeRings, removeIn, removeRing, countsPaper, Takes, stockAfter, removedPaper, Removes, leftOf, LeavesOf};
 use refusals::LAST_GENERATION;
 use refusals::PIECE_LIMIT;
 use refusals::Refusal;
 use stock::Counted;
+use stock::Stamp;
+use stock::TurnStock;
 use stock::TurnStockSpec;
 
 mod fit;
@@ -33,9 +35,17 @@ pub struct Ring {
     pub r1: f64,
 }
 
-// One ring taken: the count of rings and the generation afterwards.
-pub enum Removed {
+// Rings taken: the count of rings and the generation afterwards.
+pub enum Counts {
     Stored(usize, u64),
+    Refused(Refusal),
+    // at the place of the change or of the ring in its list
+    RefusedAt(Refusal, usize),
+}
+
+// One ring taken: the stock afterwards.
+pub enum Removed {
+    Stock(TurnStock),
     Refused(Refusal),
     // at the place of the ring in its list, which is 0
     RefusedAt(Refusal, usize),
@@ -82,46 +92,71 @@ pub fn rings_fit(spec: TurnStockSpec, rings: &[f64], count: usize) -> bool
 }
 
 // A ring within the extent e; 4, 10, 12, 11.
-fn remove_in(e: Ring, rings: &mut [f64], count: usize, generation: u64, ring: Ring) -> Removed
-    ensures { λ r. ⌜ Removes (now (rings .entry)) (removeIn e (now (rings .entry)) count generation ring) r (now (rings .exit)) ⌝ }
+fn remove_in(e: Ring, rings: &mut [f64], count: usize, generation: u64, ring: Ring) -> Counts
+    ensures { λ r. ⌜ Takes (now (rings .entry)) (removeIn e (now (rings .entry)) count generation ring) r (now (rings .exit)) ⌝ }
 {
     if !fit::count_fits(e, rings, count) {
-        return Removed::Refused(Refusal::StoredRings);
+        return Counts::Refused(Refusal::StoredRings);
     }
     if !shape::is_finite_ring(ring) {
-        return Removed::RefusedAt(Refusal::RingOutside, 0);
+        return Counts::RefusedAt(Refusal::RingOutside, 0);
     }
     let c = shape::clipped(e, ring);
     if !shape::is_filled(c) {
-        return Removed::Stored(count, generation);
+        return Counts::Stored(count, generation);
     }
     if LAST_GENERATION <= generation {
-        return Removed::Refused(Refusal::GenerationsSpent);
+        return Counts::Refused(Refusal::GenerationsSpent);
     }
     let added = store::add_ring(rings, lent::room_of(rings.len()), count, c);
     match added {
-        StoredAs::Refused(r) => Removed::Refused(r),
-        StoredAs::RefusedAt(r, k) => Removed::RefusedAt(r, k),
-        StoredAs::Rings(n) => Removed::Stored(n, generation + 1),
+        StoredAs::Refused(r) => Counts::Refused(r),
+        StoredAs::RefusedAt(r, k) => Counts::RefusedAt(r, k),
+        StoredAs::Rings(n) => Counts::Stored(n, generation + 1),
     }
 }
 
-// A ring certainly removed inside the material: the count of rings and the generation afterwards;
-// 1, 2, 4, 10, 12, 11.
-pub fn remove_ring(
+// A ring of a stock by its spec; 1, 2, 4, 10, 12, 11.
+fn remove_from(
     spec: TurnStockSpec,
     rings: &mut [f64],
     count: usize,
     generation: u64,
     ring: Ring,
-) -> Removed
-    ensures { λ r. ⌜ Removes (now (rings .entry)) (removeRing spec (now (rings .entry)) count generation ring) r (now (rings .exit)) ⌝ }
+) -> Counts
+    ensures { λ r. ⌜ Takes (now (rings .entry)) (removeRing spec (now (rings .entry)) count generation ring) r (now (rings .exit)) ⌝ }
 {
     let counted = stock::validate(spec);
     match counted {
-        Counted::Refused(r) => Removed::Refused(r),
+        Counted::Refused(r) => Counts::Refused(r),
         Counted::Cells(_) => remove_in(extent(spec), rings, count, generation, ring),
     }
+}
+
+// The stock with the rings and the generation that it has then.
+fn with_counts(stock: TurnStock, counts: Counts) -> Removed
+    ensures { λ r. ⌜ removedPaper r ≡ stockAfter stock (countsPaper counts) ⌝ }
+{
+    let spec = stock.spec;
+    match counts {
+        Counts::Refused(r) => Removed::Refused(r),
+        Counts::RefusedAt(r, k) => Removed::RefusedAt(r, k),
+        Counts::Stored(n, generation) => Removed::Stock(TurnStock {
+            spec,
+            stamp: Stamp { generation },
+            rings: n,
+        }),
+    }
+}
+
+// A ring certainly removed inside the material: the stock afterwards; 1, 2, 4, 10, 12, 11.
+pub fn remove_ring(stock: TurnStock, rings: &mut [f64], ring: Ring) -> Removed
+    ensures { λ r. ⌜ Removes stock (now (rings .entry))
+        (removeRing (stock .spec) (now (rings .entry)) (stock .rings) (stock .stamp .generation) ring) r (now (rings .exit)) ⌝ }
+{
+    let spec = stock.spec;
+    let counts = remove_from(spec, rings, stock.rings, stock.stamp.generation, ring);
+    with_counts(stock, counts)
 }
 
 // All within the extent e, one after the other, decided before anything is written; 4, 11.

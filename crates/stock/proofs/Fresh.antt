@@ -9,9 +9,11 @@ use Rattle.refusals.specs.declared.Refusal.{Refusal}
 use Rattle.refusals.specs.Number.{reasonOf}
 use Rattle.refusals.specs.Paper.{Paper, answers, refuses, papers}
 use Rattle.stock.specs.declared.TurnStockSpec.{TurnStockSpec}
-use Rattle.stock.specs.declared.Counted.the-variants.{Cells, Refused}
+use Rattle.stock.specs.declared.TurnStock.{TurnStock}
+use Rattle.stock.specs.declared.Made.the-variants.{Stock, Refused}
 use Rattle.stock.specs.Spec.{cleanSpec, cellsOf}
-use Rattle.stock.specs.Cell.{newOf, newCells, freshCell, cellsLike, Filled}
+use Rattle.stock.specs.Cell.{newOf, newCells, freshCell, cellsLike}
+use Rattle.stock.specs.Stock.{newStock, stockMade, Filled}
 
 -- as many numbers as n cells have
 pub new-is : (spec : TurnStockSpec) (len n : ℕ) → cellsOf spec ≡ answers n → len ≡ 4 * n → answers n ≡ newOf spec len
@@ -19,7 +21,8 @@ unfolding newOf
 new-is spec len n e h = simp (papers, e, eq-eqb len (4 * n) h)
 
 pub left : (spec : TurnStockSpec) (cs : List Float) (r : Refusal) → refuses (reasonOf r) ≡ newOf spec (length cs) → Filled spec (Refused r) cs cs
-left spec cs r e = record { answer = e; cells = ap (λ (p : Paper ℕ). newCells spec p cs) e }
+left spec cs r e = record { answer = ap (stockMade spec) e; cells = ap (λ (p : Paper ℕ). newCells spec p cs) e }
 
-pub made : (spec : TurnStockSpec) (cs cs' : List Float) (n : ℕ) → answers n ≡ newOf spec (length cs) → cs' ≡ cellsLike (freshCell (cleanSpec spec)) n → Filled spec (Cells n) cs cs'
-made spec cs cs' n e h = record { answer = e; cells = h ∙ ap (λ (p : Paper ℕ). newCells spec p cs) e }
+pub made : (spec : TurnStockSpec) (cs cs' : List Float) (n : ℕ) (k : TurnStock) → answers n ≡ newOf spec (length cs) → cs' ≡ cellsLike (freshCell (cleanSpec spec)) n → k ≡ newStock spec
+    → Filled spec (Stock k) cs cs'
+made spec cs cs' n k e h f = record { answer = ap (λ (x : TurnStock). answers x) f ∙ ap (stockMade spec) e; cells = h ∙ ap (λ (p : Paper ℕ). newCells spec p cs) e }

@@ -1,5 +1,4 @@
 -- The cells of a stock, four numbers each, and when they fit it. Assumes nothing.
-use mathlib.Core.Path.{_≡_}
 use Prim.Native.Nat.{ℕ, zero, suc, _+_, _*_, _/_}
 use mathlib.Core.Bool.{Bool, true, not, _&&_}
 use mathlib.Core.List.{List, [], _∷_, _++_}
@@ -13,8 +12,7 @@ use Rattle.floats.specs.Numbers.{minusZero}
 use Rattle.stock.specs.declared.TurnStockSpec.{TurnStockSpec}
 use Rattle.stock.specs.declared.RadiusBounds.{RadiusBounds}
 use Rattle.stock.specs.declared.TurnCell.{TurnCell}
-use Rattle.stock.specs.declared.Counted.{Counted}
-use Rattle.stock.specs.Spec.{cleanSpec, cellsOf, countedPaper}
+use Rattle.stock.specs.Spec.{cleanSpec, cellsOf}
 
 -- ---- reading
 
@@ -107,7 +105,3 @@ newOf spec len = onward (cellsOf spec) (λ n. demand (eqb len (4 * n)) 3 (answer
 abbrev pub newCells : TurnStockSpec → Paper ℕ → List Float → List Float
 newCells spec (answers n) cs = cellsLike (freshCell (cleanSpec spec)) n
 newCells spec (refuses r) cs = cs
-
-pub record Filled (spec : TurnStockSpec) (r : Counted) (cs cs' : List Float) : Type 0 where
-  pub answer : countedPaper r ≡ newOf spec (length cs)
-  pub cells : cs' ≡ newCells spec (newOf spec (length cs)) cs

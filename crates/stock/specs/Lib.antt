@@ -1,3 +1,4 @@
 pub mod Spec
 pub mod Bin
 pub mod Cell
+pub mod Stock

@@ -11,7 +11,8 @@ ghost use lib.Ieee.{le};
 ghost use Rattle.floats.specs.Numbers.{zero64, minusZero};
 ghost use Rattle.stock.specs.Spec.{cleanSpec, specGood, cellsOf, countedPaper};
 ghost use Rattle.stock.specs.Bin.{binOf, binFor, binnedPaper};
-ghost use Rattle.stock.specs.Cell.{cellAt, cellFrom, noCell, numberAt, fourOf, cellFits, pairFits, between, sameCell, fitTo, stockOf, putCell, Filled, freshCell, cellsLike};
+ghost use Rattle.stock.specs.Cell.{cellAt, cellFrom, noCell, numberAt, fourOf, cellFits, pairFits, between, sameCell, fitTo, stockOf, putCell, freshCell, cellsLike};
+ghost use Rattle.stock.specs.Stock.{newStock, Filled};
 use refusals::CELL_LIMIT;
 use refusals::Refusal;
 
@@ -62,6 +63,18 @@ pub struct BinRange {
     pub to: usize,
 }
 
+// How often a stock was changed.
+pub struct Stamp {
+    pub generation: u64,
+}
+
+// A stock: its cells and its rings are lent beside it, and of the rings so many are stored.
+pub struct TurnStock {
+    pub spec: TurnStockSpec,
+    pub stamp: Stamp,
+    pub rings: usize,
+}
+
 // How many cells a stock has.
 pub enum Counted {
     Cells(usize),
@@ -70,6 +83,12 @@ pub enum Counted {
 
 pub enum Binned {
     At(ZRange),
+    Refused(Refusal),
+}
+
+// A new stock.
+pub enum Made {
+    Stock(TurnStock),
     Refused(Refusal),
 }
 
@@ -357,19 +376,31 @@ fn put_all(cells: &mut [f64], n: usize, c: TurnCell)
     }
 }
 
-// A new stock: every cell at outer and bore; 1, 2, and 3 where the lent cells are not n.
-pub fn fill(spec: TurnStockSpec, cells: &mut [f64]) -> Counted
+// No rings, at generation 0.
+fn new_stock(spec: TurnStockSpec) -> TurnStock
+    ensures { λ r. ⌜ r ≡ newStock spec ⌝ }
+{
+    TurnStock {
+        spec,
+        stamp: Stamp { generation: 0 },
+        rings: 0,
+    }
+}
+
+// A new stock: every cell at outer and bore, no rings, generation 0; 1, 2, and 3 where the lent cells
+// are not n.
+pub fn fill(spec: TurnStockSpec, cells: &mut [f64]) -> Made
     ensures { λ r. ⌜ Filled spec r (now (cells .entry)) (now (cells .exit)) ⌝ }
 {
     let counted = validate(spec);
     match counted {
-        Counted::Refused(r) => Counted::Refused(r),
+        Counted::Refused(r) => Made::Refused(r),
         Counted::Cells(n) => {
             if cells.len() != 4 * n {
-                return Counted::Refused(Refusal::CellsDoNotFit);
+                return Made::Refused(Refusal::CellsDoNotFit);
             }
             put_all(cells, n, fresh_cell(clean_spec(spec)));
-            Counted::Cells(n)
+            Made::Stock(new_stock(spec))
         }
     }
 }

@@ -11,13 +11,14 @@ use Rattle.refusals.specs.declared.Refusal.{Refusal}
 use Rattle.refusals.specs.Number.{numberOf, reasonOf, reasonAt}
 use Rattle.refusals.specs.Paper.{Paper, answers, refuses, only, onward}
 use Rattle.stock.specs.declared.TurnStockSpec.{TurnStockSpec}
+use Rattle.stock.specs.declared.TurnStock.{TurnStock}
 use Rattle.stock.specs.declared.TurnChange.{TurnChange}
-use Rattle.stock.specs.declared.Counted.{Counted}
+use Rattle.stock.specs.declared.Made.{Made}
 use Rattle.stock.specs.declared.ZRange.{ZRange}
-use Rattle.stock.specs.Spec.{countedPaper}
 use Rattle.stock.specs.declared.TurnSide.{TurnSide}
 use Rattle.stock.specs.declared.TurnSide.the-variants.{Outer, Inner}
-use Rattle.stock.specs.Cell.{newOf, Filled, stockOf}
+use Rattle.stock.specs.Cell.{newOf, stockOf}
+use Rattle.stock.specs.Stock.{madePaper, stockMade, Filled}
 use Rattle.changes.specs.declared.Previewed.{Previewed}
 use Rattle.changes.specs.Change.{countOf, previewedPaper, Proposed}
 use Rattle.changes.specs.declared.Applied.{Applied}
@@ -26,17 +27,17 @@ use Rattle.changes.specs.Difference.{differenceOf}
 use Rattle.cuts.specs.declared.Cut.{Cut}
 use Rattle.cuts.specs.Preview.{previewCut}
 use Rattle.rings.specs.declared.Removed.{Removed}
-use Rattle.rings.specs.declared.StoredAs.{StoredAs}
 use Rattle.rings.specs.declared.Ring.{Ring}
 use Rattle.rings.specs.Remove as Remove
-use Rattle.rings.specs.Remove.{RingStore, RingCount, removedPaper, countsOf, Removes, storedPaper, StoresAs}
+use Rattle.rings.specs.Remove.{RingStore, removedPaper, countsOf, stockAfter, Removes}
 use Rattle.profile.specs.declared.Chopped.{Chopped}
 use Rattle.profile.specs.Chords as Profile
 use Rattle.profile.specs.Chords.{Chord, choppedPaper, segmentsOf, Segmented}
 use Rattle.moves.specs.declared.Moved.{Moved}
 use Rattle.moves.specs.Move as Move
-use Rattle.moves.specs.Move.{Left, movedPaper, Moves}
-use Rattle.turning.specs.Boundary.{codeOf, outOf, placeOut, Gives, GivesPlace, GivesBin, GivesCells, GivesChanges, GivesStock, bySide, GivesTwo, GivesTwoPlace, GivesRings, GivesMove, GivesStore, GivesChords, GivesFound, GivesFoundTwo}
+use Rattle.moves.specs.declared.Rebuilt.{Rebuilt}
+use Rattle.moves.specs.Move.{Left, movedPaper, Moves, stockStored, rebuiltPaper, Rebuilds}
+use Rattle.turning.specs.Boundary.{codeOf, outOf, placeOut, Gives, GivesPlace, GivesBin, GivesCells, GivesChanges, GivesStock, bySide, GivesTwo, GivesTwoPlace, ringsIn, GivesRings, GivesMove, GivesStore, GivesChords, GivesFound, GivesFoundTwo}
 
 -- a refusal hands out its number and nothing else, whatever its number is
 pub gives-refused : {A : Type 0} (p : Paper A) (c : Refusal) (r : ℕ) (x : A) → p ≡ refuses (reasonOf c) → r ≡ numberOf c → Gives p r x x
@@ -50,6 +51,10 @@ pub place-given : {A : Type 0} (p : Paper A) (c : Refusal) (j r : ℕ) (x : A) (
 place-given {A} p c j r x k e h = record { code = h ∙ ap codeOf (sym e); out = ap (λ (q : Paper A). outOf (λ (a : A). a) q x) (sym e); position = ap (λ (q : Paper A). placeOut q k) (sym e) }
 
 module _ {A B C : Type 0} (f : A → B) (g : A → C) where
+  pub two-answered : (p : Paper A) (a : A) (x : B) (y : C) (k : ℕ) → p ≡ answers a → GivesTwoPlace f g p 0 x (f a) y (g a) k k
+  two-answered p a x y k e =
+      record { code = ap codeOf (sym e); one = ap (λ (q : Paper A). outOf f q x) (sym e); other = ap (λ (q : Paper A). outOf g q y) (sym e); position = ap (λ (q : Paper A). placeOut q k) (sym e) }
+
   pub two-refused : (p : Paper A) (c : Refusal) (r : ℕ) (x : B) (y : C) (k : ℕ) → p ≡ refuses (reasonOf c) → r ≡ numberOf c → GivesTwoPlace f g p r x x y y k k
   two-refused p c r x y k e h =
       record { code = h ∙ ap codeOf (sym e); one = ap (λ (q : Paper A). outOf f q x) (sym e); other = ap (λ (q : Paper A). outOf g q y) (sym e); position = ap (λ (q : Paper A). placeOut q k) (sym e) }
@@ -65,8 +70,12 @@ gives p q r x x' e g = subst (λ z. Gives z r x x') e g
 pub gives-bin : (p q : Paper ZRange) (r : ℕ) (za za' zb zb' : Float) → p ≡ q → GivesBin p r za za' zb zb' → GivesBin q r za za' zb zb'
 gives-bin p q r za za' zb zb' e g = subst (λ z. GivesBin z r za za' zb zb') e g
 
-pub gives-cells : (spec : TurnStockSpec) (a : Counted) (r : ℕ) (cs cs' : List Float) → r ≡ codeOf (countedPaper a) → Filled spec a cs cs' → GivesCells spec (newOf spec (length cs)) r cs cs'
-gives-cells spec a r cs cs' e f = record { code = e ∙ ap codeOf (f .answer); cells = f .cells }
+pub gives-cells : (spec : TurnStockSpec) (a : Made) (r : ℕ) (cs cs' : List Float) → r ≡ codeOf (madePaper a) → Filled spec a cs cs' → GivesCells spec (newOf spec (length cs)) r cs cs'
+gives-cells spec a r cs cs' e f = record { code = e ∙ ap codeOf (f .answer) ∙ same-code (newOf spec (length cs)); cells = f .cells }
+  where
+    same-code : (p : Paper ℕ) → codeOf (stockMade spec p) ≡ codeOf p
+    same-code (answers n) = refl
+    same-code (refuses n) = refl
 
 pub gives-changes : (p : Paper (List TurnChange)) (a : Previewed) (r k k' : ℕ) (is is' : List ℕ) (xs xs' : List Float) → Gives (previewedPaper a) r k k' → Proposed p a is is' xs xs' → GivesChanges p r k k' is is' xs xs'
 gives-changes p a r k k' is is' xs xs' g q = record {
@@ -113,76 +122,76 @@ gives-found p q r f f' x x' e g = subst (λ z. GivesFound z r f f' x x') e g
 pub gives-found-two : {A : Type 0} (first second : A → Float) (p q : Paper (Option A)) (r f f' : ℕ) (x x' y y' : Float) → p ≡ q → GivesFoundTwo first second p r f f' x x' y y' → GivesFoundTwo first second q r f f' x x' y y'
 gives-found-two first second p q r f f' x x' y y' e g = subst (λ z. GivesFoundTwo first second z r f f' x x' y y') e g
 
-pub gives-rings : (p : Paper RingStore) (a : Removed) (r : ℕ) (xs xs' : List Float) (k k' g g' j j' : ℕ) → GivesTwoPlace (λ (c : RingCount). c .rings) (λ (c : RingCount). c .generation) (removedPaper a) r k k' g g' j j' → Removes xs p a xs' → GivesRings p r xs xs' k k' g g' j j'
+pub gives-rings : (s : TurnStock) (p : Paper RingStore) (a : Removed) (r : ℕ) (xs xs' : List Float) (k k' g g' j j' : ℕ) → GivesTwoPlace (λ (k : TurnStock). k .rings) (λ (k : TurnStock). k .stamp .generation) (removedPaper a) r k k' g g' j j' → Removes s xs p a xs' → GivesRings p r xs xs' k k' g g' j j'
 unfolding countsOf onward
-gives-rings p a r xs xs' k k' g g' j j' h q = record {
+gives-rings s p a r xs xs' k k' g g' j j' h q = record {
   code = h .code ∙ ap codeOf (q .answer) ∙ same-code p;
   rings = q .store;
-  count = h .one ∙ ap (λ (z : Paper RingCount). outOf (λ (c : RingCount). c .rings) z k) (q .answer) ∙ same-count p;
-  generation = h .other ∙ ap (λ (z : Paper RingCount). outOf (λ (c : RingCount). c .generation) z g) (q .answer) ∙ same-generation p;
-  position = h .position ∙ ap (λ (z : Paper RingCount). placeOut z j) (q .answer) ∙ same-place p;
+  count = h .one ∙ ap (λ (z : Paper TurnStock). outOf (λ (c : TurnStock). c .rings) z k) (q .answer) ∙ same-count p;
+  generation = h .other ∙ ap (λ (z : Paper TurnStock). outOf (λ (c : TurnStock). c .stamp .generation) z g) (q .answer) ∙ same-generation p;
+  position = h .position ∙ ap (λ (z : Paper TurnStock). placeOut z j) (q .answer) ∙ same-place p;
 }
   where
-    same-place : (p : Paper RingStore) → placeOut (countsOf p) j ≡ placeOut p j
-    same-place (answers s) = refl
+    same-place : (p : Paper RingStore) → placeOut (stockAfter s (countsOf p)) j ≡ placeOut p j
+    same-place (answers a) = refl
     same-place (refuses n) = refl
 
-    same-code : (p : Paper RingStore) → codeOf (countsOf p) ≡ codeOf p
-    same-code (answers s) = refl
+    same-code : (p : Paper RingStore) → codeOf (stockAfter s (countsOf p)) ≡ codeOf p
+    same-code (answers a) = refl
     same-code (refuses n) = refl
 
-    same-count : (p : Paper RingStore) → outOf (λ (c : RingCount). c .rings) (countsOf p) k ≡ outOf (λ (s : RingStore). length (s .rings)) p k
-    same-count (answers s) = refl
+    same-count : (p : Paper RingStore) → outOf (λ (c : TurnStock). c .rings) (stockAfter s (countsOf p)) k ≡ outOf (λ (s : RingStore). length (s .rings)) p k
+    same-count (answers a) = refl
     same-count (refuses n) = refl
 
-    same-generation : (p : Paper RingStore) → outOf (λ (c : RingCount). c .generation) (countsOf p) g ≡ outOf (λ (s : RingStore). s .generation) p g
-    same-generation (answers s) = refl
+    same-generation : (p : Paper RingStore) → outOf (λ (c : TurnStock). c .stamp .generation) (stockAfter s (countsOf p)) g ≡ outOf (λ (s : RingStore). s .generation) p g
+    same-generation (answers a) = refl
     same-generation (refuses n) = refl
 
-pub gives-move : (p : Paper Left) (a : Moved) (r : ℕ) (cs cs' xs xs' : List Float) (k k' g g' j j' : ℕ) → GivesTwoPlace (λ (c : RingCount). c .rings) (λ (c : RingCount). c .generation) (movedPaper a) r k k' g g' j j' → Moves p a cs cs' xs xs' → GivesMove p r cs cs' xs xs' k k' g g' j j'
-gives-move p a r cs cs' xs xs' k k' g g' j j' h q = record {
+pub gives-move : (s : TurnStock) (p : Paper Left) (a : Moved) (r : ℕ) (cs cs' xs xs' : List Float) (k k' g g' j j' : ℕ) → GivesTwoPlace (λ (k : TurnStock). k .rings) (λ (k : TurnStock). k .stamp .generation) (movedPaper a) r k k' g g' j j' → Moves s p a cs cs' xs xs' → GivesMove p r cs cs' xs xs' k k' g g' j j'
+gives-move s p a r cs cs' xs xs' k k' g g' j j' h q = record {
   code = h .code ∙ ap codeOf (q .answer) ∙ same-code p;
   cells = q .cells;
   rings = q .rings;
-  count = h .one ∙ ap (λ (z : Paper RingCount). outOf (λ (c : RingCount). c .rings) z k) (q .answer) ∙ same-count p;
-  generation = h .other ∙ ap (λ (z : Paper RingCount). outOf (λ (c : RingCount). c .generation) z g) (q .answer) ∙ same-generation p;
-  position = h .position ∙ ap (λ (z : Paper RingCount). placeOut z j) (q .answer) ∙ same-place p;
+  count = h .one ∙ ap (λ (z : Paper TurnStock). outOf (λ (c : TurnStock). c .rings) z k) (q .answer) ∙ same-count p;
+  generation = h .other ∙ ap (λ (z : Paper TurnStock). outOf (λ (c : TurnStock). c .stamp .generation) z g) (q .answer) ∙ same-generation p;
+  position = h .position ∙ ap (λ (z : Paper TurnStock). placeOut z j) (q .answer) ∙ same-place p;
 }
   where
-    same-place : (p : Paper Left) → placeOut (Move.countsOf p) j ≡ placeOut p j
-    same-place (answers s) = refl
+    same-place : (p : Paper Left) → placeOut (stockAfter s (Move.countsOf p)) j ≡ placeOut p j
+    same-place (answers a) = refl
     same-place (refuses n) = refl
 
-    same-code : (p : Paper Left) → codeOf (Move.countsOf p) ≡ codeOf p
-    same-code (answers s) = refl
+    same-code : (p : Paper Left) → codeOf (stockAfter s (Move.countsOf p)) ≡ codeOf p
+    same-code (answers a) = refl
     same-code (refuses n) = refl
 
-    same-count : (p : Paper Left) → outOf (λ (c : RingCount). c .rings) (Move.countsOf p) k ≡ outOf (λ (s : Left). length (s .rings)) p k
-    same-count (answers s) = refl
+    same-count : (p : Paper Left) → outOf (λ (c : TurnStock). c .rings) (stockAfter s (Move.countsOf p)) k ≡ outOf (λ (s : Left). length (s .rings)) p k
+    same-count (answers a) = refl
     same-count (refuses n) = refl
 
-    same-generation : (p : Paper Left) → outOf (λ (c : RingCount). c .generation) (Move.countsOf p) g ≡ outOf (λ (s : Left). s .generation) p g
-    same-generation (answers s) = refl
+    same-generation : (p : Paper Left) → outOf (λ (c : TurnStock). c .stamp .generation) (stockAfter s (Move.countsOf p)) g ≡ outOf (λ (s : Left). s .generation) p g
+    same-generation (answers a) = refl
     same-generation (refuses n) = refl
 
-pub gives-store : (p : Paper (List Ring)) (a : StoredAs) (r : ℕ) (xs xs' : List Float) (k k' j j' : ℕ) → GivesPlace (storedPaper a) r k k' j j' → StoresAs xs p a xs' → GivesStore p r xs xs' k k' j j'
+pub gives-store : (spec : TurnStockSpec) (p : Paper (List Ring)) (a : Rebuilt) (r : ℕ) (xs xs' : List Float) (k k' j j' : ℕ) → GivesPlace (ringsIn (rebuiltPaper a)) r k k' j j' → Rebuilds spec xs p a xs' → GivesStore p r xs xs' k k' j j'
 unfolding Remove.countOf onward
-gives-store p a r xs xs' k k' j j' h q = record {
-  code = h .code ∙ ap codeOf (q .answer) ∙ same-code p;
+gives-store spec p a r xs xs' k k' j j' h q = record {
+  code = h .code ∙ ap (λ (z : Paper TurnStock). codeOf (ringsIn z)) (q .answer) ∙ same-code p;
   rings = q .store;
-  count = h .out ∙ ap (λ (z : Paper ℕ). outOf (λ (n : ℕ). n) z k) (q .answer) ∙ same-count p;
-  position = h .position ∙ ap (λ (z : Paper ℕ). placeOut z j) (q .answer) ∙ same-place p;
+  count = h .out ∙ ap (λ (z : Paper TurnStock). outOf (λ (n : ℕ). n) (ringsIn z) k) (q .answer) ∙ same-count p;
+  position = h .position ∙ ap (λ (z : Paper TurnStock). placeOut (ringsIn z) j) (q .answer) ∙ same-place p;
 }
   where
-    same-place : (p : Paper (List Ring)) → placeOut (Remove.countOf p) j ≡ placeOut p j
+    same-place : (p : Paper (List Ring)) → placeOut (ringsIn (stockStored spec (Remove.countOf p))) j ≡ placeOut p j
     same-place (answers l) = refl
     same-place (refuses n) = refl
 
-    same-code : (p : Paper (List Ring)) → codeOf (Remove.countOf p) ≡ codeOf p
+    same-code : (p : Paper (List Ring)) → codeOf (ringsIn (stockStored spec (Remove.countOf p))) ≡ codeOf p
     same-code (answers l) = refl
     same-code (refuses n) = refl
 
-    same-count : (p : Paper (List Ring)) → outOf (λ (n : ℕ). n) (Remove.countOf p) k ≡ outOf (λ (l : List Ring). length l) p k
+    same-count : (p : Paper (List Ring)) → outOf (λ (n : ℕ). n) (ringsIn (stockStored spec (Remove.countOf p))) k ≡ outOf (λ (l : List Ring). length l) p k
     same-count (answers l) = refl
     same-count (refuses n) = refl
 
@@ -218,7 +227,7 @@ module _ (spec : TurnStockSpec) (cs : List Float) (side : ℕ) (p : TurnSide →
 
 -- ---- the spec that a call makes of its six numbers
 module _ (s s' : TurnStockSpec) where
-  pub same-new : (a : Counted) (cs cs' : List Float) → s ≡ s' → Filled s a cs cs' → Filled s' a cs cs'
+  pub same-new : (a : Made) (cs cs' : List Float) → s ≡ s' → Filled s a cs cs' → Filled s' a cs cs'
   same-new a cs cs' e f = subst (λ (x : TurnStockSpec). Filled x a cs cs') e f
 
   pub same-preview : (cs : List Float) (u : Cut) (room : ℕ) (a : Previewed) (is is' : List ℕ) (xs xs' : List Float) → s ≡ s' → Proposed (previewCut s cs u room) a is is' xs xs' → Proposed (previewCut s' cs u room) a is is' xs xs'
@@ -227,14 +236,14 @@ module _ (s s' : TurnStockSpec) where
   pub same-by : (f : TurnStockSpec → Paper (List TurnChange)) (a : Previewed) (is is' : List ℕ) (xs xs' : List Float) → s ≡ s' → Proposed (f s) a is is' xs xs' → Proposed (f s') a is is' xs xs'
   same-by f a is is' xs xs' e q = subst (λ (x : TurnStockSpec). Proposed (f x) a is is' xs xs') e q
 
-  pub same-ring : (f : TurnStockSpec → Paper RingStore) (a : Removed) (xs xs' : List Float) → s ≡ s' → Removes xs (f s) a xs' → Removes xs (f s') a xs'
-  same-ring f a xs xs' e q = subst (λ (x : TurnStockSpec). Removes xs (f x) a xs') e q
+  pub same-ring : (k : TurnStock) (f : TurnStockSpec → Paper RingStore) (a : Removed) (xs xs' : List Float) → s ≡ s' → Removes k xs (f s) a xs' → Removes k xs (f s') a xs'
+  same-ring k f a xs xs' e q = subst (λ (x : TurnStockSpec). Removes k xs (f x) a xs') e q
 
-  pub same-move : (f : TurnStockSpec → Paper Left) (a : Moved) (cs cs' xs xs' : List Float) → s ≡ s' → Moves (f s) a cs cs' xs xs' → Moves (f s') a cs cs' xs xs'
-  same-move f a cs cs' xs xs' e q = subst (λ (x : TurnStockSpec). Moves (f x) a cs cs' xs xs') e q
+  pub same-move : (k : TurnStock) (f : TurnStockSpec → Paper Left) (a : Moved) (cs cs' xs xs' : List Float) → s ≡ s' → Moves k (f s) a cs cs' xs xs' → Moves k (f s') a cs cs' xs xs'
+  same-move k f a cs cs' xs xs' e q = subst (λ (x : TurnStockSpec). Moves k (f x) a cs cs' xs xs') e q
 
-  pub same-store : (f : TurnStockSpec → Paper (List Ring)) (a : StoredAs) (xs xs' : List Float) → s ≡ s' → StoresAs xs (f s) a xs' → StoresAs xs (f s') a xs'
-  same-store f a xs xs' e q = subst (λ (x : TurnStockSpec). StoresAs xs (f x) a xs') e q
+  pub same-store : (k : TurnStockSpec) (f : TurnStockSpec → Paper (List Ring)) (a : Rebuilt) (xs xs' : List Float) → s ≡ s' → Rebuilds k xs (f s) a xs' → Rebuilds k xs (f s') a xs'
+  same-store k f a xs xs' e q = subst (λ (x : TurnStockSpec). Rebuilds k xs (f x) a xs') e q
 
   pub same-difference : (cs ds : List Float) (room : ℕ) (a : Previewed) (is is' : List ℕ) (xs xs' : List Float) → s ≡ s' → Proposed (differenceOf s cs ds room) a is is' xs xs' → Proposed (differenceOf s' cs ds room) a is is' xs xs'
   same-difference cs ds room a is is' xs xs' e q = subst (λ (x : TurnStockSpec). Proposed (differenceOf x cs ds room) a is is' xs xs') e q

@@ -14,6 +14,7 @@ use Rattle.refusals.specs.Number.{reasonOf}
 use Rattle.refusals.specs.Paper.{Paper, answers, refuses, only, placeOr, onward}
 use Rattle.refusals.specs.Lent.{Lent, over}
 use Rattle.stock.specs.declared.TurnStockSpec.{TurnStockSpec}
+use Rattle.stock.specs.declared.TurnStock.{TurnStock}
 use Rattle.stock.specs.declared.TurnChange.{TurnChange}
 use Rattle.stock.specs.declared.ZRange.{ZRange}
 use Rattle.stock.specs.declared.TurnSide.{TurnSide}
@@ -123,6 +124,11 @@ pub record GivesTwoPlace {A B C : Type 0} (first : A → B) (second : A → C) (
   pub one : x' ≡ outOf first p x
   pub other : y' ≡ outOf second p y
   pub position : q' ≡ placeOut p q
+
+-- how many rings a stock has
+abbrev pub ringsIn : Paper TurnStock → Paper ℕ
+ringsIn (answers k) = answers (k .rings)
+ringsIn (refuses r) = refuses r
 
 -- the rings, their count and the generation, and the place of a refusal
 pub record GivesRings (p : Paper RingStore) (r : ℕ) (xs xs' : List Float) (k k' g g' q q' : ℕ) : Type 0 where

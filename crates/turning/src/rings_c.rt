@@ -1,14 +1,17 @@
 // Rings, moves, rebuilding.
 ghost use mathlib.Core.Path.{_≡_};
 ghost use Rattle.rings.specs.Ring.{ring};
-ghost use Rattle.rings.specs.Remove.{RingCount, removedPaper, removeRing, storedPaper};
-ghost use Rattle.moves.specs.Move.{movedPaper, moveOf, partsOf};
-ghost use Rattle.turning.specs.Boundary.{specFrom, HandsPlace, HandsTwoPlace, HandsRings, HandsMove, HandsStore};
+ghost use Rattle.stock.specs.declared.TurnStock.{TurnStock};
+ghost use Rattle.rings.specs.Remove.{removedPaper, removeRing};
+ghost use Rattle.moves.specs.Move.{movedPaper, moveOf, partsOf, rebuiltPaper};
+ghost use Rattle.turning.specs.Boundary.{specFrom, ringsIn, HandsPlace, HandsTwoPlace, HandsRings, HandsMove, HandsStore};
 use crate::stock_c;
 use moves::Moved;
+use moves::Rebuilt;
 use rings::Removed;
 use rings::Ring;
-use rings::StoredAs;
+use stock::Stamp;
+use stock::TurnStock;
 
 // The count of rings and the generation afterwards, or the number of the refusal, with its place where
 // it has one.
@@ -18,7 +21,7 @@ fn give_removed(
     generation: &mut u64,
     position: &mut usize,
 ) -> u32
-    ensures { λ r. ⌜ HandsTwoPlace (λ (c : RingCount). c .rings) (λ (c : RingCount). c .generation) (removedPaper answer) r
+    ensures { λ r. ⌜ HandsTwoPlace (λ (k : TurnStock). k .rings) (λ (k : TurnStock). k .stamp .generation) (removedPaper answer) r
         count generation position ⌝ }
 {
     match answer {
@@ -27,9 +30,9 @@ fn give_removed(
             *position = k;
             refusals::number(r)
         }
-        Removed::Stored(n, g) => {
-            *count = n;
-            *generation = g;
+        Removed::Stock(left) => {
+            *count = left.rings;
+            *generation = left.stamp.generation;
             0
         }
     }
@@ -59,14 +62,19 @@ pub extern "C" fn turning_remove_ring(
     let spec = stock_c::spec_of(z_min, z_max, outer, bore, cell, max_cells);
     let count = *rings_count;
     let before = *generation;
-    let answer = rings::remove_ring(spec, rings, count, before, Ring { z0, z1, r0, r1 });
+    let stock = TurnStock {
+        spec,
+        stamp: Stamp { generation: before },
+        rings: count,
+    };
+    let answer = rings::remove_ring(stock, rings, Ring { z0, z1, r0, r1 });
     give_removed(answer, rings_count, generation, position)
 }
 
 // The count of rings and the generation after a move, or the number of the refusal, with its place
 // where it has one.
 fn give_moved(answer: Moved, count: &mut usize, generation: &mut u64, position: &mut usize) -> u32
-    ensures { λ r. ⌜ HandsTwoPlace (λ (c : RingCount). c .rings) (λ (c : RingCount). c .generation) (movedPaper answer) r
+    ensures { λ r. ⌜ HandsTwoPlace (λ (k : TurnStock). k .rings) (λ (k : TurnStock). k .stamp .generation) (movedPaper answer) r
         count generation position ⌝ }
 {
     match answer {
@@ -75,9 +83,9 @@ fn give_moved(answer: Moved, count: &mut usize, generation: &mut u64, position: 
             *position = k;
             refusals::number(r)
         }
-        Moved::Stored(stored, after) => {
-            *count = stored;
-            *generation = after;
+        Moved::Stock(after) => {
+            *count = after.rings;
+            *generation = after.stamp.generation;
             0
         }
     }
@@ -108,32 +116,27 @@ pub extern "C" fn turning_apply_move(
     let spec = stock_c::spec_of(z_min, z_max, outer, bore, cell, max_cells);
     let count = *rings_count;
     let before = *generation;
-    let answer = moves::apply_move(
+    let stock = TurnStock {
         spec,
-        cells,
-        rings,
-        count,
-        before,
-        indices,
-        records,
-        changes,
-        removed,
-    );
+        stamp: Stamp { generation: before },
+        rings: count,
+    };
+    let answer = moves::apply_move(stock, cells, rings, indices, records, changes, removed);
     give_moved(answer, rings_count, generation, position)
 }
 
 // The count of rings of a rebuilt stock, or the number of the refusal, with its place where it has one.
-fn give_stored(answer: StoredAs, count: &mut usize, position: &mut usize) -> u32
-    ensures { λ r. ⌜ HandsPlace (storedPaper answer) r count position ⌝ }
+fn give_rebuilt(answer: Rebuilt, count: &mut usize, position: &mut usize) -> u32
+    ensures { λ r. ⌜ HandsPlace (ringsIn (rebuiltPaper answer)) r count position ⌝ }
 {
     match answer {
-        StoredAs::Refused(r) => refusals::number(r),
-        StoredAs::RefusedAt(r, k) => {
+        Rebuilt::Refused(r) => refusals::number(r),
+        Rebuilt::RefusedAt(r, k) => {
             *position = k;
             refusals::number(r)
         }
-        StoredAs::Rings(kept) => {
-            *count = kept;
+        Rebuilt::Stock(kept) => {
+            *count = kept.rings;
             0
         }
     }
@@ -158,5 +161,5 @@ pub extern "C" fn turning_from_parts(
 {
     let spec = stock_c::spec_of(z_min, z_max, outer, bore, cell, max_cells);
     let answer = moves::from_parts(spec, cells, given, rings);
-    give_stored(answer, rings_count, position)
+    give_rebuilt(answer, rings_count, position)
 }

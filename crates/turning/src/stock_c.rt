@@ -2,9 +2,11 @@
 ghost use mathlib.Core.Path.{_≡_};
 ghost use Rattle.stock.specs.Spec.{cellsOf, countedPaper};
 ghost use Rattle.stock.specs.Bin.{binFor, binnedPaper};
+ghost use Rattle.stock.specs.Stock.{madePaper};
 ghost use Rattle.turning.specs.Boundary.{specFrom, codeOf, Hands, HandsBin, HandsCells};
 use stock::Binned;
 use stock::Counted;
+use stock::Made;
 use stock::TurnStockSpec;
 
 // A spec's six numbers.
@@ -56,12 +58,12 @@ fn give_bin(answer: Binned, za: &mut f64, zb: &mut f64) -> u32
 }
 
 // 0, or the number of the refusal.
-fn code_of(answer: Counted) -> u32
-    ensures { λ r. ⌜ r ≡ codeOf (countedPaper answer) ⌝ }
+fn code_of(answer: Made) -> u32
+    ensures { λ r. ⌜ r ≡ codeOf (madePaper answer) ⌝ }
 {
     match answer {
-        Counted::Refused(r) => refusals::number(r),
-        Counted::Cells(_) => 0,
+        Made::Refused(r) => refusals::number(r),
+        Made::Stock(_) => 0,
     }
 }
 

@@ -45,7 +45,9 @@ use denote.Triple.Clauses.{ensured, lasts}
 use denote.Exit.{yes}
 use Rattle.refusals.specs.Paper.{Paper}
 use Rattle.stock.specs.declared.TurnStockSpec.{TurnStockSpec}
+use Rattle.stock.specs.declared.TurnStock.{TurnStock}
 use Rattle.stock.specs.declared.TurnChange.{TurnChange}
+use Rattle.stock.specs.Stock.{stockFrom}
 use Rattle.stock.proofs.TurnStockSpec as S
 use Rattle.stock.proofs.TurnStockSpec.Laws as S′
 use Rattle.stock.proofs.TurnChange as T
@@ -153,6 +155,9 @@ module _ {M : Type 1} (𝓤 : URA M) (H : Heap 𝓤) (A : Atoms 𝓤) (W : Given
   abbrev Post : Val → SProp 𝓤
   Post = walkOf 𝓤 H A f.ended stayed (f.clauses 𝓤 H A mem run) .post ((((κ₀, (κ₁, (κ₂, (κ₃, tt)))), (q₀, (q₁, (q₂, (q₃, tt)))), tt, (spec, (x γ cs₀, (xr, (K, (G, (s, (w, tt))))))), at), tt))
 
+  abbrev Before : TurnStock
+  Before = stockFrom spec K G
+
   abbrev Rule : Paper Left
   Rule = moveListOf spec cs₀ xs₀ K G (now s) (now w)
 
@@ -168,7 +173,7 @@ module _ {M : Type 1} (𝓤 : URA M) (H : Heap 𝓤) (A : Atoms 𝓤) (W : Given
   abbrev Removed : Fml
   Removed = ShrSlice (named 3) κ₃ f64 .own w (slice-vals w)
 
-  exits : (cs xs : List Float) (m : Moved) (u : Val) → length cs ≡ length cs₀ → length xs ≡ length xs₀ → Moves Rule m cs₀ cs xs₀ xs
+  exits : (cs xs : List Float) (m : Moved) (u : Val) → length cs ≡ length cs₀ → length xs ≡ length xs₀ → Moves Before Rule m cs₀ cs xs₀ xs
       → ent 𝓤 (⋆ 𝓤 H A (‵ (flft κ₀ q₀) ∷ ‵ (flft κ₁ q₁) ∷ ‵ (flft κ₂ q₂) ∷ ‵ (flft κ₃ q₃) ∷ ‵ (Store cs) ∷ ‵ (finally f64 γ₁ xs) ∷ ‵ (Mv.the-row .own m (u ∷ [])) ∷ [])) (Post u)
   exits cs xs m u long wide e =
       qed W (‵ (flft κ₀ q₀) ∷ ‵ (flft κ₁ q₁) ∷ ‵ (flft κ₂ q₂) ∷ ‵ (flft κ₃ q₃) ∷ ‵ (Store cs) ∷ ‵ (finally f64 γ₁ xs) ∷ ‵ (Mv.the-row .own m (u ∷ [])) ∷ []) ∵
@@ -254,7 +259,7 @@ module _ {M : Type 1} (𝓤 : URA M) (H : Heap 𝓤) (A : Atoms 𝓤) (W : Given
     En = (Mv′.mir, l₀) ∷ (S′.mir, l₁) ∷ (stores, l₂) ∷ (rstores, l₃) ∷ (word, l₄) ∷ (word, l₅) ∷ (slice, l₆) ∷ (gone, l₇) ∷ (R′.mir, l₈) ∷ (Mv′.mir, l₉) ∷ (ref, l₁₀) ∷ (sliceTy ref, l₁₁) ∷ (mref, l₁₂) ∷ (sliceTy mref, l₁₃) ∷ (mref, l₁₄) ∷ (sliceTy mref, l₁₅) ∷ (tyBool, l₁₆) ∷ (tyBool, l₁₇) ∷ (tyUnit, l₁₈) ∷ (mref, l₁₉) ∷ (sliceTy mref, l₂₀) ∷ []
 
     -- every local is freed: both returns come here
-    freed : (cs xs : List Float) → length cs ≡ length cs₀ → length xs ≡ length xs₀ → (m : Moved) (u : Val) → Moves Rule m cs₀ cs xs₀ xs → Is Mv.the-row m (u ∷ [])
+    freed : (cs xs : List Float) → length cs ≡ length cs₀ → length xs ≡ length xs₀ → (m : Moved) (u : Val) → Moves Before Rule m cs₀ cs xs₀ xs → Is Mv.the-row m (u ∷ [])
         → Sq W (‵ (Store cs) ∷ ‵ (flft κ₀ q₀) ∷ ‵ (flft κ₁ q₁) ∷ ‵ (flft κ₂ q₂) ∷ ‵ (flft κ₃ q₃) ∷ ‵ (finally f64 γ₁ xs) ∷ ‵ (froom (sliceTy mref) l₂₀ 0) ∷ ‵ (fdies (sliceTy mref) l₂₀) ∷ ‵ (froom mref l₁₉ 0) ∷ ‵ (fdies mref l₁₉) ∷ ‵ (froom tyUnit l₁₈ 0) ∷ ‵ (fdies tyUnit l₁₈) ∷ ‵ (froom tyBool l₁₇ 0) ∷ ‵ (fdies tyBool l₁₇) ∷ ‵ (froom tyBool l₁₆ 0) ∷ ‵ (fdies tyBool l₁₆) ∷ ‵ (froom (sliceTy mref) l₁₅ 0) ∷ ‵ (fdies (sliceTy mref) l₁₅) ∷ ‵ (froom mref l₁₄ 0) ∷ ‵ (fdies mref l₁₄) ∷ ‵ (froom (sliceTy mref) l₁₃ 0) ∷ ‵ (fdies (sliceTy mref) l₁₃) ∷ ‵ (froom mref l₁₂ 0) ∷ ‵ (fdies mref l₁₂) ∷ ‵ (froom (sliceTy ref) l₁₁ 0) ∷ ‵ (fdies (sliceTy ref) l₁₁) ∷ ‵ (froom ref l₁₀ 0) ∷ ‵ (fdies ref l₁₀) ∷ ‵ (froom Mv′.mir l₉ 0) ∷ ‵ (fdies Mv′.mir l₉) ∷ ‵ (froom R′.mir l₈ 0) ∷ ‵ (fdies R′.mir l₈) ∷ ‵ (froom gone l₇ 0) ∷ ‵ (fdies gone l₇) ∷ ‵ (froom slice l₆ 0) ∷ ‵ (fdies slice l₆) ∷ ‵ (froom word l₅ 0) ∷ ‵ (fdies word l₅) ∷ ‵ (froom word l₄ 0) ∷ ‵ (fdies word l₄) ∷ ‵ (froom rstores l₃ 0) ∷ ‵ (fdies rstores l₃) ∷ ‵ (froom stores l₂ 0) ∷ ‵ (fdies stores l₂) ∷ ‵ (froom S′.mir l₁ 0) ∷ ‵ (fdies S′.mir l₁) ∷ ‵ (froom Mv′.mir l₀ 0) ∷ ‵ (fdies Mv′.mir l₀) ∷ []) (frees En (prop (Post u)))
     freed cs xs long wide m u e is =
         move ! (46 ∷ 47 ∷ []) $ free1 ! $ move ! (44 ∷ 45 ∷ []) $ free1 ! $ move ! (42 ∷ 43 ∷ []) $ free1 ! $ move ! (40 ∷ 41 ∷ []) $ free1 ! $ move ! (38 ∷ 39 ∷ []) $ free1 ! $ move ! (36 ∷ 37 ∷ []) $
@@ -268,7 +273,7 @@ module _ {M : Type 1} (𝓤 : URA M) (H : Heap 𝓤) (A : Atoms 𝓤) (W : Given
     Answered xs u = ‵ (Store cs₀) ∷ ‵ (flft κ₀ q₀) ∷ ‵ (flft κ₁ q₁) ∷ ‵ (flft κ₂ q₂) ∷ ‵ (flft κ₃ q₃) ∷ ‵ (finally f64 γ₁ xs) ∷ ‵ Ch ∷ ‵ (froom (sliceTy mref) l₂₀ 0) ∷ ‵ (fdies (sliceTy mref) l₂₀) ∷ ‵ (froom mref l₁₉ 0) ∷ ‵ (fdies mref l₁₉) ∷ ‵ (froom tyUnit l₁₈ 0) ∷ ‵ (fdies tyUnit l₁₈) ∷ ‵ (froom tyBool l₁₇ 0) ∷ ‵ (fdies tyBool l₁₇) ∷ ‵ (froom tyBool l₁₆ 0) ∷ ‵ (fdies tyBool l₁₆) ∷ ‵ (froom (sliceTy mref) l₁₅ 0) ∷ ‵ (fdies (sliceTy mref) l₁₅) ∷ ‵ (froom mref l₁₄ 0) ∷ ‵ (fdies mref l₁₄) ∷ ‵ (froom (sliceTy mref) l₁₃ 0) ∷ ‵ (fdies (sliceTy mref) l₁₃) ∷ ‵ (froom mref l₁₂ 0) ∷ ‵ (fdies mref l₁₂) ∷ ‵ (froom (sliceTy ref) l₁₁ 0) ∷ ‵ (fdies (sliceTy ref) l₁₁) ∷ ‵ (froom ref l₁₀ 0) ∷ ‵ (fdies ref l₁₀) ∷ ‵ (fat fullShare Mv′.mir l₉ 0 (u)) ∷ ‵ (fdies Mv′.mir l₉) ∷ ‵ (froom R′.mir l₈ 0) ∷ ‵ (fdies R′.mir l₈) ∷ ‵ (fat fullShare gone l₇ 0 (wv)) ∷ ‵ (fdies gone l₇) ∷ ‵ (fat fullShare slice l₆ 0 (sv)) ∷ ‵ (fdies slice l₆) ∷ ‵ (fat fullShare word l₅ 0 (vint w64 G)) ∷ ‵ (fdies word l₅) ∷ ‵ (fat fullShare word l₄ 0 (vint w64 K)) ∷ ‵ (fdies word l₄) ∷ ‵ (fat fullShare rstores l₃ 0 (rv)) ∷ ‵ (fdies rstores l₃) ∷ ‵ (fat fullShare stores l₂ 0 (xv)) ∷ ‵ (fdies stores l₂) ∷ ‵ (fat fullShare S′.mir l₁ 0 (pv spec)) ∷ ‵ (fdies S′.mir l₁) ∷ ‵ (froom Mv′.mir l₀ 0) ∷ ‵ (fdies Mv′.mir l₀) ∷ []
 
     -- the after-cells are written
-    writes : (xs : List Float) → length xs ≡ length xs₀ → (m : Moved) (u : Val) → Is Mv.the-row m (u ∷ []) → Storing Rule m cs₀ cs₀ xs₀ xs → isStored m ≡ true → Sq W (Answered xs u) (runs C Λ En mir.t-12 (atRet En Post))
+    writes : (xs : List Float) → length xs ≡ length xs₀ → (m : Moved) (u : Val) → Is Mv.the-row m (u ∷ []) → Storing Before Rule m cs₀ cs₀ xs₀ xs → isStored m ≡ true → Sq W (Answered xs u) (runs C Λ En mir.t-12 (atRet En Post))
     writes xs wide m u is stored ok =
         assigns ! (addr ! (from ! (fld ! refl (hop ! (look-in ! 43 (sub ! 0 refl (whole !))) (stop !))))) (from ! (stop !)) (init ! 9 refl (tt, tt)) $ assigns ! (agg ! (and-then ! (load ! (from ! (stop !)) (look ! 9 refl)) (and-then ! (load ! (from ! (fld ! refl (stop !))) (look-in ! 43 (sub ! 1 refl (whole !)))) (no-more !)))) (from ! (stop !)) (init ! 7 refl (tt, (tt, (record { fits = gm .0 }, tt)))) $
         lft-new ! tt (λ ν. move ! (1 ∷ 2 ∷ []) $ use2 W (later (some (λ (δ : GName). ‵ (Lent ν δ) ⊛ ‵ (Again ν δ)))) (lends-again f64 κ₀ (ν ∷ []) q₀ γ b o 𝓤 H A W (named 0) (named 0) cs₀) $
@@ -283,7 +288,7 @@ module _ {M : Type 1} (𝓤 : URA M) (H : Heap 𝓤) (A : Atoms 𝓤) (W : Given
         forget ! 46 refl $ move ! (0 ∷ 1 ∷ 3 ∷ 2 ∷ 4 ∷ 5 ∷ []) $ freed (vs .0) xs same wide m u (move-done spec cs₀ xs₀ K G (now s) (now w) m cs₀ (vs .0) xs stored ok is-v) is))))))))
 
     -- the answer is tested, and returned where it is a refusal
-    tests : (xs : List Float) → length xs ≡ length xs₀ → (m : Moved) (u : Val) → Is Mv.the-row m (u ∷ []) → Storing Rule m cs₀ cs₀ xs₀ xs → Sq W (Answered xs u) (runs C Λ En mir.t-9 (atRet En Post))
+    tests : (xs : List Float) → length xs ≡ length xs₀ → (m : Moved) (u : Val) → Is Mv.the-row m (u ∷ []) → Storing Before Rule m cs₀ cs₀ xs₀ xs → Sq W (Answered xs u) (runs C Λ En mir.t-9 (atRet En Post))
     tests xs wide m u is stored =
         use0 W (raw (Stored 𝓤 H A mem run .pre (to-stored m u))) (asks-stored m u is) $ calls-at ! (fmOf 𝓤 H (W .laws) 𝓣) (Stored 𝓤 H A mem run) accepts (to-stored m u) (and-then ! (load ! (from ! (stop !)) (look ! 30 refl)) (no-more !)) (λ v.
         use1 W (later (some (λ (a : Bool). (‵ ftrue ⊛ ‵ (bool .own a (v ∷ []))) ⊛ raw (ensured 𝓤 H A a-fn.ended (a-fn.clauses 𝓤 H A mem run) tt (m, tt) tt a)))) (id⊢ 𝓤 _) $ await ! tt $

@@ -8,7 +8,7 @@ use Rattle.refusals.specs.Number.{reasonOf, reasonAt}
 use Rattle.rings.specs.Store.{judgedPlace}
 use Rattle.rings.specs.Remove.{storedPaper}
 use Rattle.changes.specs.Commit.{passingPaper}
-use Rattle.moves.specs.declared.Moved.the-variants as moved
+use Rattle.rings.specs.declared.Counts.the-variants as counts
 use Rattle.moves.proofs.Moving.{left-as, left, stopped, passed, put-is, refuses-4, refuses-10, refuses-change, refuses-12, refuses-11, moves}
 use Rattle.moves.proofs.move_in.Statement.{statement}
 use Rattle.moves.proofs.move_in.Tie as tie
@@ -20,7 +20,7 @@ returns-2 : tie.Need-returns-2
 returns-2 c =
     let f = c .before .before .before in
     let told = c .before .judged .given in
-    left-as _ (moved.RefusedAt RingOutside (told .0 .0)) (reasonAt RingOutside (told .0 .0)) _ _ _ refl
+    left-as _ (counts.RefusedAt RingOutside (told .0 .0)) (reasonAt RingOutside (told .0 .0)) _ _ _ refl
     (refuses-10 _ _ _ _ _ _ _ _ (sym (f .before .before .rings-fit .ensures) ∙ not-false _ (f .before .if1 .left)) (told .0 .0) (sym (f .first-bad-ring .ensures) ∙ ap judgedPlace (told .1)))
     refl
 
@@ -43,7 +43,7 @@ returns-4 c =
     let f = r .before .before .before .before .before in
     let start = f .before .before .before .before .before .before .before .before .before in
     let told = c .before .found .given in
-    left-as _ (moved.Refused (told .0 .0)) (reasonOf (told .0 .0)) _ _ _ refl
+    left-as _ (counts.Refused (told .0 .0)) (reasonOf (told .0 .0)) _ _ _ refl
     (refuses-change _ _ _ _ _ _ _ _ (sym (f .before .before .rings-fit .ensures) ∙ not-false _ (f .before .if1 .left)) (sym (f .first-bad-ring .ensures) ∙ ap judgedPlace (r .before .before .before .enum-told .given .1)) (reasonOf (told .0 .0))
     (stopped _ _ _ _ _ _ _ (r .first-refusal .result) (r .before .before .clean-spec .ensures) (start .pre) (r .first-refusal .ensures) (reasonOf (told .0 .0)) (ap passingPaper (told .1))))
     refl
@@ -55,7 +55,7 @@ returns-5 c =
     let f = r .before .before .before .before .before in
     let start = f .before .before .before .before .before .before .before .before .before in
     let told = c .before .found2 .given in
-    left-as _ (moved.RefusedAt (told .0 .0) (told .0 .1 .0)) (reasonAt (told .0 .0) (told .0 .1 .0)) _ _ _ refl
+    left-as _ (counts.RefusedAt (told .0 .0) (told .0 .1 .0)) (reasonAt (told .0 .0) (told .0 .1 .0)) _ _ _ refl
     (refuses-change _ _ _ _ _ _ _ _ (sym (f .before .before .rings-fit .ensures) ∙ not-false _ (f .before .if1 .left)) (sym (f .first-bad-ring .ensures) ∙ ap judgedPlace (r .before .before .before .enum-told .given .1)) (reasonAt (told .0 .0) (told .0 .1 .0))
     (stopped _ _ _ _ _ _ _ (r .first-refusal .result) (r .before .before .clean-spec .ensures) (start .pre) (r .first-refusal .ensures) (reasonAt (told .0 .0) (told .0 .1 .0)) (ap passingPaper (told .1))))
     refl
@@ -71,7 +71,7 @@ returns-6 c =
     let told = c .before .stored .given in
     refuses-11 _ _ _ _ _ _ _ _ (sym (f .before .before .rings-fit .ensures) ∙ not-false _ (f .before .if1 .left)) (sym (f .first-bad-ring .ensures) ∙ ap judgedPlace (r .before .before .before .enum-told .given .1))
     (passed _ _ _ _ _ _ _ _ (r .before .before .clean-spec .ensures) (start .pre) (r .first-refusal .ensures) (p .enum-told2 .given .1))
-    _ (i6 .before .raised-by .ensures) (i6 .if2 .left) _ _ (m .remove-rings .ensures) (reasonOf (told .0 .0)) (moved.Refused (told .0 .0)) refl (ap storedPaper (told .1))
+    _ (i6 .before .raised-by .ensures) (i6 .if2 .left) _ _ (m .remove-rings .ensures) (reasonOf (told .0 .0)) (counts.Refused (told .0 .0)) refl (ap storedPaper (told .1))
 
 returns-7 : tie.Need-returns-7
 returns-7 c =
@@ -84,7 +84,7 @@ returns-7 c =
     let told = c .before .stored2 .given in
     refuses-11 _ _ _ _ _ _ _ _ (sym (f .before .before .rings-fit .ensures) ∙ not-false _ (f .before .if1 .left)) (sym (f .first-bad-ring .ensures) ∙ ap judgedPlace (r .before .before .before .enum-told .given .1))
     (passed _ _ _ _ _ _ _ _ (r .before .before .clean-spec .ensures) (start .pre) (r .first-refusal .ensures) (p .enum-told2 .given .1))
-    _ (i7 .before .raised-by .ensures) (i7 .if2 .left) _ _ (m .remove-rings .ensures) (reasonAt (told .0 .0) (told .0 .1 .0)) (moved.RefusedAt (told .0 .0) (told .0 .1 .0)) refl (ap storedPaper (told .1))
+    _ (i7 .before .raised-by .ensures) (i7 .if2 .left) _ _ (m .remove-rings .ensures) (reasonAt (told .0 .0) (told .0 .1 .0)) (counts.RefusedAt (told .0 .0) (told .0 .1 .0)) refl (ap storedPaper (told .1))
 
 returns-8 : tie.Need-returns-8
 returns-8 c =

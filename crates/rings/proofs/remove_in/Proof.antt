@@ -3,7 +3,7 @@ use native.Mathlib.Omega.{arith}
 use mathlib.Core.Path.{refl, _∙_, sym, ap}
 use borrow.Author.Tests.{not-true, not-false}
 use Rattle.refusals.specs.Number.{reasonOf, reasonAt}
-use Rattle.rings.specs.declared.Removed.the-variants as removed
+use Rattle.rings.specs.declared.Counts.the-variants as counts
 use Rattle.rings.specs.Ring.{filled}
 use Rattle.rings.specs.Remove.{storedPaper}
 use Rattle.rings.proofs.Removing.{fits-within, refuses-4, refuses-10, keeps-all, refuses-12, refuses-11, stores-ring}
@@ -44,7 +44,7 @@ returns-5 c =
     let clipped = c .before .before .before .before .before .before .before .before .before .before .before .clipped in
     let room-of = c .before .before .before .before .before .before .room-of in
     let add-ring = c .before .before .before .before .before .add-ring in
-    refuses-11 (start .args .e) (start .args .rings .now) (start .args .count) (start .args .generation) (start .args .ring) (sym (c .before .before .before .before .before .before .before .before .before .before .before .before .before .before .before .count-fits .ensures) ∙ not-false _ (c .before .before .before .before .before .before .before .before .before .before .before .before .before .before .if1 .left)) (sym (c .before .before .before .before .before .before .before .before .before .before .before .before .before .is-finite-ring .ensures) ∙ not-false _ (c .before .before .before .before .before .before .before .before .before .before .before .before .if2 .left)) (ap filled (sym (clipped .ensures)) ∙ sym (c .before .before .before .before .before .before .before .before .before .before .is-filled .ensures) ∙ not-false _ (c .before .before .before .before .before .before .before .before .before .if3 .left)) (c .before .before .before .before .before .before .before .before .if4 .left) (clipped .result) (clipped .ensures) (room-of .result) (room-of .ensures) (add-ring .result) _ (add-ring .ensures) (reasonOf (c .before .added .given .0 .0)) (removed.Refused (c .before .added .given .0 .0)) refl (ap storedPaper (c .before .added .given .1))
+    refuses-11 (start .args .e) (start .args .rings .now) (start .args .count) (start .args .generation) (start .args .ring) (sym (c .before .before .before .before .before .before .before .before .before .before .before .before .before .before .before .count-fits .ensures) ∙ not-false _ (c .before .before .before .before .before .before .before .before .before .before .before .before .before .before .if1 .left)) (sym (c .before .before .before .before .before .before .before .before .before .before .before .before .before .is-finite-ring .ensures) ∙ not-false _ (c .before .before .before .before .before .before .before .before .before .before .before .before .if2 .left)) (ap filled (sym (clipped .ensures)) ∙ sym (c .before .before .before .before .before .before .before .before .before .before .is-filled .ensures) ∙ not-false _ (c .before .before .before .before .before .before .before .before .before .if3 .left)) (c .before .before .before .before .before .before .before .before .if4 .left) (clipped .result) (clipped .ensures) (room-of .result) (room-of .ensures) (add-ring .result) _ (add-ring .ensures) (reasonOf (c .before .added .given .0 .0)) (counts.Refused (c .before .added .given .0 .0)) refl (ap storedPaper (c .before .added .given .1))
 
 returns-6 : tie.Need-returns-6
 returns-6 c =
@@ -52,7 +52,7 @@ returns-6 c =
     let clipped = c .before .before .before .before .before .before .before .before .before .before .before .clipped in
     let room-of = c .before .before .before .before .before .before .room-of in
     let add-ring = c .before .before .before .before .before .add-ring in
-    refuses-11 (start .args .e) (start .args .rings .now) (start .args .count) (start .args .generation) (start .args .ring) (sym (c .before .before .before .before .before .before .before .before .before .before .before .before .before .before .before .count-fits .ensures) ∙ not-false _ (c .before .before .before .before .before .before .before .before .before .before .before .before .before .before .if1 .left)) (sym (c .before .before .before .before .before .before .before .before .before .before .before .before .before .is-finite-ring .ensures) ∙ not-false _ (c .before .before .before .before .before .before .before .before .before .before .before .before .if2 .left)) (ap filled (sym (clipped .ensures)) ∙ sym (c .before .before .before .before .before .before .before .before .before .before .is-filled .ensures) ∙ not-false _ (c .before .before .before .before .before .before .before .before .before .if3 .left)) (c .before .before .before .before .before .before .before .before .if4 .left) (clipped .result) (clipped .ensures) (room-of .result) (room-of .ensures) (add-ring .result) _ (add-ring .ensures) (reasonAt (c .before .added2 .given .0 .0) (c .before .added2 .given .0 .1 .0)) (removed.RefusedAt (c .before .added2 .given .0 .0) (c .before .added2 .given .0 .1 .0)) refl (ap storedPaper (c .before .added2 .given .1))
+    refuses-11 (start .args .e) (start .args .rings .now) (start .args .count) (start .args .generation) (start .args .ring) (sym (c .before .before .before .before .before .before .before .before .before .before .before .before .before .before .before .count-fits .ensures) ∙ not-false _ (c .before .before .before .before .before .before .before .before .before .before .before .before .before .before .if1 .left)) (sym (c .before .before .before .before .before .before .before .before .before .before .before .before .before .is-finite-ring .ensures) ∙ not-false _ (c .before .before .before .before .before .before .before .before .before .before .before .before .if2 .left)) (ap filled (sym (clipped .ensures)) ∙ sym (c .before .before .before .before .before .before .before .before .before .before .is-filled .ensures) ∙ not-false _ (c .before .before .before .before .before .before .before .before .before .if3 .left)) (c .before .before .before .before .before .before .before .before .if4 .left) (clipped .result) (clipped .ensures) (room-of .result) (room-of .ensures) (add-ring .result) _ (add-ring .ensures) (reasonAt (c .before .added2 .given .0 .0) (c .before .added2 .given .0 .1 .0)) (counts.RefusedAt (c .before .added2 .given .0 .0) (c .before .added2 .given .0 .1 .0)) refl (ap storedPaper (c .before .added2 .given .1))
 
 returns-7 : tie.Need-returns-7
 returns-7 c =

@@ -28,11 +28,12 @@ returns-2 c = left _ _ _ (search (papers, ← c .before .before .before .validat
 
 returns-3 : tie.Need-returns-3
 returns-3 c =
-    let b = c .before .before .before .before .before .before .before .before .before .before in
-    let told = c .before .before .before .before .before .before .before .before .counted2 .given in
-    made _ _ _ (told .0 .0)
-    (new-is _ _ (told .0 .0) (sym (b .validate .ensures) ∙ ap countedPaper (told .1)) (c .before .before .before .before .before .before .if1 .left))
-    (simp (c .before .before .put-all .ensures, c .before .before .before .fresh-cell .ensures, c .before .before .before .before .clean-spec .ensures))
+    let b = c .before .before .before .before .before .before .before .before .before .before .before in
+    let told = c .before .before .before .before .before .before .before .before .before .counted2 .given in
+    made _ _ _ (told .0 .0) _
+    (new-is _ _ (told .0 .0) (sym (b .validate .ensures) ∙ ap countedPaper (told .1)) (c .before .before .before .before .before .before .before .if1 .left))
+    (simp (c .before .before .before .put-all .ensures, c .before .before .before .before .fresh-cell .ensures, c .before .before .before .before .before .clean-spec .ensures))
+    (c .new-stock .ensures)
 
 pub fill-spec : {M : Type 1} → statement M
 fill-spec =
@@ -43,6 +44,7 @@ fill-spec =
     (λ c. search needs)
     mul-if1
     returns
+    (λ c κs. search needs)
     (λ c κs. search needs)
     (λ c κs. search needs)
     (λ c κs. search needs)

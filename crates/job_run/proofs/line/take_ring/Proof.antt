@@ -18,7 +18,7 @@ returns-2 c =
     ring-refused _ _ _ _ _ (c .before .before .before .before .before .remove-ring .ensures) (told .0 .0) (reasonAt (told .0 .0) (told .0 .1 .0)) refl (ap removedPaper (told .1))
 
 returns-3 : tie.Need-returns-3
-returns-3 c = ring-went _ _ _ _ _ (c .before .before .before .before .before .remove-ring .ensures) _ _ (c .before .removed3 .given .1)
+returns-3 c = ring-went _ _ _ _ _ (c .before .before .before .before .before .remove-ring .ensures) _ (c .before .removed3 .given .1)
 
 pub take-ring-spec : {M : Type 1} → statement M
 take-ring-spec =

@@ -2,7 +2,7 @@
 use mathlib.Core.Path.{ap}
 use borrow.Author.Needs.{needs}
 use Rattle.rings.specs.Remove.{removedPaper}
-use Rattle.turning.proofs.Given.{two-refused, two-given}
+use Rattle.turning.proofs.Given.{two-answered, two-refused, two-given}
 use Rattle.turning.proofs.rings_c.give_removed.Statement.{statement}
 use Rattle.turning.proofs.rings_c.give_removed.Tie as tie
 
@@ -12,5 +12,8 @@ returns c = let told = c .before .before .answer .given in two-refused _ _ _ (to
 returns-2 : tie.Need-returns-2
 returns-2 c = let told = c .before .before .answer2 .given in two-given _ _ _ (told .0 .0) (told .0 .1 .0) _ _ _ _ (ap removedPaper (told .1)) (c .number2 .ensures)
 
+returns-3 : tie.Need-returns-3
+returns-3 c = let told = c .before .answer3 .given in two-answered _ _ _ (told .0 .0) _ _ _ (ap removedPaper (told .1))
+
 pub give-removed-spec : {M : Type 1} → statement M
-give-removed-spec = tie.close (tie.spec (λ c. search needs) (λ c κs. search needs) (λ c. search needs) (λ c κs. search needs) (λ c. search needs) returns returns-2 (λ c. search needs))
+give-removed-spec = tie.close (tie.spec (λ c. search needs) (λ c κs. search needs) (λ c. search needs) (λ c κs. search needs) (λ c. search needs) returns returns-2 returns-3)

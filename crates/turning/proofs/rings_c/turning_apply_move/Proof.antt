@@ -10,8 +10,8 @@ returns c =
     let b = c .before .before .before .before .before .before .before .before in
     let s = b .before .before .before .before .before in
     let a = s .before .before .before .before .before .before .args in
-    gives-move _ _ _ _ _ _ _ _ _ _ _ _ _ (c .give-moved .ensures)
-    (same-move _ _ (λ x. moveOf x (a .cells .now) (a .rings .now) (a .rings-count .now) (a .generation .now) (a .indices .now) (a .records .now) (a .changes) (a .removed .now)) _ _ _ _ _ (s .spec-of .ensures) (b .apply-move .ensures))
+    gives-move _ _ _ _ _ _ _ _ _ _ _ _ _ _ (c .give-moved .ensures)
+    (same-move _ _ _ (λ x. moveOf x (a .cells .now) (a .rings .now) (a .rings-count .now) (a .generation .now) (a .indices .now) (a .records .now) (a .changes) (a .removed .now)) _ _ _ _ _ (s .spec-of .ensures) (b .apply-move .ensures))
 
 pub turning-apply-move-spec : {M : Type 1} → statement M
 turning-apply-move-spec = tie.close (tie.spec (λ c κs. search needs) (λ c κs. search needs) (λ c κs. search needs) (λ c. search needs) (λ c. search needs) returns)

@@ -10,8 +10,8 @@ returns c =
     let b = c .before .before .before .before .before in
     let s = b .before .before in
     let a = s .before .before .before .before .args in
-    gives-store _ _ _ _ _ _ _ _ _ (c .give-stored .ensures)
-    (same-store _ _ (λ x. partsOf x (a .cells .now) (a .given .now) (a .rings .now)) _ _ _ (s .spec-of .ensures) (b .from-parts .ensures))
+    gives-store _ _ _ _ _ _ _ _ _ _ (c .give-rebuilt .ensures)
+    (same-store _ _ _ (λ x. partsOf x (a .cells .now) (a .given .now) (a .rings .now)) _ _ _ (s .spec-of .ensures) (b .from-parts .ensures))
 
 pub turning-from-parts-spec : {M : Type 1} → statement M
 turning-from-parts-spec = tie.close (tie.spec (λ c κs. search needs) (λ c κs. search needs) (λ c κs. search needs) (λ c. search needs) returns)

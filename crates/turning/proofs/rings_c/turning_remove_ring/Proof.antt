@@ -11,8 +11,8 @@ returns c =
     let b = c .before .before .before .before .before .before in
     let s = b .before .before .before .before in
     let a = s .before .before .args in
-    gives-rings _ _ _ _ _ _ _ _ _ _ _ (c .give-removed .ensures)
-    (same-ring _ _ (λ x. removeRing x (a .rings .now) (a .rings-count .now) (a .generation .now) (ring (a .z0) (a .z1) (a .r0) (a .r1))) _ _ _ (s .spec-of .ensures) (b .remove-ring .ensures))
+    gives-rings _ _ _ _ _ _ _ _ _ _ _ _ (c .give-removed .ensures)
+    (same-ring _ _ _ (λ x. removeRing x (a .rings .now) (a .rings-count .now) (a .generation .now) (ring (a .z0) (a .z1) (a .r0) (a .r1))) _ _ _ (s .spec-of .ensures) (b .remove-ring .ensures))
 
 pub turning-remove-ring-spec : {M : Type 1} → statement M
 turning-remove-ring-spec = tie.close (tie.spec (λ c κs. search needs) (λ c κs. search needs) (λ c κs. search needs) (λ c. search needs) returns)
