@@ -42,6 +42,8 @@ pub enum Refusal {
     ProfileOutside,
     // 18: ten halvings do not reach the tolerance, or more chords than the lent room
     ChordsOutgrow,
+    // 19: a change list whose edition or generation is not the stock's
+    ListStale,
     // 20: lent block numbers do not match the cells
     BlocksDoNotMatch,
     // 21: there is no such bin
@@ -50,6 +52,10 @@ pub enum Refusal {
     BinHoldsOther,
     // 23: the change adds material
     MaterialAdded,
+    // 24: two stocks whose specs are not the same
+    SpecsDiffer,
+    // 25: an inside cut among passes, over 128 of them, or targets outside the domain
+    PassesOutside,
 }
 
 // 01's number of a refusal.
@@ -74,10 +80,13 @@ pub fn number(r: Refusal) -> u32
         Refusal::FileMalformed => 16,
         Refusal::ProfileOutside => 17,
         Refusal::ChordsOutgrow => 18,
+        Refusal::ListStale => 19,
         Refusal::BlocksDoNotMatch => 20,
         Refusal::NoSuchBin => 21,
         Refusal::BinHoldsOther => 22,
         Refusal::MaterialAdded => 23,
+        Refusal::SpecsDiffer => 24,
+        Refusal::PassesOutside => 25,
     }
 }
 

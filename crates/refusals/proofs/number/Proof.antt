@@ -66,10 +66,22 @@ returns-20 c = simp (c .enum-told20 .given .1)
 returns-21 : tie.Need-returns-21
 returns-21 c = simp (c .enum-told21 .given .1)
 
+returns-22 : tie.Need-returns-22
+returns-22 c = simp (c .enum-told22 .given .1)
+
+returns-23 : tie.Need-returns-23
+returns-23 c = simp (c .enum-told23 .given .1)
+
+returns-24 : tie.Need-returns-24
+returns-24 c = simp (c .enum-told24 .given .1)
+
 pub number-spec : {M : Type 1} → statement M
 number-spec =
     tie.close
     (tie.spec
+    (λ c. search needs)
+    (λ c. search needs)
+    (λ c. search needs)
     (λ c. search needs)
     (λ c. search needs)
     (λ c. search needs)
@@ -111,4 +123,7 @@ number-spec =
     returns-18
     returns-19
     returns-20
-    returns-21)
+    returns-21
+    returns-22
+    returns-23
+    returns-24)
