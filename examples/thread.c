@@ -9,6 +9,7 @@
 
 #define BINS 4
 #define BAR 0.0, 4.0, 10.0, 0.0, 1.0, BINS /* z_min, z_max, outer, bore, cell, max_cells */
+#define EDITION 3                          /* of the wheel that the bar is for: the caller keeps it */
 
 /* Ends the program where a call is refused. */
 static int refused(const char *call, uint32_t number)
@@ -22,8 +23,8 @@ int main(void)
 {
     double cells[4 * BINS], records[8 * BINS], rings[4 * 8];
     size_t indices[BINS], n = 0, changes = 0, stored = 0, position = 0, k;
-    uint64_t generation = 0;
-    uint32_t number, found = 0;
+    uint64_t generation = 0, list_generation = 0;
+    uint32_t number, found = 0, list_edition = 0;
     double least = 0, greatest = 0, bore = 0, outer = 0;
 
     if (turning_header() != TURNING_HEADER) {
@@ -32,19 +33,22 @@ int main(void)
     }
     if (refused("turning_validate", turning_validate(BAR, &n)))
         return 1;
-    if (refused("turning_new", turning_new(BAR, cells, 4 * n)))
+    if (refused("turning_new", turning_new(BAR, EDITION, &generation, cells, 4 * n)))
         return 1;
 
     /* What the thread would change: z from 3 down to 1, root radius 8. */
-    number = turning_thread_cut(BAR, cells, 4 * n, 3.0, 1.0, 8.0, indices, BINS, records, 8 * BINS, &changes);
+    number = turning_thread_cut(BAR, EDITION, generation, cells, 4 * n, 3.0, 1.0, 8.0, indices, BINS, records, 8 * BINS,
+                                &changes, &list_edition, &list_generation);
     if (refused("turning_thread_cut", number))
         return 1;
     for (k = 0; k < changes; k++)
         printf("bin %u: outer %g..%g becomes %g..%g\n", (unsigned)indices[k], records[8 * k], records[8 * k + 1],
                records[8 * k + 4], records[8 * k + 5]);
+    printf("the list is of edition %u at generation %u\n", (unsigned)list_edition, (unsigned)list_generation);
 
     /* Make the changes, and take a groove out of the face at z = 4: radii 4 to 5, half a millimetre deep. */
-    number = turning_apply(BAR, cells, 4 * n, &generation, indices, BINS, records, 8 * BINS, changes, &position);
+    number = turning_apply(BAR, EDITION, &generation, cells, 4 * n, indices, BINS, records, 8 * BINS, changes, list_edition,
+                           list_generation, &position);
     if (refused("turning_apply", number))
         return 1;
     number = turning_remove_ring(BAR, rings, 4 * 8, &stored, &generation, 3.5, 4.5, 4.0, 5.0, &position);
@@ -63,9 +67,14 @@ int main(void)
     if (found)
         printf("at z 1.5 there may be material from radius %g to %g\n", bore, outer);
 
-    /* The same list again: the bins hold something else now, the first of the list too. Nothing changes. */
-    number = turning_apply(BAR, cells, 4 * n, &generation, indices, BINS, records, 8 * BINS, changes, &position);
-    printf("the same changes again: %u at change %u; generation %u\n", (unsigned)number, (unsigned)position,
-           (unsigned)generation);
+    /* The same list again: the stock has gone on since it was taken. Nothing changes. */
+    number = turning_apply(BAR, EDITION, &generation, cells, 4 * n, indices, BINS, records, 8 * BINS, changes, list_edition,
+                           list_generation, &position);
+    printf("the same changes again: refused with %u; generation %u\n", (unsigned)number, (unsigned)generation);
+
+    /* Handed in as a list of now, it is held to the bins, and they hold something else, that of its first change too. */
+    number = turning_apply(BAR, EDITION, &generation, cells, 4 * n, indices, BINS, records, 8 * BINS, changes, EDITION,
+                           generation, &position);
+    printf("and as a list of now: %u at change %u; generation %u\n", (unsigned)number, (unsigned)position, (unsigned)generation);
     return 0;
 }

@@ -11,6 +11,13 @@ pub struct Spec {
     pub max_cells: usize,
 }
 
+/// What a stock and a change list carry: an edition and a generation (Req 08 of 02).
+#[derive(Clone, Copy, Debug, Default, PartialEq)]
+pub struct Stamp {
+    pub edition: u32,
+    pub generation: u64,
+}
+
 /// Room for changes: how many indices and how many record numbers are lent.
 #[derive(Clone, Copy, Debug)]
 pub struct Room {
@@ -25,12 +32,13 @@ impl Room {
     }
 }
 
-/// A lent change list: 8 numbers in `records` for each index.
+/// A lent change list: 8 numbers in `records` for each index; and the stamp of the stock that it is for.
 #[derive(Clone, Debug, Default)]
 pub struct List {
     pub indices: Vec<usize>,
     pub records: Vec<f64>,
     pub changes: usize,
+    pub stamp: Stamp,
 }
 
 /// Lent rings: the numbers lent, and how many rings of them are stored.
@@ -56,7 +64,9 @@ pub enum Simple {
     Drill { tip_z: f64, radius: f64, cone: f64 },
 }
 
-/// A call, `turning_` left off its name. Cells, segments, points and rings are flat, as lent.
+/// A call, `turning_` left off its name. Cells, segments, points and rings are flat, as lent. The stamp of
+/// `New` and of `FromParts` has the edition of the stock that is made, and what the place for its
+/// generation holds before.
 #[rustfmt::skip]
 #[derive(Clone, Debug)]
 pub enum Call {
@@ -64,15 +74,15 @@ pub enum Call {
     Length { x: f64, y: f64 },
     Validate { spec: Spec },
     Bin { spec: Spec, i: usize },
-    New { spec: Spec, cells_len: usize },
-    Preview { spec: Spec, cells: Vec<f64>, side: u32, rn: f64, segments: Vec<f64>, room: Room },
-    PreviewPolygon { spec: Spec, cells: Vec<f64>, side: u32, excess: f64, points: Vec<f64>, room: Room },
-    Cut { spec: Spec, cells: Vec<f64>, cut: Simple, room: Room },
-    Apply { spec: Spec, cells: Vec<f64>, generation: u64, list: List },
-    ChangesTo { spec: Spec, cells: Vec<f64>, after: Vec<f64>, room: Room },
+    New { spec: Spec, stamp: Stamp, cells_len: usize },
+    Preview { spec: Spec, stamp: Stamp, cells: Vec<f64>, side: u32, rn: f64, segments: Vec<f64>, room: Room },
+    PreviewPolygon { spec: Spec, stamp: Stamp, cells: Vec<f64>, side: u32, excess: f64, points: Vec<f64>, room: Room },
+    Cut { spec: Spec, stamp: Stamp, cells: Vec<f64>, cut: Simple, room: Room },
+    Apply { spec: Spec, stamp: Stamp, cells: Vec<f64>, list: List },
+    ChangesTo { spec: Spec, stamp: Stamp, cells: Vec<f64>, after: Vec<f64>, room: Room },
     RemoveRing { spec: Spec, store: Store, generation: u64, ring: [f64; 4] },
-    ApplyMove { spec: Spec, cells: Vec<f64>, store: Store, generation: u64, list: List, removed: Vec<f64> },
-    FromParts { spec: Spec, cells: Vec<f64>, given: Vec<f64>, rings_len: usize },
+    ApplyMove { spec: Spec, stamp: Stamp, cells: Vec<f64>, store: Store, list: List, removed: Vec<f64> },
+    FromParts { spec: Spec, stamp: Stamp, cells: Vec<f64>, given: Vec<f64>, rings_len: usize },
     Volume { spec: Spec, cells: Vec<f64>, store: Store },
     EnvelopeAt { spec: Spec, cells: Vec<f64>, z: f64 },
     EnvelopeOrder { points: Vec<f64> },
@@ -128,10 +138,8 @@ pub enum Answer {
     Bins(usize),
     /// A bin's range.
     Range(f64, f64),
-    /// The cells of a new stock.
-    Cells(Vec<[f64; 4]>),
-    /// The changes of a preview or a difference.
-    Changes(Vec<Change>),
+    /// The changes of a preview or a difference, and the stamp that they carry.
+    Changes(Vec<Change>, Stamp),
     /// The cells, the rings stored and the generation, of which a call has what it lends.
     Stock(Vec<[f64; 4]>, Vec<[f64; 4]>, u64),
     /// The least and the greatest volume.

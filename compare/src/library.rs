@@ -61,7 +61,7 @@ pub mod c {
         );
         turning_read_end(
             state: *const [u64; 8], bar: *const [f64; 5], max_cells: usize, cells: In, cells_len: usize, rings: In,
-            rings_len: usize, n: Size, rings_count: Size, line: Size
+            rings_len: usize, n: Size, rings_count: Size, edition: *mut u32, line: Size
         );
         turning_segments(
             points: In, points_len: usize, tolerance: f64, segments: Out, segments_len: usize, count: Size
@@ -77,47 +77,55 @@ pub mod c {
     declare_with_spec! {
         turning_validate(n: Size);
         turning_bin(i: usize, za: Out, zb: Out);
-        turning_new(cells: Out, cells_len: usize);
+        turning_new(edition: u32, generation: *mut u64, cells: Out, cells_len: usize);
         turning_preview(
-            cells: In, cells_len: usize, side: u32, rn: f64, segments: In, segments_len: usize,
-            indices: Size, indices_len: usize, records: Out, records_len: usize, count: Size
+            edition: u32, generation: u64, cells: In, cells_len: usize, side: u32, rn: f64,
+            segments: In, segments_len: usize, indices: Size, indices_len: usize, records: Out,
+            records_len: usize, count: Size, list_edition: *mut u32, list_generation: *mut u64
         );
         turning_preview_polygon(
-            cells: In, cells_len: usize, side: u32, excess: f64, points: In, points_len: usize,
-            indices: Size, indices_len: usize, records: Out, records_len: usize, count: Size
+            edition: u32, generation: u64, cells: In, cells_len: usize, side: u32, excess: f64,
+            points: In, points_len: usize, indices: Size, indices_len: usize, records: Out,
+            records_len: usize, count: Size, list_edition: *mut u32, list_generation: *mut u64
         );
         turning_thread_cut(
-            cells: In, cells_len: usize, z0: f64, z1: f64, radius: f64, indices: Size, indices_len: usize,
-            records: Out, records_len: usize, count: Size
+            edition: u32, generation: u64, cells: In, cells_len: usize, z0: f64, z1: f64, radius: f64,
+            indices: Size, indices_len: usize, records: Out, records_len: usize, count: Size,
+            list_edition: *mut u32, list_generation: *mut u64
         );
         turning_thread_cut_inner(
-            cells: In, cells_len: usize, z0: f64, z1: f64, radius: f64, indices: Size, indices_len: usize,
-            records: Out, records_len: usize, count: Size
+            edition: u32, generation: u64, cells: In, cells_len: usize, z0: f64, z1: f64, radius: f64,
+            indices: Size, indices_len: usize, records: Out, records_len: usize, count: Size,
+            list_edition: *mut u32, list_generation: *mut u64
         );
         turning_drill(
-            cells: In, cells_len: usize, tip_z: f64, radius: f64, cone: f64, indices: Size,
-            indices_len: usize, records: Out, records_len: usize, count: Size
+            edition: u32, generation: u64, cells: In, cells_len: usize, tip_z: f64, radius: f64,
+            cone: f64, indices: Size, indices_len: usize, records: Out, records_len: usize,
+            count: Size, list_edition: *mut u32, list_generation: *mut u64
         );
         turning_apply(
-            cells: Out, cells_len: usize, generation: *mut u64, indices: Sizes, indices_len: usize,
-            records: In, records_len: usize, changes: usize, position: Size
+            edition: u32, generation: *mut u64, cells: Out, cells_len: usize, indices: Sizes,
+            indices_len: usize, records: In, records_len: usize, changes: usize, list_edition: u32,
+            list_generation: u64, position: Size
         );
         turning_changes_to(
-            cells: In, cells_len: usize, after: In, after_len: usize, indices: Size, indices_len: usize,
-            records: Out, records_len: usize, count: Size
+            edition: u32, generation: u64, cells: In, cells_len: usize, after: In, after_len: usize,
+            indices: Size, indices_len: usize, records: Out, records_len: usize, count: Size,
+            list_edition: *mut u32, list_generation: *mut u64
         );
         turning_remove_ring(
             rings: Out, rings_len: usize, rings_count: Size, generation: *mut u64, z0: f64, z1: f64,
             r0: f64, r1: f64, position: Size
         );
         turning_apply_move(
-            cells: Out, cells_len: usize, rings: Out, rings_len: usize, rings_count: Size,
-            generation: *mut u64, indices: Sizes, indices_len: usize, records: In, records_len: usize,
-            changes: usize, removed: In, removed_len: usize, position: Size
+            edition: u32, generation: *mut u64, cells: Out, cells_len: usize, rings: Out,
+            rings_len: usize, rings_count: Size, indices: Sizes, indices_len: usize, records: In,
+            records_len: usize, changes: usize, list_edition: u32, list_generation: u64, removed: In,
+            removed_len: usize, position: Size
         );
         turning_from_parts(
-            cells: In, cells_len: usize, given: In, given_len: usize, rings: Out, rings_len: usize,
-            rings_count: Size, position: Size
+            edition: u32, generation: *mut u64, cells: In, cells_len: usize, given: In,
+            given_len: usize, rings: Out, rings_len: usize, rings_count: Size, position: Size
         );
         turning_volume(
             cells: In, cells_len: usize, rings: In, rings_len: usize, rings_count: usize, least: Out,
@@ -130,8 +138,8 @@ pub mod c {
             cells: In, cells_len: usize, rings: In, rings_len: usize, rings_count: usize, lines: Size
         );
         turning_stock_line(
-            cells: In, cells_len: usize, rings: In, rings_len: usize, rings_count: usize, k: usize,
-            line: *mut [u8; 128], len: Size
+            edition: u32, cells: In, cells_len: usize, rings: In, rings_len: usize, rings_count: usize,
+            k: usize, line: *mut [u8; 128], len: Size
         );
     }
 }
@@ -149,27 +157,25 @@ pub fn run(call: &Call, memory: &mut Memory) -> u32 {
             Call::Bin { spec, i } => {
                 spec_call!(turning_bin, spec, *i, m[0].start(), m[1].start())
             }
-            Call::New { spec, .. } => {
-                spec_call!(turning_new, spec, m[0].start(), m[0].size())
-            }
-            Call::Preview { spec, side, rn, .. } => spec_call!(
-                turning_preview, spec,
+            Call::New { spec, stamp, .. } => spec_call!(
+                turning_new, spec, stamp.edition, m[0].start(), m[1].start(), m[1].size()
+            ),
+            Call::Preview { spec, stamp, side, rn, .. } => spec_call!(
+                turning_preview, spec, stamp.edition, stamp.generation,
                 m[0].start(), m[0].size(), *side, *rn, m[1].start(), m[1].size(),
-                m[2].start(), m[2].size(), m[3].start(), m[3].size(), m[4].start()
+                m[2].start(), m[2].size(), m[3].start(), m[3].size(), m[4].start(), m[5].start(), m[6].start()
             ),
-            Call::PreviewPolygon {
-                spec, side, excess, ..
-            } => spec_call!(
-                turning_preview_polygon, spec,
+            Call::PreviewPolygon { spec, stamp, side, excess, .. } => spec_call!(
+                turning_preview_polygon, spec, stamp.edition, stamp.generation,
                 m[0].start(), m[0].size(), *side, *excess, m[1].start(), m[1].size(),
-                m[2].start(), m[2].size(), m[3].start(), m[3].size(), m[4].start()
+                m[2].start(), m[2].size(), m[3].start(), m[3].size(), m[4].start(), m[5].start(), m[6].start()
             ),
-            Call::Cut { spec, cut, .. } => {
+            Call::Cut { spec, stamp, cut, .. } => {
                 macro_rules! cut {
                     ($name:ident, $x:expr, $y:expr, $z:expr) => {
                         spec_call!(
-                            $name, spec, m[0].start(), m[0].size(), *$x, *$y, *$z,
-                            m[1].start(), m[1].size(), m[2].start(), m[2].size(), m[3].start()
+                            $name, spec, stamp.edition, stamp.generation, m[0].start(), m[0].size(), *$x, *$y, *$z,
+                            m[1].start(), m[1].size(), m[2].start(), m[2].size(), m[3].start(), m[4].start(), m[5].start()
                         )
                     };
                 }
@@ -187,27 +193,30 @@ pub fn run(call: &Call, memory: &mut Memory) -> u32 {
                     } => cut!(turning_drill, tip_z, radius, cone),
                 }
             }
-            Call::Apply { spec, list, .. } => spec_call!(
-                turning_apply, spec, m[0].start(), m[0].size(), m[1].start(),
-                m[2].start(), m[2].size(), m[3].start(), m[3].size(), list.changes, m[4].start()
+            Call::Apply { spec, stamp, list, .. } => spec_call!(
+                turning_apply, spec, stamp.edition, m[0].start(), m[1].start(), m[1].size(),
+                m[2].start(), m[2].size(), m[3].start(), m[3].size(), list.changes,
+                list.stamp.edition, list.stamp.generation, m[4].start()
             ),
-            Call::ChangesTo { spec, .. } => spec_call!(
-                turning_changes_to, spec, m[0].start(), m[0].size(), m[1].start(), m[1].size(),
-                m[2].start(), m[2].size(), m[3].start(), m[3].size(), m[4].start()
+            Call::ChangesTo { spec, stamp, .. } => spec_call!(
+                turning_changes_to, spec, stamp.edition, stamp.generation,
+                m[0].start(), m[0].size(), m[1].start(), m[1].size(),
+                m[2].start(), m[2].size(), m[3].start(), m[3].size(), m[4].start(), m[5].start(), m[6].start()
             ),
             Call::RemoveRing { spec, ring, .. } => spec_call!(
                 turning_remove_ring, spec, m[0].start(), m[0].size(), m[1].start(), m[2].start(),
                 ring[0], ring[1], ring[2], ring[3], m[3].start()
             ),
-            Call::ApplyMove { spec, list, .. } => spec_call!(
-                turning_apply_move, spec, m[0].start(), m[0].size(),
-                m[1].start(), m[1].size(), m[2].start(), m[3].start(),
+            Call::ApplyMove { spec, stamp, list, .. } => spec_call!(
+                turning_apply_move, spec, stamp.edition, m[0].start(), m[1].start(), m[1].size(),
+                m[2].start(), m[2].size(), m[3].start(),
                 m[4].start(), m[4].size(), m[5].start(), m[5].size(), list.changes,
+                list.stamp.edition, list.stamp.generation,
                 m[6].start(), m[6].size(), m[7].start()
             ),
-            Call::FromParts { spec, .. } => spec_call!(
-                turning_from_parts, spec, m[0].start(), m[0].size(), m[1].start(), m[1].size(),
-                m[2].start(), m[2].size(), m[3].start(), m[4].start()
+            Call::FromParts { spec, stamp, .. } => spec_call!(
+                turning_from_parts, spec, stamp.edition, m[0].start(), m[1].start(), m[1].size(),
+                m[2].start(), m[2].size(), m[3].start(), m[3].size(), m[4].start(), m[5].start()
             ),
             Call::Volume { spec, store, .. } => spec_call!(
                 turning_volume, spec, m[0].start(), m[0].size(), m[1].start(), m[1].size(),

@@ -2,7 +2,7 @@
 //! corners of their rule; envelope queries at the corners where a look at a part of the points could
 //! miss a segment; and profiles at the corners of theirs. Those that say where they fail are in
 //! `positions`.
-use crate::call::{Answer, Call, List, Outcome, Reason, Room, Simple, Spec, Store};
+use crate::call::{Answer, Call, List, Outcome, Reason, Room, Simple, Spec, Stamp, Store};
 use crate::oracle::{
     ARGUMENT, CELLS, CHORDS, COUNT, ENVELOPE, GENERATION, MILLION, MOST_CELLS,
     MOST_ENVELOPE_POINTS, MOST_POINTS, MOST_PROFILE_POINTS, MOST_RINGS, MOST_SEGMENTS, NO_BIN,
@@ -14,6 +14,8 @@ use crate::run::number;
 type Ring = [f64; 4];
 
 const ALL: Room = room(MOST_CELLS);
+/// What stocks and their lists carry where it is no limit.
+const STAMP: Stamp = stamp(7);
 const CELL: [f64; 4] = [10., 10., 0., 0.];
 const TURNED: [f64; 4] = [4., 5., 0., 0.];
 
@@ -21,6 +23,13 @@ const fn room(changes: usize) -> Room {
     Room {
         indices: changes,
         records: 8 * changes,
+    }
+}
+
+const fn stamp(generation: u64) -> Stamp {
+    Stamp {
+        edition: 2,
+        generation,
     }
 }
 
@@ -83,7 +92,12 @@ fn specs() -> Vec<(Call, u32)> {
         (most, 4 * MOST_CELLS + 4, CELLS),
         (over, 4 * MOST_CELLS + 4, COUNT),
     ] {
-        calls.push((Call::New { spec, cells_len }, number));
+        let call = Call::New {
+            spec,
+            stamp: STAMP,
+            cells_len,
+        };
+        calls.push((call, number));
     }
     calls
 }
@@ -135,6 +149,7 @@ fn listed() -> Vec<(Call, u32)> {
 fn nose(spec: Spec, cells: &[f64], side: u32, rn: f64, segments: Vec<f64>, room: Room) -> Call {
     Call::Preview {
         spec,
+        stamp: STAMP,
         cells: cells.to_vec(),
         side,
         rn,
@@ -146,6 +161,7 @@ fn nose(spec: Spec, cells: &[f64], side: u32, rn: f64, segments: Vec<f64>, room:
 fn polygon(spec: Spec, cells: Vec<f64>, side: u32, excess: f64, points: Vec<f64>) -> Call {
     Call::PreviewPolygon {
         spec,
+        stamp: STAMP,
         cells,
         side,
         excess,
@@ -165,6 +181,7 @@ fn single() -> Vec<(Call, u32)> {
             let (spec, cells) = (spec, cells.clone());
             let call = Call::Cut {
                 spec,
+                stamp: STAMP,
                 cells,
                 cut,
                 room,
@@ -188,6 +205,7 @@ fn single() -> Vec<(Call, u32)> {
         calls.push((
             Call::ChangesTo {
                 spec,
+                stamp: STAMP,
                 cells,
                 after,
                 room,
@@ -198,13 +216,92 @@ fn single() -> Vec<(Call, u32)> {
     calls
 }
 
-/// One change, of cell i.
-fn change(i: usize) -> List {
+/// One change, of cell i, for the stock of the stamp.
+fn change(i: usize, stamp: Stamp) -> List {
     List {
         indices: vec![i],
         records: [CELL, TURNED].as_flattened().to_vec(),
         changes: 1,
+        stamp,
     }
+}
+
+/// Stocks of the first and the last stamps: previews and differences carry them, and there is no last
+/// generation for them; a new stock and a rebuilt one are of their edition at generation 0.
+fn stamps() -> Vec<(Call, u32)> {
+    let (spec, room) = (bar(2), room(2));
+    let mut calls = vec![];
+    for (edition, generation) in [
+        (0, 0),
+        (0, u64::MAX),
+        (u32::MAX, 0),
+        (u32::MAX, u64::MAX),
+        (1 << 31, 1 << 63),
+        (1, u64::MAX - 1),
+    ] {
+        let stamp = Stamp {
+            edition,
+            generation,
+        };
+        let cells = || whole(2);
+        let mut at = |call: Call| calls.push((call, 0));
+        at(Call::New {
+            spec,
+            stamp,
+            cells_len: 8,
+        });
+        at(Call::FromParts {
+            spec,
+            stamp,
+            cells: cells(),
+            given: vec![0., 1., 2., 3.],
+            rings_len: 4,
+        });
+        at(Call::Preview {
+            spec,
+            stamp,
+            cells: cells(),
+            side: 0,
+            rn: 1.,
+            segments: vec![9., 0., 9., 1., 0.],
+            room,
+        });
+        at(Call::PreviewPolygon {
+            spec,
+            stamp,
+            cells: cells(),
+            side: 0,
+            excess: 0.,
+            points: vec![0., 4., 1., 4.],
+            room,
+        });
+        let (z0, z1, radius) = (0., 1., 5.);
+        for cut in [
+            Simple::ThreadCut { z0, z1, radius },
+            Simple::ThreadCutInner { z0, z1, radius },
+            Simple::Drill {
+                tip_z: 1.,
+                radius,
+                cone: 0.,
+            },
+        ] {
+            at(Call::Cut {
+                spec,
+                stamp,
+                cells: cells(),
+                cut,
+                room,
+            });
+        }
+        at(Call::ChangesTo {
+            spec,
+            stamp,
+            cells: cells(),
+            after: [CELL, TURNED].as_flattened().to_vec(),
+            room,
+        });
+    }
+    calls
 }
 
 fn commits() -> Vec<(Call, u32)> {
@@ -216,11 +313,12 @@ fn commits() -> Vec<(Call, u32)> {
         (last, u64::MAX, GENERATION),
     ] {
         let (spec, cells) = (bar(MOST_CELLS), whole(MOST_CELLS));
-        let list = change(i);
+        let stamp = stamp(generation);
+        let list = change(i, stamp);
         let call = Call::Apply {
             spec,
+            stamp,
             cells,
-            generation,
             list,
         };
         calls.push((call, number));
@@ -277,13 +375,14 @@ fn rings() -> Vec<(Call, u32)> {
         (row(7, 7), u64::MAX, OUTSIDE, 0),
     ] {
         let spec = bar(512);
+        // The commit of a move raises the generation too.
+        let stamp = stamp(generation.saturating_sub(1));
         let call = Call::ApplyMove {
             spec,
+            stamp,
             cells: whole(512),
             store: store.clone(),
-            // Its commit raises the generation too.
-            generation: generation.saturating_sub(1),
-            list: change(511),
+            list: change(511, stamp),
             removed: ring.to_vec(),
         };
         calls.push((call, number));
@@ -310,6 +409,7 @@ fn parts() -> Vec<(Call, u32)> {
         let (spec, cells) = (bar(MOST_CELLS), whole(MOST_CELLS));
         let call = Call::FromParts {
             spec,
+            stamp: STAMP,
             cells,
             given: row(given, given).rings,
             rings_len: 4 * room,
@@ -969,6 +1069,7 @@ pub fn calls() -> Vec<(Call, Option<Reason>)> {
         specs(),
         listed(),
         single(),
+        stamps(),
         commits(),
         rings(),
         parts(),
@@ -977,7 +1078,8 @@ pub fn calls() -> Vec<(Call, Option<Reason>)> {
         arcs(),
     ];
     let numbered = numbered.concat().into_iter();
-    let placed = [positions::commits(), positions::rings()].concat();
+    let placed = [positions::commits(), positions::rings(), positions::stale()];
+    let placed = placed.concat();
     let placed = placed.into_iter().map(|(_, call, reason)| (call, reason));
     let refused = |number: u32| (number > 0).then(|| Reason::only(number));
     numbered

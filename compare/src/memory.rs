@@ -1,5 +1,5 @@
 //! All that is lent to a call, as words of 64 bits.
-use crate::call::{Answer, Call, Change, List, Outcome, Room, Store};
+use crate::call::{Answer, Call, Change, List, Outcome, Room, Stamp, Store};
 
 /// Words before and after each buffer that no call may touch.
 const GUARD: usize = 3;
@@ -105,12 +105,18 @@ fn room(lent: &mut Vec<Lent>, room: &Room) {
     lent.push(Lent::blank("indices", room.indices));
     lent.push(Lent::blank("records", room.records));
     lent.push(Lent::blank("count", 1));
+    lent.push(Lent::blank("list_edition", 1));
+    lent.push(Lent::blank("list_generation", 1));
 }
 
-fn store(lent: &mut Vec<Lent>, store: &Store, generation: u64) {
+fn store(lent: &mut Vec<Lent>, store: &Store) {
     lent.push(Lent::holding("rings", &store.rings));
     lent.push(word("rings_count", store.count as u64));
-    lent.push(word("generation", generation));
+}
+
+/// Where a stock's generation is raised or set.
+fn generation(value: u64) -> Lent {
+    word("generation", value)
 }
 
 fn position() -> Lent {
@@ -126,7 +132,12 @@ impl Memory {
             Call::Length { .. } => m.push(Lent::blank("length", 1)),
             Call::Validate { .. } => m.push(Lent::blank("n", 1)),
             Call::Bin { .. } => m.extend([Lent::blank("za", 1), Lent::blank("zb", 1)]),
-            Call::New { cells_len, .. } => m.push(Lent::blank("cells", *cells_len)),
+            Call::New {
+                stamp, cells_len, ..
+            } => {
+                m.push(generation(stamp.generation));
+                m.push(Lent::blank("cells", *cells_len));
+            }
             Call::Preview {
                 cells,
                 segments,
@@ -152,13 +163,10 @@ impl Memory {
                 room(&mut m, r);
             }
             Call::Apply {
-                cells,
-                generation,
-                list,
-                ..
+                stamp, cells, list, ..
             } => {
+                m.push(generation(stamp.generation));
                 m.push(Lent::holding("cells", cells));
-                m.push(word("generation", *generation));
                 m.push(indices(list));
                 m.push(Lent::holding("records", &list.records));
                 m.push(position());
@@ -175,33 +183,37 @@ impl Memory {
             }
             Call::RemoveRing {
                 store: s,
-                generation,
+                generation: g,
                 ..
             } => {
-                store(&mut m, s, *generation);
+                store(&mut m, s);
+                m.push(generation(*g));
                 m.push(position());
             }
             Call::ApplyMove {
+                stamp,
                 cells,
                 store: s,
-                generation,
                 list,
                 removed,
                 ..
             } => {
+                m.push(generation(stamp.generation));
                 m.push(Lent::holding("cells", cells));
-                store(&mut m, s, *generation);
+                store(&mut m, s);
                 m.push(indices(list));
                 m.push(Lent::holding("records", &list.records));
                 m.push(Lent::holding("removed", removed));
                 m.push(position());
             }
             Call::FromParts {
+                stamp,
                 cells,
                 given,
                 rings_len,
                 ..
             } => {
+                m.push(generation(stamp.generation));
                 m.push(Lent::holding("cells", cells));
                 m.push(Lent::holding("given", given));
                 m.push(Lent::blank("rings", *rings_len));
@@ -287,7 +299,7 @@ impl Memory {
         self.named(name).unwrap().put_word(0, value);
     }
 
-    fn put_changes(&mut self, changes: &[Change]) {
+    fn put_changes(&mut self, changes: &[Change], stamp: Stamp) {
         for (k, c) in changes.iter().enumerate() {
             let indices = self.named("indices").unwrap();
             indices.put_word(k, c.index as u64);
@@ -296,6 +308,9 @@ impl Memory {
             records.put(8 * k + 4, &c.after);
         }
         self.put_word("count", changes.len() as u64);
+        let edition = self.named("list_edition").unwrap();
+        edition.put_half(0, stamp.edition);
+        self.put_word("list_generation", stamp.generation);
     }
 
     /// Writes what the outcome writes: a refusal its position, where it has one, and an answer its values.
@@ -317,8 +332,7 @@ impl Memory {
                 self.put("za", &[*za]);
                 self.put("zb", &[*zb]);
             }
-            Answer::Cells(cells) => self.put("cells", cells.as_flattened()),
-            Answer::Changes(changes) => self.put_changes(changes),
+            Answer::Changes(changes, stamp) => self.put_changes(changes, *stamp),
             Answer::Stock(cells, rings, generation) => {
                 if self.named("cells").is_some() {
                     self.put("cells", cells.as_flattened());

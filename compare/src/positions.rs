@@ -1,9 +1,9 @@
-//! Commits, moves, rings and parts at the corners of Req 04 of 02, by name: each with its number and its position, or none where it
-//! is accepted.
-use crate::call::{Call, Change, List, Reason, Spec, Store};
+//! Commits, moves, rings and parts at the corners of Req 04 and Req 08 of 02, by name: each with its number and its position, or
+//! none where it is accepted.
+use crate::call::{Call, Change, List, Reason, Spec, Stamp, Store};
 use crate::oracle::{
-    ADDS, AFTER, CELLS, GENERATION, HOLDS_OTHER, MOST_CELLS, NO_BIN, PIECES, RING, RISING, ROOM,
-    STORED,
+    ADDS, AFTER, CELLS, COUNT, GENERATION, HOLDS_OTHER, MOST_CELLS, NO_BIN, PIECES, RING, RISING,
+    ROOM, SPEC, STALE, STORED,
 };
 use crate::sequence::list_of;
 
@@ -12,6 +12,16 @@ pub type Case = (&'static str, Call, Option<Reason>);
 
 type Cell = [f64; 4];
 type Ring = [f64; 4];
+
+/// What the stocks here carry, and their lists where no other is named.
+const STAMP: Stamp = stamp(0xC0DE_0002, 41);
+
+const fn stamp(edition: u32, generation: u64) -> Stamp {
+    Stamp {
+        edition,
+        generation,
+    }
+}
 
 /// What every bin holds: each bound can move by one ulp, up or down, and the cell fits.
 const HELD: Cell = [4., 8., 1., 2.];
@@ -66,10 +76,15 @@ fn with(cell: Cell, bound: usize, by: fn(f64) -> f64) -> Cell {
 fn commit(n: usize, list: List) -> Call {
     Call::Apply {
         spec: bar(n),
+        stamp: STAMP,
         cells: HELD.repeat(n),
-        generation: 0,
         list,
     }
+}
+
+/// A list for the stocks here.
+fn listed(changes: &[Change]) -> List {
+    list_of(changes, STAMP)
 }
 
 /// Changes on a bar of eight bins, with why they are refused.
@@ -125,15 +140,15 @@ fn lists() -> Vec<(&'static str, Vec<Change>, Option<Reason>)> {
 /// Cells with 0 in them, and a change whose before has -0.0 there.
 fn minus_zero() -> Case {
     let cell = [4., 8., 0., 0.];
-    let list = list_of(&[Change {
+    let list = listed(&[Change {
         index: 1,
         before: [4., 8., -0., -0.],
         after: [4., 7., 0., 1.],
     }]);
     let call = Call::Apply {
         spec: bar(2),
+        stamp: STAMP,
         cells: cell.repeat(2),
-        generation: 0,
         list,
     };
     ("before has -0.0", call, None)
@@ -144,7 +159,7 @@ fn last_of_many(n: usize) -> Vec<Case> {
     let list = |last: Change| {
         let mut changes: Vec<Change> = (0..n - 1).map(good).collect();
         changes.push(last);
-        commit(n, list_of(&changes))
+        commit(n, listed(&changes))
     };
     let at = |number| Some(Reason::at(number, n - 1));
     let last = n - 1;
@@ -164,20 +179,21 @@ fn last_of_many(n: usize) -> Vec<Case> {
 
 /// What comes before a position's number, and after it.
 fn around() -> Vec<Case> {
-    let faulty = list_of(&[good(3), good(2)]);
-    let late = list_of(&[good(0), from(2, LEFT)]);
+    let faulty = listed(&[good(3), good(2)]);
+    let late = listed(&[good(0), from(2, LEFT)]);
     let only = |number| Some(Reason::only(number));
     let call = |cells: Vec<f64>, generation: u64, list: &List, changes: usize| Call::Apply {
         spec: bar(8),
+        stamp: stamp(2, generation),
         cells,
-        generation,
         list: List {
             changes,
+            stamp: stamp(2, generation),
             ..list.clone()
         },
     };
     let held = || HELD.repeat(8);
-    let list = list_of(&[good(1)]);
+    let list = listed(&[good(1)]);
     vec![
         (
             "3 before 7",
@@ -205,9 +221,9 @@ fn around() -> Vec<Case> {
 
 /// Every commit that says where it fails.
 pub fn commits() -> Vec<Case> {
-    let listed = lists().into_iter();
-    let mut cases: Vec<Case> = listed
-        .map(|(name, changes, reason)| (name, commit(8, list_of(&changes)), reason))
+    let lists = lists().into_iter();
+    let mut cases: Vec<Case> = lists
+        .map(|(name, changes, reason)| (name, commit(8, listed(&changes)), reason))
         .collect();
     cases.push(minus_zero());
     for n in [256, MOST_CELLS] {
@@ -273,10 +289,10 @@ fn store(rings: &[Ring], room: usize) -> Store {
 fn moved(store: Store, changes: &[Change], removed: Vec<f64>) -> Call {
     Call::ApplyMove {
         spec: bar(8),
+        stamp: STAMP,
         cells: HELD.repeat(8),
         store,
-        generation: 0,
-        list: list_of(changes),
+        list: listed(changes),
         removed,
     }
 }
@@ -293,6 +309,7 @@ fn single(store: Store, ring: Ring) -> Call {
 fn parts(cells: Vec<f64>, given: Vec<f64>, room: usize) -> Call {
     Call::FromParts {
         spec: bar(8),
+        stamp: STAMP,
         cells,
         given,
         rings_len: 4 * room,
@@ -364,4 +381,170 @@ fn alone() -> Vec<Case> {
 /// Every move, ring and rebuild that says where it fails.
 pub fn rings() -> Vec<Case> {
     [in_lists(), alone()].concat()
+}
+
+/// Stamps of a stock and of a list, by name; only equal ones are accepted.
+const STAMPS: &[(&str, Stamp, Stamp)] = &[
+    ("the least stamp", stamp(0, 0), stamp(0, 0)),
+    ("one commit later", stamp(2, 7), stamp(2, 6)),
+    ("a list of a later stock", stamp(2, 6), stamp(2, 7)),
+    ("the edition before", stamp(3, 7), stamp(2, 7)),
+    ("the edition after", stamp(2, 7), stamp(3, 7)),
+    ("both others", stamp(3, 8), stamp(2, 7)),
+    ("the two exchanged", stamp(2, 7), stamp(7, 2)),
+    ("the same sum", stamp(2, 7), stamp(3, 6)),
+    ("the last edition", stamp(u32::MAX, 0), stamp(u32::MAX, 0)),
+    (
+        "the first for the last edition",
+        stamp(u32::MAX, 0),
+        stamp(0, 0),
+    ),
+    (
+        "the last for the first edition",
+        stamp(0, 0),
+        stamp(u32::MAX, 0),
+    ),
+    ("the last bit of an edition", stamp(0, 5), stamp(1 << 31, 5)),
+    (
+        "the last bit of a generation",
+        stamp(1, 5),
+        stamp(1, 5 | 1 << 63),
+    ),
+    (
+        "a generation's upper half",
+        stamp(1, 5 | 1 << 32),
+        stamp(1, 5),
+    ),
+    (
+        "the last but one generation",
+        stamp(9, u64::MAX - 1),
+        stamp(9, u64::MAX - 1),
+    ),
+    (
+        "the last generation for the last but one",
+        stamp(9, u64::MAX - 1),
+        stamp(9, u64::MAX),
+    ),
+    (
+        "the first generation for the last but one",
+        stamp(9, u64::MAX - 1),
+        stamp(9, 0),
+    ),
+];
+
+/// A list that is for another stock, and the numbers that come before and after it: in a commit 1, 2, 3, 19, 6, 7,
+/// 8/21/22/23, 12, in a move 1, 2, 3, 6, 4, 19, 10, 7, 8/21/22/23, 12, 11.
+pub fn stale() -> Vec<Case> {
+    let stale = Some(Reason::only(STALE));
+    let mut cases: Vec<Case> = vec![];
+    for (name, stock, list) in STAMPS {
+        let reason = if stock == list { None } else { stale };
+        for changes in [vec![], vec![good(1)]] {
+            let mut both = [
+                commit(8, listed(&changes)),
+                moved(store(&[], 8), &changes, vec![]),
+            ];
+            for call in &mut both {
+                *parts_of(call).stamp = *stock;
+                parts_of(call).list.stamp = *list;
+            }
+            cases.extend(both.map(|call| (*name, call, reason)));
+        }
+    }
+    cases.extend(around_stale());
+    cases
+}
+
+/// What a commit and a move are made of.
+struct Whole<'a> {
+    spec: &'a mut Spec,
+    stamp: &'a mut Stamp,
+    cells: &'a mut Vec<f64>,
+    list: &'a mut List,
+}
+
+#[rustfmt::skip]
+fn parts_of(call: &mut Call) -> Whole<'_> {
+    match call {
+        Call::Apply { spec, stamp, cells, list }
+        | Call::ApplyMove { spec, stamp, cells, list, .. } => Whole { spec, stamp, cells, list },
+        _ => unreachable!("{} commits nothing", call.name()),
+    }
+}
+
+/// Another fault beside a stale list: which of the two is told.
+fn around_stale() -> Vec<Case> {
+    let other = Stamp {
+        generation: STAMP.generation - 1,
+        ..STAMP
+    };
+    let only = |number| Some(Reason::only(number));
+    let stored = || store(&[[6., 7., 0., 1.]], 8);
+    let good_move = || moved(stored(), &[good(0)], RING_A.to_vec());
+    let good_commit = || commit(8, listed(&[good(0)]));
+    let mut cases: Vec<Case> = vec![];
+    let mut at = |name, mut call: Call, bend: &dyn Fn(&mut Whole), number| {
+        let mut whole = parts_of(&mut call);
+        whole.list.stamp = other;
+        bend(&mut whole);
+        cases.push((name, call, only(number)));
+    };
+    for call in [good_commit(), good_move()] {
+        let again = || call.clone();
+        at("1 before 19", again(), &|w| w.spec.cell = 0., SPEC);
+        at("2 before 19", again(), &|w| w.spec.max_cells = 7, COUNT);
+        at(
+            "3 before 19: a length",
+            again(),
+            &|w| w.cells.truncate(31),
+            CELLS,
+        );
+        at(
+            "3 before 19: a cell",
+            again(),
+            &|w| w.cells[5] = f64::NAN,
+            CELLS,
+        );
+    }
+    let (most, none): (&dyn Fn(&mut Whole), &dyn Fn(&mut Whole)) =
+        (&|w| w.list.changes = 2, &|_| {});
+    at("19 before 6 in a commit", good_commit(), most, STALE);
+    at("6 before 19 in a move", good_move(), most, ROOM);
+    let bad = || moved(store(&[NAN], 8), &[good(0)], RING_A.to_vec());
+    at("6 before 4 before 19", bad(), most, ROOM);
+    at("4 before 19", bad(), none, STORED);
+    for removed in [NAN.to_vec(), FLAT.to_vec(), RING_A[..3].to_vec()] {
+        at(
+            "4 before 19 before 10",
+            moved(store(&[FLAT], 8), &[], removed.clone()),
+            none,
+            STORED,
+        );
+        at(
+            "19 before 10",
+            moved(stored(), &[good(0)], removed),
+            none,
+            STALE,
+        );
+    }
+    for (changes, _) in &faulty() {
+        at(
+            "19 before a faulty change",
+            commit(8, listed(changes)),
+            none,
+            STALE,
+        );
+        at(
+            "19 before a faulty change",
+            moved(stored(), changes, vec![]),
+            none,
+            STALE,
+        );
+    }
+    let last: &dyn Fn(&mut Whole) = &|w| w.stamp.generation = u64::MAX;
+    at("19 before 12", good_commit(), last, STALE);
+    at("19 before 12", good_move(), last, STALE);
+    let full = moved(store(&[RING_B], 1), &[], RING_A.to_vec());
+    at("19 before 11", full, none, STALE);
+    cases
 }

@@ -4,31 +4,32 @@
 //! by what it wrote, and where it is a refusal that has a position (Req 04 of 02) by that position:
 //! `= NUMBER [POSITION]`. A refusal without one ends with its number, and `*position` is then as it was;
 //! so it is where a call is accepted. Fields are parted by single spaces. Every f64 is 16 hex digits in capitals,
-//! everything else is decimal, and the replay tells the two apart by that length. `N*M` says M fields,
+//! everything else is decimal and never has 16 digits: the replay tells the two apart by that length. `N*M` says M fields,
 //! each the one N places before it.
 //!
 //! ```text
 //! SPEC     z_min z_max outer bore cell max_cells
+//! STAMP    edition generation; of new and from_parts what the place for the generation holds before
 //! NUMBERS  how many, then each
 //! ROOM     indices_len records_len
-//! LIST     indices_len records_len changes, then for each change its index and 8 numbers
+//! LIST     indices_len records_len changes STAMP, then for each change its index and 8 numbers
 //! STORE    rings_len rings_count, then 4 numbers for each ring stored
-//! CHANGES  how many, then for each its index and 8 numbers
+//! CHANGES  how many, STAMP, then for each its index and 8 numbers
 //! RINGS    how many, then 4 numbers for each
 //! CHORDS   how many, then 5 numbers for each
 //!
 //! root x = 0 root                              length x y = 0 length
 //! validate SPEC = 0 n                          bin SPEC i = 0 za zb
-//! new SPEC cells_len = 0 NUMBERS
-//! preview SPEC NUMBERS side rn NUMBERS ROOM = 0 CHANGES
-//! preview_polygon SPEC NUMBERS side excess NUMBERS ROOM = 0 CHANGES
-//! thread_cut SPEC NUMBERS z0 z1 radius ROOM = 0 CHANGES       (thread_cut_inner too)
-//! drill SPEC NUMBERS tip_z radius cone ROOM = 0 CHANGES
-//! apply SPEC NUMBERS generation LIST = 0 generation NUMBERS
-//! changes_to SPEC NUMBERS NUMBERS ROOM = 0 CHANGES
+//! new SPEC STAMP cells_len = 0 generation NUMBERS
+//! preview SPEC STAMP NUMBERS side rn NUMBERS ROOM = 0 CHANGES
+//! preview_polygon SPEC STAMP NUMBERS side excess NUMBERS ROOM = 0 CHANGES
+//! thread_cut SPEC STAMP NUMBERS z0 z1 radius ROOM = 0 CHANGES (thread_cut_inner too)
+//! drill SPEC STAMP NUMBERS tip_z radius cone ROOM = 0 CHANGES
+//! apply SPEC STAMP NUMBERS LIST = 0 generation NUMBERS
+//! changes_to SPEC STAMP NUMBERS NUMBERS ROOM = 0 CHANGES
 //! remove_ring SPEC STORE generation z0 z1 r0 r1 = 0 generation RINGS
-//! apply_move SPEC NUMBERS STORE generation LIST NUMBERS = 0 generation NUMBERS RINGS
-//! from_parts SPEC NUMBERS NUMBERS rings_len = 0 RINGS
+//! apply_move SPEC STAMP NUMBERS STORE LIST NUMBERS = 0 generation NUMBERS RINGS
+//! from_parts SPEC STAMP NUMBERS NUMBERS rings_len = 0 generation RINGS
 //! volume SPEC NUMBERS STORE = 0 least greatest
 //! envelope_at SPEC NUMBERS z = 0 found [bore_lower outer_upper]
 //! envelope_order NUMBERS = 0 order
@@ -42,7 +43,7 @@
 //!
 //! Of a list or store whose count is beyond what is lent, no change and no ring is given. What is
 //! lent beyond the count is the reader's to fill.
-use crate::call::{Answer, Call, Change, List, Outcome, Room, Simple, Spec, Store};
+use crate::call::{Answer, Call, Change, List, Outcome, Room, Simple, Spec, Stamp, Store};
 use crate::generate::{self, Rng};
 use crate::run::number;
 use crate::{limits, oracle};
@@ -63,15 +64,21 @@ const PERIOD: usize = 32;
 const WORTH: usize = 8;
 
 #[derive(Default)]
-struct Line(Vec<String>);
+struct Line {
+    fields: Vec<String>,
+    /// A decimal of 16 digits: the replay would read it as a number's bits.
+    misread: bool,
+}
 
 impl Line {
     fn field(&mut self, text: String) -> &mut Self {
-        self.0.push(text);
+        self.fields.push(text);
         self
     }
     fn size(&mut self, size: impl std::fmt::Display) -> &mut Self {
-        self.field(size.to_string())
+        let text = size.to_string();
+        self.misread |= text.len() == 16;
+        self.field(text)
     }
     fn number(&mut self, x: f64) -> &mut Self {
         self.field(format!("{:016X}", x.to_bits()))
@@ -89,13 +96,17 @@ impl Line {
         self.each(&[s.z_min, s.z_max, s.outer, s.bore, s.cell])
             .size(s.max_cells)
     }
+    fn stamp(&mut self, stamp: &Stamp) -> &mut Self {
+        self.size(stamp.edition).size(stamp.generation)
+    }
     fn room(&mut self, room: &Room) -> &mut Self {
         self.size(room.indices).size(room.records)
     }
     fn list(&mut self, list: &List) -> &mut Self {
         self.size(list.indices.len())
             .size(list.records.len())
-            .size(list.changes);
+            .size(list.changes)
+            .stamp(&list.stamp);
         let (records, _) = list.records.as_chunks::<8>();
         if list.changes <= list.indices.len().min(records.len()) {
             for (index, record) in list.indices.iter().zip(records).take(list.changes) {
@@ -111,8 +122,8 @@ impl Line {
         }
         self
     }
-    fn changes(&mut self, changes: &[Change]) -> &mut Self {
-        self.size(changes.len());
+    fn changes(&mut self, changes: &[Change], stamp: &Stamp) -> &mut Self {
+        self.size(changes.len()).stamp(stamp);
         for c in changes {
             self.size(c.index).each(&c.before).each(&c.after);
         }
@@ -127,7 +138,7 @@ impl Line {
         let Some(first) = i.checked_sub(back) else {
             return 0;
         };
-        let pairs = self.0[first..].iter().zip(&self.0[i..]);
+        let pairs = self.fields[first..].iter().zip(&self.fields[i..]);
         pairs.take_while(|(a, b)| a == b).count()
     }
 
@@ -135,7 +146,7 @@ impl Line {
     fn short(&self) -> String {
         let mut fields = vec![];
         let mut i = 0;
-        while i < self.0.len() {
+        while i < self.fields.len() {
             let repeats = (1..=PERIOD).map(|back| (self.again(i, back), back));
             match repeats.max() {
                 Some((count, back)) if count >= WORTH => {
@@ -143,7 +154,7 @@ impl Line {
                     i += count;
                 }
                 _ => {
-                    fields.push(self.0[i].clone());
+                    fields.push(self.fields[i].clone());
                     i += 1;
                 }
             }
@@ -158,31 +169,38 @@ fn inputs(line: &mut Line, call: &Call) {
         Call::Length { x, y } => line.number(*x).number(*y),
         Call::Validate { spec } => line.spec(spec),
         Call::Bin { spec, i } => line.spec(spec).size(i),
-        Call::New { spec, cells_len } => line.spec(spec).size(cells_len),
+        Call::New {
+            spec,
+            stamp,
+            cells_len,
+        } => line.spec(spec).stamp(stamp).size(cells_len),
         Call::Preview {
             spec,
+            stamp,
             cells,
             side,
             rn,
             segments,
             room,
-        } => (line.spec(spec).numbers(cells).size(side))
+        } => (line.spec(spec).stamp(stamp).numbers(cells).size(side))
             .number(*rn)
             .numbers(segments)
             .room(room),
         Call::PreviewPolygon {
             spec,
+            stamp,
             cells,
             side,
             excess,
             points,
             room,
-        } => (line.spec(spec).numbers(cells).size(side))
+        } => (line.spec(spec).stamp(stamp).numbers(cells).size(side))
             .number(*excess)
             .numbers(points)
             .room(room),
         Call::Cut {
             spec,
+            stamp,
             cells,
             cut,
             room,
@@ -196,20 +214,25 @@ fn inputs(line: &mut Line, call: &Call) {
                     cone,
                 } => [tip_z, radius, cone],
             };
-            line.spec(spec).numbers(cells).each(&numbers).room(room)
+            (line.spec(spec).stamp(stamp).numbers(cells))
+                .each(&numbers)
+                .room(room)
         }
         Call::Apply {
             spec,
+            stamp,
             cells,
-            generation,
             list,
-        } => line.spec(spec).numbers(cells).size(generation).list(list),
+        } => line.spec(spec).stamp(stamp).numbers(cells).list(list),
         Call::ChangesTo {
             spec,
+            stamp,
             cells,
             after,
             room,
-        } => line.spec(spec).numbers(cells).numbers(after).room(room),
+        } => (line.spec(spec).stamp(stamp).numbers(cells))
+            .numbers(after)
+            .room(room),
         Call::RemoveRing {
             spec,
             store,
@@ -218,21 +241,24 @@ fn inputs(line: &mut Line, call: &Call) {
         } => line.spec(spec).store(store).size(generation).each(ring),
         Call::ApplyMove {
             spec,
+            stamp,
             cells,
             store,
-            generation,
             list,
             removed,
-        } => (line.spec(spec).numbers(cells).store(store))
-            .size(generation)
+        } => (line.spec(spec).stamp(stamp).numbers(cells))
+            .store(store)
             .list(list)
             .numbers(removed),
         Call::FromParts {
             spec,
+            stamp,
             cells,
             given,
             rings_len,
-        } => (line.spec(spec).numbers(cells).numbers(given)).size(rings_len),
+        } => (line.spec(spec).stamp(stamp).numbers(cells))
+            .numbers(given)
+            .size(rings_len),
         Call::Volume { spec, cells, store } => line.spec(spec).numbers(cells).store(store),
         Call::EnvelopeAt { spec, cells, z } => line.spec(spec).numbers(cells).number(*z),
         Call::EnvelopeOrder { points } => line.numbers(points),
@@ -267,16 +293,15 @@ fn written(line: &mut Line, call: &Call, answer: &Answer) {
         Answer::Number(x) => line.number(*x),
         Answer::Bins(n) => line.size(n),
         Answer::Range(za, zb) => line.number(*za).number(*zb),
-        Answer::Cells(cells) => line.numbers(cells.as_flattened()),
-        Answer::Changes(changes) => line.changes(changes),
-        Answer::Stock(cells, rings, generation) => match call {
-            Call::Apply { .. } => line.size(generation).numbers(cells.as_flattened()),
-            Call::RemoveRing { .. } => line.size(generation).rings(rings),
-            Call::ApplyMove { .. } => (line.size(generation))
-                .numbers(cells.as_flattened())
-                .rings(rings),
-            _ => line.rings(rings),
-        },
+        Answer::Changes(changes, stamp) => line.changes(changes, stamp),
+        Answer::Stock(cells, rings, generation) => {
+            line.size(generation);
+            match call {
+                Call::New { .. } | Call::Apply { .. } => line.numbers(cells.as_flattened()),
+                Call::ApplyMove { .. } => line.numbers(cells.as_flattened()).rings(rings),
+                _ => line.rings(rings),
+            }
+        }
         Answer::Volume(least, greatest) => line.number(*least).number(*greatest),
         Answer::Found(None) => line.size(0),
         Answer::Found(Some(values)) => line.size(1).each(values),
@@ -332,7 +357,7 @@ pub fn line(call: &Call, outcome: &Outcome) -> String {
 /// The line, where the replay has room for it and can lend what the call is lent.
 fn replayed(call: &Call, outcome: &Outcome, longest: usize) -> Option<String> {
     let fields = fields(call, outcome);
-    if !held(call) || fields.0.len() > FIELDS {
+    if !held(call) || fields.misread || fields.fields.len() > FIELDS {
         return None;
     }
     Some(fields.short()).filter(|text| text.len() < longest)

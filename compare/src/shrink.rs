@@ -1,5 +1,5 @@
 //! Makes a call or a sequence smaller as long as it still shows a difference.
-use crate::call::{Call, List, Simple, Spec, Store};
+use crate::call::{Call, List, Simple, Spec, Stamp, Store};
 use crate::oracle::MOST_CELLS;
 
 /// A change that makes it smaller; false where there is nothing to change.
@@ -50,6 +50,8 @@ pub struct Parts<'a> {
     pub items: Vec<Items<'a>>,
     /// Single numbers.
     pub numbers: Vec<&'a mut f64>,
+    /// The stock's stamp, and its list's.
+    pub stamps: Vec<&'a mut Stamp>,
     pub generation: Option<&'a mut u64>,
 }
 
@@ -58,7 +60,14 @@ pub enum Items<'a> {
     /// So many numbers each.
     Flat(&'a mut Vec<f64>, usize),
     Store(&'a mut Store),
-    Changes(&'a mut List),
+    Changes(Changes<'a>),
+}
+
+/// A change list without its stamp.
+pub struct Changes<'a> {
+    indices: &'a mut Vec<usize>,
+    records: &'a mut Vec<f64>,
+    changes: &'a mut usize,
 }
 
 impl<'a> Items<'a> {
@@ -93,7 +102,8 @@ impl<'a> Items<'a> {
             Items::Changes(list) => {
                 list.indices.drain(start..end);
                 list.records.drain(8 * start..8 * end);
-                list.changes -= list.changes.min(end) - list.changes.min(start);
+                let changes = &mut *list.changes;
+                *changes -= (*changes).min(end) - (*changes).min(start);
             }
         }
         true
@@ -103,7 +113,7 @@ impl<'a> Items<'a> {
         match self {
             Items::Flat(list, _) => list,
             Items::Store(store) => &mut store.rings,
-            Items::Changes(list) => &mut list.records,
+            Items::Changes(list) => list.records,
         }
     }
 }
@@ -141,6 +151,11 @@ pub fn ways_of_parts<T: Shrink>(whole: &T) -> Vec<Way<T>> {
         let generation = t.parts().generation;
         generation.is_some_and(|g| std::mem::take(g) > 0)
     }));
+    for way in 0..4 {
+        ways.push(Box::new(move |t: &mut T| {
+            lower_stamps(t.parts().stamps, way)
+        }));
+    }
     for k in 0..all_numbers(parts).len() {
         for way in 0..SIMPLER {
             ways.push(Box::new(move |t: &mut T| {
@@ -151,6 +166,23 @@ pub fn ways_of_parts<T: Shrink>(whole: &T) -> Vec<Way<T>> {
         }
     }
     ways
+}
+
+/// Lower stamps: all editions 0, all generations less by the least of them, or one stamp all 0.
+fn lower_stamps(mut stamps: Vec<&mut Stamp>, way: usize) -> bool {
+    let before: Vec<Stamp> = stamps.iter().map(|s| **s).collect();
+    match way {
+        0 => stamps.iter_mut().for_each(|s| s.edition = 0),
+        1 => {
+            let least = before.iter().map(|s| s.generation).min().unwrap_or(0);
+            stamps.iter_mut().for_each(|s| s.generation -= least);
+        }
+        _ => {
+            let one = stamps.get_mut(way - 2);
+            one.into_iter().for_each(|s| **s = Stamp::default());
+        }
+    }
+    stamps.iter().zip(&before).any(|(now, then)| **now != *then)
 }
 
 /// A bar of the first or the last bins: half of them, or all but one.
@@ -266,34 +298,43 @@ impl Shrink for Call {
         match self {
             Call::Root { x } => Parts { numbers: vec![x], ..none },
             Call::Length { x, y } => Parts { numbers: vec![x, y], ..none },
-            Call::Validate { spec } | Call::Bin { spec, .. } | Call::New { spec, .. } => {
-                Parts { spec: Some(spec), ..none }
+            Call::Validate { spec } | Call::Bin { spec, .. } => Parts { spec: Some(spec), ..none },
+            Call::New { spec, stamp, .. } => Parts { spec: Some(spec), stamps: vec![stamp], ..none },
+            Call::Preview { spec, stamp, cells, rn, segments, .. } => Parts {
+                spec: Some(spec), stamps: vec![stamp], cells: vec![cells],
+                items: vec![Items::Flat(segments, 5)], numbers: vec![rn], ..none
+            },
+            Call::PreviewPolygon { spec, stamp, cells, excess, points, .. } => Parts {
+                spec: Some(spec), stamps: vec![stamp], cells: vec![cells],
+                items: vec![Items::Flat(points, 2)], numbers: vec![excess], ..none
+            },
+            Call::Cut { spec, stamp, cells, cut, .. } => Parts {
+                spec: Some(spec), stamps: vec![stamp], cells: vec![cells], numbers: simple_numbers(cut), ..none
+            },
+            Call::Apply { spec, stamp, cells, list } => {
+                let List { indices, records, changes, stamp: listed } = list;
+                Parts {
+                    spec: Some(spec), stamps: vec![stamp, listed], cells: vec![cells],
+                    items: vec![Items::Changes(Changes { indices, records, changes })], ..none
+                }
             }
-            Call::Preview { spec, cells, rn, segments, .. } => Parts {
-                spec: Some(spec), cells: vec![cells], items: vec![Items::Flat(segments, 5)], numbers: vec![rn], ..none
-            },
-            Call::PreviewPolygon { spec, cells, excess, points, .. } => Parts {
-                spec: Some(spec), cells: vec![cells], items: vec![Items::Flat(points, 2)], numbers: vec![excess], ..none
-            },
-            Call::Cut { spec, cells, cut, .. } => Parts {
-                spec: Some(spec), cells: vec![cells], numbers: simple_numbers(cut), ..none
-            },
-            Call::Apply { spec, cells, generation, list } => Parts {
-                spec: Some(spec), cells: vec![cells], items: vec![Items::Changes(list)], generation: Some(generation), ..none
-            },
-            Call::ChangesTo { spec, cells, after, .. } => Parts {
-                spec: Some(spec), cells: vec![cells, after], ..none
+            Call::ChangesTo { spec, stamp, cells, after, .. } => Parts {
+                spec: Some(spec), stamps: vec![stamp], cells: vec![cells, after], ..none
             },
             Call::RemoveRing { spec, store, generation, ring } => Parts {
                 spec: Some(spec), items: vec![Items::Store(store)], numbers: ring.iter_mut().collect(),
                 generation: Some(generation), ..none
             },
-            Call::ApplyMove { spec, cells, store, generation, list, removed } => Parts {
-                spec: Some(spec), cells: vec![cells], generation: Some(generation),
-                items: vec![Items::Store(store), Items::Changes(list), Items::Flat(removed, 4)], ..none
-            },
-            Call::FromParts { spec, cells, given, .. } => Parts {
-                spec: Some(spec), cells: vec![cells], items: vec![Items::Flat(given, 4)], ..none
+            Call::ApplyMove { spec, stamp, cells, store, list, removed } => {
+                let List { indices, records, changes, stamp: listed } = list;
+                let list = Items::Changes(Changes { indices, records, changes });
+                Parts {
+                    spec: Some(spec), stamps: vec![stamp, listed], cells: vec![cells],
+                    items: vec![Items::Store(store), list, Items::Flat(removed, 4)], ..none
+                }
+            }
+            Call::FromParts { spec, stamp, cells, given, .. } => Parts {
+                spec: Some(spec), stamps: vec![stamp], cells: vec![cells], items: vec![Items::Flat(given, 4)], ..none
             },
             Call::Volume { spec, cells, store } => Parts {
                 spec: Some(spec), cells: vec![cells], items: vec![Items::Store(store)], ..none

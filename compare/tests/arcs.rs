@@ -1,5 +1,5 @@
 //! Chords of arcs go to the nose: cells beside camlib's own arc preview, chords split over two cuts, and what a nose refuses.
-use compare::call::{Answer, Call, Outcome, Reason, Room, Spec};
+use compare::call::{Answer, Call, Outcome, Reason, Room, Spec, Stamp};
 use compare::generate::{Rng, family};
 use compare::oracle::numbers::length;
 use compare::oracle::stock::{bar, camlib_stock, fresh};
@@ -44,6 +44,7 @@ fn chords(points: &[[f64; 3]], tolerance: f64) -> Vec<[f64; 5]> {
 fn cut(cells: &[[f64; 4]], rn: f64, chords: &[[f64; 5]]) -> Vec<[f64; 4]> {
     let call = Call::Preview {
         spec: BAR,
+        stamp: Stamp::default(),
         cells: cells.as_flattened().to_vec(),
         side: 0,
         rn,
@@ -53,7 +54,7 @@ fn cut(cells: &[[f64; 4]], rn: f64, chords: &[[f64; 5]]) -> Vec<[f64; 4]> {
             records: 8 * N,
         },
     };
-    let Ok(Answer::Changes(changes)) = here(call) else {
+    let Ok(Answer::Changes(changes, _)) = here(call) else {
         panic!()
     };
     let mut cells = cells.to_vec();
@@ -206,6 +207,7 @@ fn chords_past_a_million() {
     assert_eq!(chords[0][2], 1000001.);
     let call = Call::Preview {
         spec: BAR,
+        stamp: Stamp::default(),
         cells: fresh(&bar(&BAR).unwrap()).as_flattened().to_vec(),
         side: 0,
         rn: 1.,
@@ -275,6 +277,7 @@ fn more_chords_than_a_nose_takes() {
     assert_eq!(chords.len(), 5 * 1024);
     let call = Call::Preview {
         spec: BAR,
+        stamp: Stamp::default(),
         cells: fresh(&bar(&BAR).unwrap()).as_flattened().to_vec(),
         side: 0,
         rn: 1.,

@@ -24,29 +24,43 @@ fn longest() -> impl Iterator<Item = usize> {
 #[rustfmt::skip]
 fn null_with_length_0() {
     let (cells, none, is, xs) = (CELL.as_ptr(), null(), null_mut(), null_mut());
-    let (mut own, mut count, mut generation, mut first, mut order) = (CELL, 7, 0, 7, 7);
+    let (mut own, mut count, mut generation, mut first, mut order) = (CELL, 7, 5, 7, 7);
     let (mut found, mut x, mut y, mut position) = (7, 7., 7., 7_usize);
+    let (mut edition, mut at_preview) = (7_u32, 7_u64);
     let at = &mut position as *mut usize;
-    assert_eq!(bar!(turning_new, xs, 0), 3);
-    assert_eq!(bar!(turning_preview, none, 0, 0, 1., none, 0, is, 0, xs, 0, &mut count), 3);
-    assert_eq!((count, found, order), (7, 7, 7));
-    assert_eq!(bar!(turning_preview, cells, 4, 0, 1., none, 0, is, 0, xs, 0, &mut count), 0);
-    assert_eq!(count, 0);
-    assert_eq!(bar!(turning_preview_polygon, cells, 4, 1, 0., none, 0, is, 0, xs, 0, &mut count), 0);
-    assert_eq!(bar!(turning_thread_cut, cells, 4, 2., 3., 5., is, 0, xs, 0, &mut count), 0);
-    assert_eq!(bar!(turning_thread_cut, cells, 4, 0., 1., 5., is, 0, xs, 0, &mut count), 6);
-    assert_eq!(bar!(turning_thread_cut_inner, cells, 4, 2., 3., 5., is, 0, xs, 0, &mut count), 0);
-    assert_eq!(bar!(turning_drill, cells, 4, 2., 5., 0., is, 0, xs, 0, &mut count), 0);
-    assert_eq!(bar!(turning_changes_to, cells, 4, cells, 4, is, 0, xs, 0, &mut count), 0);
-    assert_eq!(bar!(turning_apply, own.as_mut_ptr(), 4, &mut generation, null(), 0, none, 0, 0, at), 0);
+    let (e, g) = (&mut edition as *mut u32, &mut at_preview as *mut u64);
+    assert_eq!(bar!(turning_new, 2, &mut generation, xs, 0), 3);
+    assert_eq!(bar!(turning_preview, 2, 5, none, 0, 0, 1., none, 0, is, 0, xs, 0, &mut count, e, g), 3);
+    assert_eq!((count, found, order, generation), (7, 7, 7, 5));
+    assert_eq!((edition, at_preview), (7, 7));
+    assert_eq!(bar!(turning_preview, 2, 5, cells, 4, 0, 1., none, 0, is, 0, xs, 0, &mut count, e, g), 0);
+    assert_eq!((count, edition, at_preview), (0, 2, 5));
+    assert_eq!(bar!(turning_preview_polygon, 3, 6, cells, 4, 1, 0., none, 0, is, 0, xs, 0, &mut count, e, g), 0);
+    assert_eq!((edition, at_preview), (3, 6));
+    assert_eq!(bar!(turning_thread_cut, 4, 7, cells, 4, 2., 3., 5., is, 0, xs, 0, &mut count, e, g), 0);
+    assert_eq!(bar!(turning_thread_cut, 5, 8, cells, 4, 0., 1., 5., is, 0, xs, 0, &mut count, e, g), 6);
+    assert_eq!((edition, at_preview), (4, 7));
+    assert_eq!(bar!(turning_thread_cut_inner, 5, 8, cells, 4, 2., 3., 5., is, 0, xs, 0, &mut count, e, g), 0);
+    assert_eq!((edition, at_preview), (5, 8));
+    assert_eq!(bar!(turning_drill, 6, 9, cells, 4, 2., 5., 0., is, 0, xs, 0, &mut count, e, g), 0);
+    assert_eq!((edition, at_preview), (6, 9));
+    assert_eq!(bar!(turning_changes_to, 7, 10, cells, 4, cells, 4, is, 0, xs, 0, &mut count, e, g), 0);
+    assert_eq!((edition, at_preview), (7, 10));
+    generation = 0;
+    assert_eq!(bar!(turning_apply, 2, &mut generation, own.as_mut_ptr(), 4, null(), 0, none, 0, 0, 2, 1, at), 19);
+    assert_eq!(bar!(turning_apply, 2, &mut generation, own.as_mut_ptr(), 4, null(), 0, none, 0, 0, 3, 0, at), 19);
+    assert_eq!((own, generation), (CELL, 0));
+    assert_eq!(bar!(turning_apply, 2, &mut generation, own.as_mut_ptr(), 4, null(), 0, none, 0, 0, 2, 0, at), 0);
     assert_eq!((own, generation, count), (CELL, 1, 0));
     assert_eq!(bar!(turning_remove_ring, xs, 0, &mut count, &mut generation, 2., 3., 0., 1., at), 0);
     assert_eq!((count, generation), (0, 1));
     assert_eq!(bar!(turning_remove_ring, xs, 0, &mut count, &mut generation, 0., 1., 0., 1., at), 11);
     let stored = &mut count;
-    assert_eq!(bar!(turning_apply_move, own.as_mut_ptr(), 4, xs, 0, stored, &mut generation, null(), 0, none, 0, 0, none, 0, at), 0);
+    assert_eq!(bar!(turning_apply_move, 2, &mut generation, own.as_mut_ptr(), 4, xs, 0, stored, null(), 0, none, 0, 0, 2, 0, none, 0, at), 19);
+    assert_eq!(bar!(turning_apply_move, 2, &mut generation, own.as_mut_ptr(), 4, xs, 0, stored, null(), 0, none, 0, 0, 2, 1, none, 0, at), 0);
     assert_eq!((count, generation), (0, 2));
-    assert_eq!(bar!(turning_from_parts, cells, 4, none, 0, xs, 0, &mut count, at), 0);
+    assert_eq!(bar!(turning_from_parts, 9, &mut generation, cells, 4, none, 0, xs, 0, &mut count, at), 0);
+    assert_eq!((count, generation), (0, 0));
     assert_eq!(bar!(turning_volume, cells, 4, none, 0, 0, &mut x, &mut y), 0);
     assert_eq!((x, y), (100. * PI, 100. * PI));
     assert_eq!(bar!(turning_envelope_at, none, 0, 0.5, &mut found, &mut x, &mut y), 3);
@@ -72,16 +86,18 @@ fn lengths_near_the_end_are_refused_unread() {
     let (cells, none, is, xs) = (CELL.as_ptr(), null(), null_mut(), null_mut());
     let (mut count, mut generation, mut first, mut order) = (7, 5, 7, 7);
     let (mut found, mut x, mut y, mut position) = (7, 7., 7., 7_usize);
+    let (mut edition, mut at_preview) = (7_u32, 7_u64);
     let at = &mut position as *mut usize;
+    let (e, g) = (&mut edition as *mut u32, &mut at_preview as *mut u64);
     for len in longest() {
-        assert_eq!(bar!(turning_new, xs, len), 3);
-        assert_eq!(bar!(turning_preview, none, len, 0, 1., none, 0, is, 0, xs, 0, &mut count), 3);
-        assert_eq!(bar!(turning_preview, cells, 4, 0, 1., none, len, is, 0, xs, 0, &mut count), 5);
-        assert_eq!(bar!(turning_preview_polygon, cells, 4, 0, 1., none, len, is, 0, xs, 0, &mut count), 5);
-        assert_eq!(bar!(turning_drill, none, len, 0., 1., 0., is, 0, xs, 0, &mut count), 3);
-        assert_eq!(bar!(turning_changes_to, cells, 4, none, len, is, 0, xs, 0, &mut count), 3);
-        assert_eq!(bar!(turning_apply, xs, len, &mut generation, null(), 0, none, 0, 0, at), 3);
-        assert_eq!(bar!(turning_from_parts, none, len, none, 0, xs, 0, &mut count, at), 3);
+        assert_eq!(bar!(turning_new, 2, &mut generation, xs, len), 3);
+        assert_eq!(bar!(turning_preview, 2, 5, none, len, 0, 1., none, 0, is, 0, xs, 0, &mut count, e, g), 3);
+        assert_eq!(bar!(turning_preview, 2, 5, cells, 4, 0, 1., none, len, is, 0, xs, 0, &mut count, e, g), 5);
+        assert_eq!(bar!(turning_preview_polygon, 2, 5, cells, 4, 0, 1., none, len, is, 0, xs, 0, &mut count, e, g), 5);
+        assert_eq!(bar!(turning_drill, 2, 5, none, len, 0., 1., 0., is, 0, xs, 0, &mut count, e, g), 3);
+        assert_eq!(bar!(turning_changes_to, 2, 5, cells, 4, none, len, is, 0, xs, 0, &mut count, e, g), 3);
+        assert_eq!(bar!(turning_apply, 2, &mut generation, xs, len, null(), 0, none, 0, 0, 2, 5, at), 3);
+        assert_eq!(bar!(turning_from_parts, 2, &mut generation, none, len, none, 0, xs, 0, &mut count, at), 3);
         assert_eq!(bar!(turning_volume, none, len, none, 0, 0, &mut x, &mut y), 3);
         assert_eq!(bar!(turning_envelope_at, none, len, 0., &mut found, &mut x, &mut y), 3);
         unsafe {
@@ -96,6 +112,7 @@ fn lengths_near_the_end_are_refused_unread() {
         }
     }
     assert_eq!((count, generation, first, order, found, x, y, position), (7, 5, 7, 7, 7, 7., 7., 7));
+    assert_eq!((edition, at_preview), (7, 7));
 }
 
 /// Room of such a length is room: only the changes and rings in it are touched.
@@ -106,20 +123,23 @@ fn room_near_the_end_is_room() {
         let (mut cells, mut generation, mut count, mut position) = (CELL, 0, 0, 7_usize);
         let (mut indices, mut records, mut rings) = ([7_usize; 2], [7_f64; 16], [7_f64; 8]);
         let (is, xs) = (indices.as_mut_ptr(), records.as_mut_ptr());
-        assert_eq!(bar!(turning_thread_cut, cells.as_ptr(), 4, 0., 1., 5., is, len, xs, len, &mut count), 0);
-        assert_eq!((count, indices), (1, [0, 7]));
+        let (mut edition, mut at_preview) = (7, 7);
+        let (e, g) = (&mut edition, &mut at_preview);
+        assert_eq!(bar!(turning_thread_cut, 2, 0, cells.as_ptr(), 4, 0., 1., 5., is, len, xs, len, &mut count, e, g), 0);
+        assert_eq!((count, indices, edition, at_preview), (1, [0, 7], 2, 0));
         assert_eq!(records[4..], [5., 10., 0., 0., 7., 7., 7., 7., 7., 7., 7., 7.]);
         let own = cells.as_mut_ptr();
         let at = &mut position as *mut usize;
-        assert_eq!(bar!(turning_apply, own, 4, &mut generation, is, len, xs, len, 1, at), 0);
+        assert_eq!(bar!(turning_apply, 2, &mut generation, own, 4, is, len, xs, len, 1, 2, 0, at), 0);
         assert_eq!((cells, generation), ([5., 10., 0., 0.], 1));
         count = 0;
         let room = rings.as_mut_ptr();
         assert_eq!(bar!(turning_remove_ring, room, len, &mut count, &mut generation, 0., 1., 2., 3., at), 0);
         assert_eq!((count, generation, rings), (1, 2, [0., 1., 2., 3., 7., 7., 7., 7.]));
-        // the same list again: the bin holds something else
+        // the same list again: it is for the stock before; and as if it were for this one: the bin holds something else
+        assert_eq!(bar!(turning_apply, 2, &mut generation, own, 4, is, len, xs, len, 1, 2, 0, at), 19);
         assert_eq!(position, 7);
-        assert_eq!(bar!(turning_apply, own, 4, &mut generation, is, len, xs, len, 1, at), 22);
+        assert_eq!(bar!(turning_apply, 2, &mut generation, own, 4, is, len, xs, len, 1, 2, 2, at), 22);
         assert_eq!((cells, generation, position), ([5., 10., 0., 0.], 2, 0));
     }
 }
@@ -131,10 +151,11 @@ fn read_only_buffers_may_be_the_same() {
     let both = [0., 1., 2., 3.];
     let (at, is, xs) = (both.as_ptr(), null_mut(), null_mut());
     let (mut count, mut least, mut greatest, mut rings, mut position) = (7, 7., 7., [0.; 4], 7);
-    assert_eq!(bar!(turning_changes_to, at, 4, at, 4, is, 0, xs, 0, &mut count), 0);
-    assert_eq!(count, 0);
+    let (mut edition, mut generation) = (7, 7);
+    assert_eq!(bar!(turning_changes_to, 2, 5, at, 4, at, 4, is, 0, xs, 0, &mut count, &mut edition, &mut generation), 0);
+    assert_eq!((count, edition, generation), (0, 2, 5));
     assert_eq!(bar!(turning_volume, at, 4, at, 4, 1, &mut least, &mut greatest), 0);
     assert_eq!((least, greatest), (0., 0.));
-    assert_eq!(bar!(turning_from_parts, at, 4, at, 4, rings.as_mut_ptr(), 4, &mut count, &mut position), 0);
-    assert_eq!((count, rings, position), (1, both, 7));
+    assert_eq!(bar!(turning_from_parts, 2, &mut generation, at, 4, at, 4, rings.as_mut_ptr(), 4, &mut count, &mut position), 0);
+    assert_eq!((count, rings, position, generation), (1, both, 7, 0));
 }

@@ -31,10 +31,10 @@ fn every_refusal_is_reached() {
             "stock" => &[0, 1, 2, 3, 21],
             "thread" | "thread_inner" | "drill" => &[0, 1, 2, 3, 5, 6],
             "nose" | "short_chords" | "polygon" => &[0, 1, 2, 3, 5, 6],
-            "apply" => &[0, 1, 2, 3, 6, 7, 8, 12, 21, 22, 23],
+            "apply" => &[0, 1, 2, 3, 6, 7, 8, 12, 19, 21, 22, 23],
             "changes_to" => &[0, 1, 2, 3, 6],
             "rings" => &[0, 1, 2, 4, 10, 11, 12],
-            "moves" => &[0, 1, 2, 3, 4, 6, 7, 8, 10, 11, 12, 21, 22, 23],
+            "moves" => &[0, 1, 2, 3, 4, 6, 7, 8, 10, 11, 12, 19, 21, 22, 23],
             "parts" => &[0, 1, 2, 3, 10, 11],
             "volume" => &[0, 1, 2, 3, 4],
             "envelope_at" => &[0, 1, 2, 3],
@@ -42,6 +42,69 @@ fn every_refusal_is_reached() {
             _ => &[0, 14],
         };
         assert_eq!(reached(name), wanted, "{name}");
+    }
+}
+
+/// Stamps at both ends and any between; one list of five is for another stock, by its edition, its
+/// generation or both.
+#[test]
+fn stamps_of_every_kind_are_reached() {
+    for name in ["apply", "moves"] {
+        let (mut editions, mut generations) = (BTreeSet::new(), BTreeSet::new());
+        let mut spoiled = [0; 4];
+        for call in calls(name) {
+            let (Call::Apply { stamp, list, .. } | Call::ApplyMove { stamp, list, .. }) = call
+            else {
+                panic!()
+            };
+            editions.insert(stamp.edition);
+            generations.insert(stamp.generation);
+            let other = list.stamp.edition != stamp.edition;
+            let later = list.stamp.generation != stamp.generation;
+            spoiled[other as usize + 2 * later as usize] += 1;
+        }
+        assert!([0, 1, u32::MAX].iter().all(|e| editions.contains(e)));
+        let edges = [0, 1, u64::MAX - 1, u64::MAX];
+        assert!(edges.iter().all(|g| generations.contains(g)));
+        assert!(editions.len() > 1000 && generations.len() > 1000);
+        let part = (CALLS - spoiled[0]) as f64 / CALLS as f64;
+        assert!((0.19..0.21).contains(&part), "{spoiled:?}");
+        assert!(spoiled[1..].iter().all(|n| *n > CALLS / 30), "{spoiled:?}");
+    }
+}
+
+/// 19 beside another reason, as the generators have them: which one is told.
+#[test]
+fn a_stale_list_meets_every_other_reason() {
+    for (name, before, after) in [
+        ("apply", &[1, 2, 3][..], &[0, 6, 7, 8, 12, 21, 22, 23][..]),
+        (
+            "moves",
+            &[1, 2, 3, 4, 6],
+            &[0, 7, 8, 10, 11, 12, 21, 22, 23],
+        ),
+    ] {
+        let (mut told, mut hidden) = (BTreeSet::new(), BTreeSet::new());
+        for mut call in calls(name) {
+            let first = number(&answer(&call));
+            let (Call::Apply { stamp, list, .. } | Call::ApplyMove { stamp, list, .. }) = &mut call
+            else {
+                panic!()
+            };
+            if list.stamp == *stamp {
+                continue;
+            }
+            list.stamp = *stamp;
+            let second = number(&answer(&call));
+            if first == 19 {
+                hidden.insert(second);
+            } else {
+                assert_eq!(first, second);
+                told.insert(first);
+            }
+        }
+        assert!(told.iter().eq(before), "{name}: {told:?}");
+        assert!(hidden.iter().eq(after), "{name}: {hidden:?}");
     }
 }
 
@@ -114,7 +177,7 @@ fn camlib_refuses_the_cells_too() {
 fn camlib_refuses_the_changes_too() {
     for call in calls("apply") {
         let outcome = answer(&call);
-        if matches!(number(&outcome), 1 | 2 | 3 | 6 | 12) {
+        if matches!(number(&outcome), 1 | 2 | 3 | 6 | 12 | 19) {
             continue;
         }
         let Call::Apply {

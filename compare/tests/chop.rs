@@ -1,6 +1,6 @@
 //! The program `chop`: what it writes by a second reading of its rule, its lines through the job's reader, and the cells after them.
 //! Where the variable CHOP names the program, it is run.
-use compare::call::{Answer, Call, Room, Spec};
+use compare::call::{Answer, Call, Room, Spec, Stamp};
 use compare::generate::Rng;
 use compare::jobs::parts::answered;
 use compare::oracle::answer;
@@ -168,6 +168,7 @@ fn any(rng: &mut Rng) -> Vec<u8> {
 fn cut(cells: &[[f64; 4]], side: u32, rn: f64, chords: &[[f64; 5]]) -> Vec<[f64; 4]> {
     let call = Call::Preview {
         spec: SPEC,
+        stamp: Stamp::default(),
         cells: cells.as_flattened().to_vec(),
         side,
         rn,
@@ -181,7 +182,7 @@ fn cut(cells: &[[f64; 4]], side: u32, rn: f64, chords: &[[f64; 5]]) -> Vec<[f64;
     if let Some(text) = difference(&call, &outcome) {
         panic!("{text}");
     }
-    let Ok(Answer::Changes(changes)) = outcome else {
+    let Ok(Answer::Changes(changes, _)) = outcome else {
         panic!("{outcome:?}")
     };
     let mut cells = cells.to_vec();

@@ -1,10 +1,11 @@
 //! Each intended difference of docs/DIFFERENCES.md on the smallest input that shows it: what camlib
 //! does, and what the library does.
-use compare::call::{Answer, Call, Change, List, Room, Simple, Spec, Store};
+use compare::call::{Answer, Call, Change, List, Room, Simple, Spec, Stamp, Store};
 use compare::jobs;
 use compare::oracle::answer;
 use compare::oracle::stock::{camlib_spec, to_camlib};
 use compare::run::difference;
+use compare::sequence::list_of;
 use plain::motion::{Curve, Plane};
 use plain::turning::profile::{Envelope, Seg, TurnProfile};
 use plain::turning::stock::{TurnChange, TurnSide, TurnStock};
@@ -52,6 +53,7 @@ fn line(a: [f64; 2], b: [f64; 2]) -> Curve {
 fn nose(spec: Spec, rn: f64, a: [f64; 2], b: [f64; 2]) -> Outcome {
     here(Call::Preview {
         spec,
+        stamp: Stamp::default(),
         cells: CELL.to_vec(),
         side: 0,
         rn,
@@ -68,7 +70,7 @@ fn outer_after(spec: Spec, rn: f64, a: [f64; 2], b: [f64; 2]) -> [[f64; 2]; 2] {
         [c.after.outer.lower_mm, c.after.outer.upper_mm]
     });
     let ours = match nose(spec, rn, a, b) {
-        Ok(Answer::Changes(list)) => list.first().map_or(CELL, |c| c.after),
+        Ok(Answer::Changes(list, _)) => list.first().map_or(CELL, |c| c.after),
         other => panic!("{other:?}"),
     };
     [theirs, [ours[0], ours[1]]]
@@ -77,6 +79,7 @@ fn outer_after(spec: Spec, rn: f64, a: [f64; 2], b: [f64; 2]) -> [[f64; 2]; 2] {
 fn cut(cut: Simple) -> Outcome {
     here(Call::Cut {
         spec: BAR,
+        stamp: Stamp::default(),
         cells: CELL.to_vec(),
         cut,
         room: ROOM,
@@ -87,11 +90,20 @@ fn thread(z0: f64, z1: f64, radius: f64) -> Outcome {
     cut(Simple::ThreadCut { z0, z1, radius })
 }
 
+/// The commit of a list to a stock of edition 0 and the generation, for which it is.
 fn apply(generation: u64, list: List) -> Outcome {
+    let stamp = Stamp {
+        edition: 0,
+        generation,
+    };
+    commit(stamp, List { stamp, ..list })
+}
+
+fn commit(stamp: Stamp, list: List) -> Outcome {
     here(Call::Apply {
         spec: BAR,
+        stamp,
         cells: CELL.to_vec(),
-        generation,
         list,
     })
 }
@@ -101,6 +113,7 @@ fn list(before: [f64; 4], after: [f64; 4]) -> List {
         indices: vec![0],
         records: [before, after].as_flattened().to_vec(),
         changes: 1,
+        stamp: Stamp::default(),
     }
 }
 
@@ -127,7 +140,7 @@ fn near(x: f64, y: f64) -> bool {
 }
 
 fn no_change() -> Outcome {
-    Ok(Answer::Changes(vec![]))
+    Ok(Answer::Changes(vec![], Stamp::default()))
 }
 
 /// Here the nearest to the exact length, the square being exact; `hypot` may be one beside it.
@@ -181,6 +194,7 @@ fn a_chord_of_the_least_length() {
         .collect();
     let ours = here(Call::Preview {
         spec,
+        stamp: Stamp::default(),
         cells: [CELL; 8].as_flattened().to_vec(),
         side: 1,
         rn: 5.,
@@ -190,7 +204,7 @@ fn a_chord_of_the_least_length() {
             records: 64,
         },
     });
-    let Ok(Answer::Changes(ours)) = ours else {
+    let Ok(Answer::Changes(ours, _)) = ours else {
         panic!("{ours:?}");
     };
     let ours: Vec<(usize, [f64; 2])> = (ours.iter())
@@ -263,6 +277,7 @@ fn a_difference_of_other_lengths() {
     assert_eq!(camlib(BAR).changes_to(&camlib(longer)), []);
     let call = Call::ChangesTo {
         spec: BAR,
+        stamp: Stamp::default(),
         cells: CELL.to_vec(),
         after: [CELL, CELL].as_flattened().to_vec(),
         room: ROOM,
@@ -274,7 +289,12 @@ fn a_difference_of_other_lengths() {
 fn minus_zero_in_a_spec() {
     let spec = Spec { bore: -0., ..BAR };
     assert_eq!(camlib(spec).cells()[0].inner.lower_mm.to_bits(), MINUS);
-    let Ok(Answer::Cells(cells)) = here(Call::New { spec, cells_len: 4 }) else {
+    let call = Call::New {
+        spec,
+        stamp: Stamp::default(),
+        cells_len: 4,
+    };
+    let Ok(Answer::Stock(cells, _, 0)) = here(call) else {
         panic!()
     };
     assert_eq!(cells[0][2].to_bits(), 0);
@@ -364,6 +384,7 @@ fn a_drill_of_negative_radius_with_a_point() {
 fn polygon(points: &[[f64; 2]], excess: f64) -> Outcome {
     here(Call::PreviewPolygon {
         spec: BAR,
+        stamp: Stamp::default(),
         cells: CELL.to_vec(),
         side: 0,
         excess,
@@ -395,6 +416,7 @@ fn more_than_4096_segments() {
     let with = |count: usize| {
         here(Call::Preview {
             spec: BAR,
+            stamp: Stamp::default(),
             cells: CELL.to_vec(),
             side: 0,
             rn: 0.,
@@ -506,6 +528,7 @@ fn more_changes_than_room() {
     };
     let call = Call::Cut {
         spec: BAR,
+        stamp: Stamp::default(),
         cells: CELL.to_vec(),
         cut: Simple::ThreadCut {
             z0: 0.,
@@ -523,6 +546,67 @@ fn a_count_beyond_the_list() {
     let mut list = list(CELL, CELL);
     list.changes = 2;
     assert_eq!(apply(0, list), Err(6));
+}
+
+/// A list kept over a commit, or for another edition, whose bin still holds what it did: camlib has no stamp and commits it. After
+/// a rebuild the stamp is the same again, and so is the answer.
+#[test]
+fn a_list_for_another_stamp() {
+    let mut stock = camlib(BAR);
+    let theirs = stock.thread_cut(0., 1., 5.);
+    assert_eq!(stock.apply(&[]), Ok(()));
+    assert_eq!(stock.generation(), 1);
+    assert_eq!(stock.apply(&theirs), Ok(()));
+    let (first, second) = (Stamp::default(), |edition, generation| Stamp {
+        edition,
+        generation,
+    });
+    let Ok(Answer::Changes(ours, stamp)) = thread(0., 1., 5.) else {
+        panic!()
+    };
+    assert_eq!((ours.len(), stamp), (1, first));
+    let kept = || list_of(&ours, stamp);
+    let none = list_of(&[], first);
+    assert!(matches!(commit(first, none), Ok(Answer::Stock(_, _, 1))));
+    assert_eq!(commit(second(0, 1), kept()), Err(19));
+    assert_eq!(commit(second(1, 0), kept()), Err(19));
+    // no change at all is a list too
+    assert_eq!(commit(second(0, 1), list_of(&[], first)), Err(19));
+    let rebuilt = here(Call::FromParts {
+        spec: BAR,
+        stamp: second(0, 1),
+        cells: CELL.to_vec(),
+        given: vec![],
+        rings_len: 0,
+    });
+    assert_eq!(rebuilt, Ok(Answer::Stock(vec![CELL], vec![], 0)));
+    assert!(commit(first, kept()).is_ok());
+}
+
+/// A move asks the same, after the stored rings and before those of the move.
+#[test]
+fn a_move_for_another_stamp() {
+    let mut stock = camlib(BAR);
+    let theirs = stock.thread_cut(0., 1., 5.);
+    assert_eq!(stock.apply(&[]), Ok(()));
+    assert_eq!(stock.apply_move(&theirs, &[]), Ok(()));
+    let moved = |generation, removed: Vec<f64>| {
+        here(Call::ApplyMove {
+            spec: BAR,
+            stamp: Stamp {
+                edition: 0,
+                generation,
+            },
+            cells: CELL.to_vec(),
+            store: Store::default(),
+            list: list(CELL, [5., 10., 0., 0.]),
+            removed,
+        })
+    };
+    assert_eq!(moved(1, vec![]), Err(19));
+    assert_eq!(moved(1, vec![f64::NAN]), Err(19));
+    assert_eq!(moved(0, vec![f64::NAN]), Err(10));
+    assert!(moved(0, vec![]).is_ok());
 }
 
 /// camlib's generation is its own, and nobody counts to its end.
@@ -601,12 +685,12 @@ fn the_257th_piece() {
 fn a_move_is_refused_whole() {
     let call = Call::ApplyMove {
         spec: BAR,
+        stamp: Stamp::default(),
         cells: CELL.to_vec(),
         store: Store {
             rings: vec![0.; 8],
             count: 0,
         },
-        generation: 0,
         list: list(CELL, [5., 10., 0., 0.]),
         removed: vec![0., 1., 1., 2., 0., 1., 3., 4., 0., 1., 5., 6.],
     };
@@ -832,6 +916,7 @@ fn a_refusal() {
 fn a_chord_with_sag() {
     let call = Call::Preview {
         spec: BAR,
+        stamp: Stamp::default(),
         cells: CELL.to_vec(),
         side: 0,
         rn: 1.,
@@ -843,5 +928,8 @@ fn a_chord_with_sag() {
         before: CELL,
         after: [3.5, 4.5, 0., 0.],
     };
-    assert_eq!(here(call), Ok(Answer::Changes(vec![change])));
+    assert_eq!(
+        here(call),
+        Ok(Answer::Changes(vec![change], Stamp::default()))
+    );
 }

@@ -1,10 +1,11 @@
-//! The reader and the writer of stock files that the calls are held against, by Req 06's words.
+//! The reader and the writer of stock files that the calls are held against, by the words of Req 06 and Req 08.
 use compare::call::{Reason, Spec};
-use compare::files::form::{MALFORMED, Read, lines};
+use compare::files::form::{MALFORMED, Read, in_form_1, lines};
+use compare::files::run::Reading;
 use compare::oracle::stock::Bar;
 
 const EXAMPLE: &str = "\
-stock\t1\t0000000000000000\t4022000000000000\t4024000000000000\t0000000000000000\t4008000000000000
+stock\t2\t0000000000000000\t4022000000000000\t4024000000000000\t0000000000000000\t4008000000000000\tC0DE0002
 cell\t0000\t4010000000000000\t4014000000000000\t0000000000000000\t0000000000000000
 cell\t0001\t4010000000000000\t4010000000000000\t0000000000000000\t0000000000000000
 cell\t0002\t4010000000000000\t4014000000000000\t0000000000000000\t0000000000000000
@@ -39,9 +40,96 @@ fn refused(text: &str) -> Option<(u32, Option<usize>)> {
 fn the_example_is_written_and_read() {
     let cells = [[4., 5., 0., 0.], [4., 4., 0., 0.], [4., 5., 0., 0.]];
     let rings = [[0., 6., 2., 6.], [6., 9., 4., 8.], [3., 6., 6., 8.]];
-    assert_eq!(lines(&SPEC, &cells, &rings).concat(), EXAMPLE);
+    assert_eq!(lines(&SPEC, 0xC0DE_0002, &cells, &rings).concat(), EXAMPLE);
     let bar = end(EXAMPLE, 12, 12, 512).ok().unwrap();
     assert_eq!((bar.n, bar.spec), (3, SPEC));
+    assert_eq!(edition(EXAMPLE), Some(0xC0DE_0002));
+}
+
+/// The edition that the first line says, where it is of the form.
+fn edition(text: &str) -> Option<u32> {
+    let read = Read::bytes(text.as_bytes(), &mut [], &mut []);
+    read.first.map(|first| first.edition)
+}
+
+/// The example with another first line.
+fn with_first(change: impl Fn(&mut Vec<&str>)) -> String {
+    let (first, rest) = EXAMPLE.split_once('\n').unwrap();
+    let mut fields: Vec<&str> = first.split('\t').collect();
+    change(&mut fields);
+    format!("{}\n{rest}", fields.join("\t"))
+}
+
+/// Form 1 has no edition and is of edition 0; everything else in the place of form or edition is 16 at line 1.
+#[test]
+fn two_forms_are_read() {
+    let older = with_first(|f| {
+        f[1] = "1";
+        f.pop();
+    });
+    let (first, _) = EXAMPLE.split_once('\n').unwrap();
+    assert!(older.starts_with(&in_form_1(first)));
+    assert_eq!((refused(&older), edition(&older)), (None, Some(0)));
+    for (text, said) in [
+        ("00000000", 0),
+        ("FFFFFFFF", u32::MAX),
+        ("0000000A", 10),
+        ("80000000", 1 << 31),
+    ] {
+        let file = with_first(|f| f[7] = text);
+        assert_eq!((refused(&file), edition(&file)), (None, Some(said)));
+    }
+    let line_1 = Some((MALFORMED, Some(1)));
+    for form in ["0", "1", "3", "", "02", "2 ", " 2", "-2", "two"] {
+        let file = with_first(|f| f[1] = form);
+        assert_eq!(refused(&file), line_1, "form {form:?} with an edition");
+        let file = with_first(|f| {
+            f[1] = form;
+            f.pop();
+        });
+        let wanted = if form == "1" { None } else { line_1 };
+        assert_eq!(refused(&file), wanted, "form {form:?} without one");
+    }
+    let without = with_first(|f| f.truncate(7));
+    assert_eq!(refused(&without), line_1);
+    for edition in [
+        "",
+        "0000000",
+        "000000000",
+        "c0de0002",
+        "C0DE000a",
+        "C0DE000G",
+        " C0DE002",
+        "+C0DE002",
+        "C0DE0002\t",
+        "C0DE0002\tC0DE0002",
+        "C0DE0002\r",
+    ] {
+        let file = with_first(|f| f[7] = edition);
+        assert_eq!(refused(&file), line_1, "edition {edition:?}");
+    }
+}
+
+/// A reading keeps the edition in its last word, which is read in 32 bits; both forms set it.
+#[test]
+fn the_last_word_of_a_reading_is_its_edition() {
+    let older = in_form_1(EXAMPLE.split_once('\n').unwrap().0);
+    for (first, edition) in [(EXAMPLE, 0xC0DE_0002), (&older, 0)] {
+        let mut reading = Reading::fresh(12, 12);
+        reading.state[7] = 9;
+        assert_eq!(reading.take(b"stock"), 0);
+        assert_eq!(reading.take(&first.as_bytes()[5..]), 0);
+        assert_eq!(reading.state[7], edition);
+    }
+    let mut reading = Reading::fresh(12, 12);
+    assert_eq!(reading.take(EXAMPLE.as_bytes()), 0);
+    for word in [0, 7, u32::MAX as u64, 1 << 32, 5 + (1 << 63), u64::MAX] {
+        reading.state[7] = word;
+        let told = word as u32 as usize;
+        assert_eq!(reading.end(3), (0, [Some(3), Some(3), Some(told), None]));
+    }
+    // a refusal tells none of them
+    assert_eq!(reading.end(2), (2, [None; 4]));
 }
 
 /// Every cut of the example is 16 at the line that is unfinished or missing.
@@ -57,7 +145,7 @@ fn a_file_cut_off_is_refused_at_its_next_line() {
 fn refusals_have_their_order_and_their_line() {
     let with = |a: &str, b: &str| EXAMPLE.replacen(a, b, 1);
     let line = |n| Some((MALFORMED, Some(n)));
-    assert_eq!(refused(&with("stock\t1", "stock\t2")), line(1));
+    assert_eq!(refused(&with("stock\t2", "stock\t1")), line(1));
     assert_eq!(refused(&with("cell\t0001", "cell\t0002")), line(3));
     assert_eq!(refused(&with("cell\t0001", "cell\t001")), line(3));
     assert_eq!(refused(&with("4010", "401a")), line(2));

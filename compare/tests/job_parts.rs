@@ -138,6 +138,22 @@ fn states_of_any_words() {
     );
 }
 
+/// The edition is the caller's: no line changes its word, and no answer has it.
+#[test]
+fn the_edition_of_a_job_stays() {
+    let input = [BAR, b"drill\t-1000\t4000\t0\nring\t0\t1000\t5000\t6000\n"].concat();
+    for refused in [&b""[..], b"arc\n"] {
+        let whole = [&input, refused].concat();
+        for edition in [0, 1, u32::MAX as u64, 1 << 32, u64::MAX] {
+            let mut lent = Lent::fresh();
+            lent.state[7] = edition;
+            whole.chunks(7).for_each(|part| lent.take(part));
+            assert_eq!(lent.answer(), run(&whole));
+            assert_eq!(lent.state[7], edition);
+        }
+    }
+}
+
 /// A job after its bar, with other words.
 fn barred(change: impl Fn(&mut [u64; 8])) -> Box<Lent> {
     let mut lent = Lent::fresh();

@@ -1,15 +1,15 @@
-//! Req 04 of 02: each refusal of a list says the number and the position that 02 gives, by the oracle; the library is held
-//! against it in tests/limits.rs, which makes these calls too.
+//! Req 04 and Req 08 of 02: each refusal of a list says the number and the position that 02 gives, by the oracle; the library is
+//! held against it in tests/limits.rs, which makes these calls too.
 use compare::call::{Call, Reason};
 use compare::generate::{Rng, family};
 use compare::memory::Memory;
 use compare::oracle::answer;
-use compare::positions::{Case, commits, rings};
+use compare::positions::{Case, commits, rings, stale};
 use compare::record;
 use std::collections::{BTreeMap, BTreeSet};
 
 fn cases() -> Vec<Case> {
-    [commits(), rings()].concat()
+    [commits(), rings(), stale()].concat()
 }
 
 #[test]
@@ -49,7 +49,7 @@ fn a_position_is_in_its_list() {
     let mut seen: BTreeMap<u32, usize> = BTreeMap::new();
     for name in ["apply", "rings", "moves", "parts", "stock"] {
         let (make, mut rng) = (family(name).unwrap(), Rng::new(5));
-        for call in (0..20_000).map(|_| make(&mut rng)) {
+        for call in (0..30_000).map(|_| make(&mut rng)) {
             let Err(Reason { number, place }) = answer(&call) else {
                 continue;
             };

@@ -1,5 +1,5 @@
 //! Document 01's examples, by the oracle.
-use compare::call::{Answer, Call, Change, List, Room, Simple, Spec, Store};
+use compare::call::{Answer, Call, Change, List, Room, Simple, Spec, Stamp, Store};
 use compare::oracle;
 
 /// An answer, or the number of a refusal.
@@ -27,20 +27,30 @@ const ROOM: Room = Room {
     records: 8 * 4096,
 };
 
+/// What the stocks carry before a cut.
+const STAMP: Stamp = Stamp {
+    edition: 2,
+    generation: 7,
+};
+
 fn new(spec: Spec) -> Vec<f64> {
     let Ok(Answer::Bins(n)) = answer(&Call::Validate { spec }) else {
         panic!()
     };
-    let cells_len = 4 * n;
-    match answer(&Call::New { spec, cells_len }) {
-        Ok(Answer::Cells(cells)) => cells.as_flattened().to_vec(),
+    let call = Call::New {
+        spec,
+        stamp: STAMP,
+        cells_len: 4 * n,
+    };
+    match answer(&call) {
+        Ok(Answer::Stock(cells, _, 0)) => cells.as_flattened().to_vec(),
         other => panic!("{other:?}"),
     }
 }
 
 fn changes(call: &Call) -> Vec<Change> {
     match answer(call) {
-        Ok(Answer::Changes(changes)) => changes,
+        Ok(Answer::Changes(changes, STAMP)) => changes,
         other => panic!("{other:?}"),
     }
 }
@@ -60,11 +70,12 @@ fn cut(call: Call) -> Vec<f64> {
             .flatten()
             .collect(),
         changes: changes.len(),
+        stamp: STAMP,
     };
     let commit = Call::Apply {
         spec,
+        stamp: STAMP,
         cells,
-        generation: 7,
         list,
     };
     match answer(&commit) {
@@ -76,6 +87,7 @@ fn cut(call: Call) -> Vec<f64> {
 fn nose(cells: Vec<f64>, sag: f64) -> Call {
     Call::Preview {
         spec: Q,
+        stamp: STAMP,
         cells,
         side: 0,
         rn: 5.,
@@ -87,6 +99,7 @@ fn nose(cells: Vec<f64>, sag: f64) -> Call {
 fn simple(spec: Spec, cells: Vec<f64>, cut: Simple) -> Call {
     Call::Cut {
         spec,
+        stamp: STAMP,
         cells,
         cut,
         room: ROOM,
@@ -166,6 +179,7 @@ fn p7_drill() {
 fn p8_polygon() {
     let after = cut(Call::PreviewPolygon {
         spec: Q,
+        stamp: STAMP,
         cells: new(Q),
         side: 0,
         excess: 0.5,
@@ -253,6 +267,7 @@ fn limits() {
         };
         answer(&Call::Preview {
             spec: Q,
+            stamp: STAMP,
             cells: new(Q),
             side: 0,
             rn: 5.,
@@ -278,6 +293,7 @@ fn limits() {
     let room_for = |indices: usize, records: usize| {
         answer(&Call::Preview {
             spec: Q,
+            stamp: STAMP,
             cells: new(Q),
             side: 0,
             rn: 5.,
@@ -314,6 +330,7 @@ fn readings() {
     assert_eq!(n, Ok(Answer::Bins(20)));
     let cut = changes(&Call::PreviewPolygon {
         spec,
+        stamp: STAMP,
         cells: new(spec),
         side: 0,
         excess: 0.,

@@ -1,8 +1,9 @@
 //! What generated sequences reach, and that a difference in one is found and made small.
-use compare::call::{Answer, Call, List, Outcome, Reason, Simple};
+use compare::call::{Answer, Call, List, Outcome, Reason, Simple, Stamp};
 use compare::count::Counts;
 use compare::generate::Rng;
 use compare::generate::sequence::{MOST_STEPS, sequence};
+use compare::oracle::answer;
 use compare::oracle::stock::{bar, camlib_stock, fresh};
 use compare::sequence::{AS_IT_IS, Action, Bent, Sequence, run};
 use compare::shrink::shrink;
@@ -44,10 +45,11 @@ fn no_sequence_differs_and_every_refusal_is_reached() {
     }
     assert_eq!(reached("preview"), [0, 1, 2, 3, 5, 6]);
     assert_eq!(reached("preview_polygon"), [0, 1, 2, 3, 5, 6]);
-    assert_eq!(reached("apply"), [0, 1, 2, 3, 6, 7, 8, 12, 21, 22, 23]);
+    let all = [0, 1, 2, 3, 6, 7, 8, 12, 19, 21, 22, 23];
+    assert_eq!(reached("apply"), all);
     assert_eq!(reached("changes_to"), [0, 1, 2, 3, 6]);
     assert_eq!(reached("remove_ring"), [0, 1, 2, 4, 10, 11, 12]);
-    let all = [0, 1, 2, 3, 4, 6, 7, 8, 10, 11, 12, 21, 22, 23];
+    let all = [0, 1, 2, 3, 4, 6, 7, 8, 10, 11, 12, 19, 21, 22, 23];
     assert_eq!(reached("apply_move"), all);
     assert_eq!(reached("from_parts"), [0, 1, 2, 3, 10, 11]);
     assert_eq!(reached("volume"), [0, 1, 2, 3, 4]);
@@ -63,19 +65,41 @@ fn first_other(cells: &[f64], list: &List) -> Option<usize> {
     others.position(|other| other)
 }
 
-/// Commits and moves of lists that nothing befell, on stocks that may have changed since: how many were refused with each
-/// number. With `differences` the lists of `changes_to` are among them.
-fn stale(seed: u64, differences: bool) -> BTreeMap<u32, usize> {
-    let refused = RefCell::new(BTreeMap::new());
+/// Commits and moves of lists that nothing befell, on stocks that may have changed since.
+#[derive(Default)]
+struct Seen {
+    /// How many were refused with each number.
+    refused: BTreeMap<u32, usize>,
+    /// Refused with 19, where every bin listed holds what the list says: camlib commits them.
+    held: usize,
+}
+
+/// With `differences` the lists of `changes_to` are among them. 19 is told where the stamps are not equal, and where nothing comes
+/// before it, and no other number of the list where they are not.
+fn stale(seed: u64, differences: bool) -> Seen {
+    let seen = RefCell::new(Seen::default());
     let see = |call: &Call, outcome: Outcome| {
-        let (Call::Apply { cells, list, .. } | Call::ApplyMove { cells, list, .. }) = call else {
+        let (Call::Apply {
+            stamp, cells, list, ..
+        }
+        | Call::ApplyMove {
+            stamp, cells, list, ..
+        }) = call
+        else {
             return outcome;
         };
+        let mut seen = seen.borrow_mut();
         if let Err(reason) = outcome {
-            if reason.number == 22 {
-                assert_eq!(reason.place, first_other(cells, list), "{call:?}");
+            let number = reason.number;
+            assert_eq!(number == 19, list.stamp != *stamp, "{call:?}");
+            let other = first_other(cells, list);
+            if number == 22 {
+                assert_eq!(reason.place, other, "{call:?}");
             }
-            *refused.borrow_mut().entry(reason.number).or_default() += 1;
+            seen.held += (number == 19 && other.is_none()) as usize;
+            *seen.refused.entry(number).or_default() += 1;
+        } else {
+            assert_eq!(list.stamp, *stamp, "{call:?}");
         }
         outcome
     };
@@ -86,22 +110,71 @@ fn stale(seed: u64, differences: bool) -> BTreeMap<u32, usize> {
         let end = run(&s, &see, &mut Counts::default());
         assert!(end.is_ok(), "{end:?}");
     }
-    refused.into_inner()
+    seen.into_inner()
 }
 
-/// A list that a preview proposed is refused with 22 alone where its stock is another one, at the first
-/// bin listed that holds something else; beside it only what a list has no part in. One of a
-/// difference may add material.
+/// A list that a preview proposed is refused with 19 where its stock has another stamp now, whatever
+/// its bins hold. Where the stamp is the same again, of a stock that was rebuilt or returned to, it is
+/// refused with 22 alone, at the first bin listed that holds something else; beside it only what a list
+/// has no part in. One of a difference may add material.
 #[test]
-fn a_stale_list_is_22() {
-    let numbers = |refused: &BTreeMap<u32, usize>| refused.keys().copied().collect::<Vec<_>>();
+fn a_stale_list_is_19_or_22_where_the_stamp_is_the_same_again() {
+    let numbers = |seen: &Seen| seen.refused.keys().copied().collect::<Vec<_>>();
     let previews = stale(13, false);
-    println!("of previews: {previews:?}");
-    assert_eq!(numbers(&previews), [10, 11, 12, 22]);
-    assert!(previews[&22] > 100, "{previews:?}");
+    println!(
+        "of previews: {:?}, {} held",
+        previews.refused, previews.held
+    );
+    assert_eq!(numbers(&previews), [10, 11, 12, 19, 22]);
+    assert!(previews.refused[&19] > 100 && previews.held > 100);
+    assert!(previews.refused[&22] > 10, "{:?}", previews.refused);
     let all = stale(13, true);
-    println!("and of differences: {all:?}");
-    assert_eq!(numbers(&all), [10, 11, 12, 22, 23]);
+    println!("and of differences: {:?}, {} held", all.refused, all.held);
+    assert_eq!(numbers(&all), [10, 11, 12, 19, 22, 23]);
+}
+
+/// A commit that does not ask for the edition: a preview, a rebuild of another edition and the list
+/// show it.
+#[test]
+fn a_wrong_edition_shrinks_to_a_list_of_another_edition() {
+    let wrong = |call: &Call, outcome: Outcome| match call {
+        Call::Apply { stamp, list, .. } if list.stamp.edition != stamp.edition => {
+            let mut call = call.clone();
+            let Call::Apply { list, .. } = &mut call else {
+                unreachable!()
+            };
+            list.stamp.edition = stamp.edition;
+            answer(&call)
+        }
+        _ => outcome,
+    };
+    let least = least(&wrong);
+    assert!((1..=3).contains(&least.steps.len()), "{least:?}");
+    let last = &least.steps.last().unwrap().action;
+    assert!(matches!(last, Action::Commit { .. }), "{least:?}");
+    assert_eq!((least.cells.len(), least.stamp.generation), (4, 0));
+}
+
+/// A commit that does not ask for the generation: a preview, a commit and the list again, or a list that
+/// is damaged.
+#[test]
+fn a_wrong_generation_shrinks_to_a_list_of_another_generation() {
+    let wrong = |call: &Call, outcome: Outcome| match call {
+        Call::Apply { stamp, list, .. } if list.stamp.generation != stamp.generation => {
+            let mut call = call.clone();
+            let Call::Apply { list, .. } = &mut call else {
+                unreachable!()
+            };
+            list.stamp.generation = stamp.generation;
+            answer(&call)
+        }
+        _ => outcome,
+    };
+    let least = least(&wrong);
+    assert!((1..=3).contains(&least.steps.len()), "{least:?}");
+    let last = &least.steps.last().unwrap().action;
+    assert!(matches!(last, Action::Commit { .. }), "{least:?}");
+    assert_eq!(least.cells.len(), 4, "{least:?}");
 }
 
 /// A drill of more than 2 is refused by a wrong rule: one call shows it.
@@ -123,7 +196,7 @@ fn a_wrong_refusal_shrinks_to_one_call() {
         "{least:?}"
     );
     assert_eq!((least.cells.len(), least.store.count), (4, 0), "{least:?}");
-    assert_eq!(least.generation, 0);
+    assert_eq!(least.stamp, Stamp::default());
 }
 
 /// A wrong commit leaves out the last of two changes or more: a preview and its commit show it, on
@@ -147,8 +220,8 @@ fn a_wrong_commit_shrinks_to_a_preview_and_a_commit() {
     assert_eq!(least.cells.len(), 8, "{least:?}");
 }
 
-/// A position that is one too many: a preview with its commit and that again show it, or a commit that is
-/// damaged.
+/// A position that is one too many: a preview and a commit that is damaged show it, or a list whose stamp
+/// is the same again.
 #[test]
 fn a_wrong_position_shrinks_to_a_list_that_is_stale() {
     let wrong = |call: &Call, outcome: Outcome| match (call, &outcome) {
@@ -159,7 +232,7 @@ fn a_wrong_position_shrinks_to_a_list_that_is_stale() {
         _ => outcome,
     };
     let least = least(&wrong);
-    assert!((2..=3).contains(&least.steps.len()), "{least:?}");
+    assert!((2..=5).contains(&least.steps.len()), "{least:?}");
     let last = &least.steps.last().unwrap().action;
     assert!(matches!(last, Action::Commit { .. }), "{least:?}");
     assert_eq!(least.cells.len(), 4, "{least:?}");

@@ -18,7 +18,7 @@ fn a_nose_shrinks_to_one_segment() {
     let fails = |call: &Call| match call {
         Call::Preview { rn, segments, .. } => {
             let sags = segments.as_chunks::<5>().0.iter().map(|s| s[4]);
-            let cuts = matches!(answer(call), Ok(Answer::Changes(list)) if !list.is_empty());
+            let cuts = matches!(answer(call), Ok(Answer::Changes(list, _)) if !list.is_empty());
             sags.into_iter().any(|sag| sag > *rn) && cuts
         }
         _ => false,

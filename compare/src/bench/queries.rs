@@ -1,7 +1,7 @@
 //! The rows of the table: rings, volumes, envelopes.
 use super::rows::spec;
 use super::{Table, library_side, side};
-use crate::call::{Call, List, Store};
+use crate::call::{Call, List, Stamp, Store};
 use crate::oracle::stock::{Bar, bar, camlib_spec, camlib_stock, fresh, to_camlib};
 use plain::turning::profile::Envelope;
 use plain::turning::stock::TurnStock;
@@ -71,9 +71,9 @@ pub fn rings(table: &Table) {
                 None,
                 library_side(Call::ApplyMove {
                     spec: bar.spec,
+                    stamp: Stamp::default(),
                     cells: cells.as_flattened().to_vec(),
                     store: store(&kept),
-                    generation: 0,
                     list: List::default(),
                     removed: removed.as_flattened().to_vec(),
                 }),
@@ -95,6 +95,7 @@ pub fn rings(table: &Table) {
                 None,
                 library_side(Call::FromParts {
                     spec: bar.spec,
+                    stamp: Stamp::default(),
                     cells: cells.as_flattened().to_vec(),
                     given: given.as_flattened().to_vec(),
                     rings_len: 1024,

@@ -2,7 +2,7 @@
 use super::queries::{envelopes, rings, volumes};
 use super::sides::{length_side, root_side, ruled_length};
 use super::{Table, cleared_side, library_side, side};
-use crate::call::{Call, List, Room, Simple, Spec};
+use crate::call::{Call, List, Room, Simple, Spec, Stamp};
 use crate::generate::Rng;
 use crate::generate::numbers::{parts, radicand};
 use crate::guess;
@@ -102,8 +102,8 @@ fn cells(table: &Table, bar: &Bar) {
                 None,
                 library_side(Call::Apply {
                     spec: bar.spec,
+                    stamp: Stamp::default(),
                     cells: lent(),
-                    generation: 0,
                     list: List::default(),
                 }),
             ]
@@ -115,6 +115,7 @@ fn cells(table: &Table, bar: &Bar) {
             None,
             library_side(Call::ChangesTo {
                 spec: bar.spec,
+                stamp: Stamp::default(),
                 cells: lent(),
                 after: lent(),
                 room: room(bar.n),
@@ -124,6 +125,7 @@ fn cells(table: &Table, bar: &Bar) {
     let cut = |cut: Simple| {
         library_side(Call::Cut {
             spec: bar.spec,
+            stamp: Stamp::default(),
             cells: lent(),
             cut,
             room: room(bar.n),
@@ -155,6 +157,7 @@ fn cells(table: &Table, bar: &Bar) {
                 None,
                 cleared_side(Call::Cut {
                     spec: bar.spec,
+                    stamp: Stamp::default(),
                     cells: lent(),
                     cut: Simple::ThreadCut { z0, z1, radius },
                     room: room(bar.n),
@@ -327,6 +330,7 @@ fn nose_row(
             side(1, || ruled.preview_segments(black_box(&segments), rn, with)),
             library_side(Call::Preview {
                 spec: bar.spec,
+                stamp: Stamp::default(),
                 cells: fresh(bar).as_flattened().to_vec(),
                 side: side_number,
                 rn,
@@ -365,6 +369,7 @@ fn polygons(table: &Table, bar: &Bar) {
                 None,
                 library_side(Call::PreviewPolygon {
                     spec: bar.spec,
+                    stamp: Stamp::default(),
                     cells: cells.as_flattened().to_vec(),
                     side: 0,
                     excess: 0.01,

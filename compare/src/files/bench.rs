@@ -7,6 +7,9 @@ use std::os::raw::c_long;
 
 const RUNS: usize = 41;
 
+/// The edition of the stocks that are read and written.
+pub const EDITION: u32 = 0xC0DE_0002;
+
 /// So many goes a run, since the clock counts in millionths of a second.
 const GOES: usize = 8;
 
@@ -23,13 +26,16 @@ fn read_numbers<'a, const K: usize>(fields: impl Iterator<Item = &'a str>) -> Op
 }
 
 /// A file's bar, cells and rings, as a person would read them with std alone.
-pub fn plain_read(text: &str) -> Option<([f64; 5], Vec<f64>, Vec<f64>)> {
-    let mut bar = [0.; 5];
+pub fn plain_read(text: &str) -> Option<([f64; 5], u32, Vec<f64>, Vec<f64>)> {
+    let (mut bar, mut edition) = ([0.; 5], 0);
     let (mut cells, mut rings) = (vec![], vec![]);
     for (k, line) in text.lines().enumerate() {
         let mut fields = line.split('\t');
         match fields.next()? {
-            "stock" => bar = read_numbers(fields.skip(1))?,
+            "stock" => {
+                edition = u32::from_str_radix(fields.next_back()?, 16).ok()?;
+                bar = read_numbers(fields.skip(1))?;
+            }
             "cell" => {
                 let index: usize = fields.next()?.parse().ok()?;
                 (4 * index == cells.len()).then_some(())?;
@@ -40,12 +46,12 @@ pub fn plain_read(text: &str) -> Option<([f64; 5], Vec<f64>, Vec<f64>)> {
             _ => return None,
         }
     }
-    Some((bar, cells, rings))
+    Some((bar, edition, cells, rings))
 }
 
 /// A file's text.
 pub fn plain_write(bar: &[f64; 5], cells: &[f64], rings: &[f64]) -> String {
-    let mut text = String::from("stock\t1");
+    let mut text = String::from("stock\t2");
     let put = |text: &mut String, numbers: &[f64]| {
         for x in numbers {
             write!(text, "\t{:016X}", x.to_bits()).unwrap();
@@ -53,6 +59,8 @@ pub fn plain_write(bar: &[f64; 5], cells: &[f64], rings: &[f64]) -> String {
         text.push('\n');
     };
     put(&mut text, bar);
+    text.pop();
+    writeln!(text, "\t{EDITION:08X}").unwrap();
     for (i, cell) in cells.chunks(4).enumerate() {
         write!(text, "cell\t{i:04}").unwrap();
         put(&mut text, cell);
@@ -141,6 +149,7 @@ pub fn bench() {
         assert_eq!(read(bytes, bytes.len(), &mut reading, n), 0);
         let writing = Writing {
             spec,
+            edition: EDITION,
             cells: &cells,
             store: &store,
         };

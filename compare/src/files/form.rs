@@ -1,4 +1,5 @@
-//! A stock file read and written, from the words of Req 06 of 02: lines parted by newlines, fields by tabs.
+//! A stock file read and written, from the words of Req 06 and Req 08 of 02: lines parted by newlines, fields by tabs. The form that
+//! is written has an edition; the one before it is read as of edition 0.
 use crate::call::{Reason, Spec, Store};
 use crate::oracle::stock::{Bar, bar, cells as cells_of};
 use crate::oracle::{CELLS, MOST_RINGS, rings::stored};
@@ -12,11 +13,20 @@ const MOST_CELL_LINES: usize = 10_000;
 /// What every pattern of a NaN counts as: which one the room holds is left open.
 pub const NAN: u64 = 0x7FF8_0000_0000_0000;
 
+/// What the first line says.
+#[derive(Clone, Copy, Debug, PartialEq)]
+pub struct First {
+    /// 1 or 2.
+    pub form: u64,
+    /// The five numbers, by their bits.
+    pub bar: [u64; 5],
+    pub edition: u32,
+}
+
 /// A file as far as it was read.
 #[derive(Clone, Debug, Default, PartialEq)]
 pub struct Read {
-    /// The five numbers of the first line, by their bits.
-    pub bar: Option<[u64; 5]>,
+    pub first: Option<First>,
     pub cell_lines: usize,
     pub ring_lines: usize,
     pub lines: usize,
@@ -27,14 +37,31 @@ pub struct Read {
     pub held: usize,
 }
 
-/// A number's bits, of 16 digits in capitals; not -0.0.
+/// So many digits in capitals.
+fn digits(field: &str, count: usize) -> Option<u64> {
+    let capitals = field.chars().all(|c| matches!(c, '0'..='9' | 'A'..='F'));
+    let read = (field.len() == count && capitals).then(|| u64::from_str_radix(field, 16));
+    read?.ok()
+}
+
+/// A number's bits; not -0.0.
 fn number(field: &str) -> Option<u64> {
-    let digits = field.len() == 16 && field.chars().all(|c| matches!(c, '0'..='9' | 'A'..='F'));
-    let bits = digits.then(|| u64::from_str_radix(field, 16).ok())??;
+    let bits = digits(field, 16)?;
     match f64::from_bits(bits) {
         x if x.is_nan() => Some(NAN),
         _ => (bits != 1 << 63).then_some(bits),
     }
+}
+
+/// The first line: form 1 has seven fields and is of edition 0, form 2 has eight.
+fn first(fields: &[&str]) -> Option<First> {
+    let (form, edition) = match fields {
+        ["stock", "1", _, _, _, _, _] => (1, 0),
+        ["stock", "2", _, _, _, _, _, edition] => (2, digits(edition, 8)? as u32),
+        _ => return None,
+    };
+    let bar = numbers(&fields[2..7])?;
+    Some(First { form, bar, edition })
 }
 
 fn numbers<const K: usize>(fields: &[&str]) -> Option<[u64; K]> {
@@ -53,11 +80,9 @@ impl Read {
     /// One line more; none where it is not of the form.
     fn line(&mut self, line: &str, cells: &mut [u64], rings: &mut [u64]) -> Option<()> {
         let fields: Vec<&str> = line.split('\t').collect();
-        match (self.bar, fields[0]) {
+        match (self.first, fields[0]) {
             _ if self.ended => return None,
-            (None, "stock") if fields.get(1) == Some(&"1") => {
-                self.bar = Some(numbers(&fields[2..])?);
-            }
+            (None, _) => self.first = Some(first(&fields)?),
             (Some(_), "cell") if self.ring_lines == 0 && self.cell_lines < MOST_CELL_LINES => {
                 let index = format!("{:04}", self.cell_lines);
                 (*fields.get(1)? == index).then_some(())?;
@@ -100,7 +125,7 @@ impl Read {
         read
     }
 
-    /// The stock at the end of the bytes: 16 with its line, 1, 2, 3, 4.
+    /// The bar at the end of the bytes, where the stock is accepted: 16 with its line, 1, 2, 3, 4.
     pub fn end(&self, most: usize, cells: &[u64], rings: &[u64]) -> Result<Bar, Reason> {
         if let Some(line) = self.refused {
             return Err(Reason::at(MALFORMED, line));
@@ -110,7 +135,8 @@ impl Read {
         }
         let floats =
             |words: &[u64]| -> Vec<f64> { words.iter().map(|w| f64::from_bits(*w)).collect() };
-        let [z_min, z_max, outer, bore, cell] = self.bar.unwrap().map(f64::from_bits);
+        let first = self.first.expect("a file that ended has a first line");
+        let [z_min, z_max, outer, bore, cell] = first.bar.map(f64::from_bits);
         let spec = Spec {
             z_min,
             z_max,
@@ -139,12 +165,18 @@ fn fields(numbers: &[f64]) -> String {
 }
 
 /// The lines of a stock's file, each with its newline.
-pub fn lines(spec: &Spec, cells: &[[f64; 4]], rings: &[[f64; 4]]) -> Vec<String> {
+pub fn lines(spec: &Spec, edition: u32, cells: &[[f64; 4]], rings: &[[f64; 4]]) -> Vec<String> {
     let bar = [spec.z_min, spec.z_max, spec.outer, spec.bore, spec.cell].map(|x| x + 0.);
-    let mut lines = vec![format!("stock\t1{}\n", fields(&bar))];
+    let mut lines = vec![format!("stock\t2{}\t{edition:08X}\n", fields(&bar))];
     let cell = |(i, c): (usize, &[f64; 4])| format!("cell\t{i:04}{}\n", fields(c));
     lines.extend(cells.iter().enumerate().map(cell));
     lines.extend(rings.iter().map(|r| format!("ring{}\n", fields(r))));
     lines.push(format!("end\t{}\n", lines.len()));
     lines
+}
+
+/// The same stock's first line in the form before, which has no edition.
+pub fn in_form_1(first: &str) -> String {
+    let fields: Vec<&str> = first.trim_end().split('\t').collect();
+    format!("stock\t1\t{}\n", fields[2..7].join("\t"))
 }

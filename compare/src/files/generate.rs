@@ -12,6 +12,7 @@ use crate::sequence::left_by;
 #[derive(Clone, Debug)]
 pub struct Stock {
     pub spec: Spec,
+    pub edition: u32,
     pub cells: Vec<[f64; 4]>,
     pub rings: Vec<[f64; 4]>,
 }
@@ -26,9 +27,10 @@ pub fn stock(rng: &mut Rng) -> Stock {
         if sequence.cells.len() > 4 * FEW && !rng.once_in(50) {
             continue;
         }
-        let (spec, cells, store) = left_by(&sequence);
+        let (spec, stamp, cells, store) = left_by(&sequence);
         return Stock {
             spec,
+            edition: stamp.edition,
             cells: cells.as_chunks::<4>().0.to_vec(),
             rings: store.rings.as_chunks::<4>().0[..store.count].to_vec(),
         };
@@ -89,6 +91,39 @@ const DIGITS: [&str; 12] = [
 
 const BYTES: &[u8] = b"\t\t\n\n\r 019AFGaf:@/-\0\x7F\x80\xFF";
 
+/// Another first line: its form and its edition do not belong together, or are none.
+fn bend_first(rng: &mut Rng, first: &mut String) {
+    let mut fields: Vec<String> = first.trim_end().split('\t').map(String::from).collect();
+    let form = rng.pick(&[
+        "0", "1", "1", "2", "3", "", "01", "02", "12", "1 ", " 2", "2.0", "x",
+    ]);
+    let last = fields.pop().unwrap_or_default();
+    match rng.below(8) {
+        // without an edition, or with the form changed and the edition kept
+        0 => {}
+        1 => {
+            fields[1] = form.into();
+            fields.push(last);
+        }
+        2 => fields[1] = form.into(),
+        3 => fields.push(last[1..].into()),
+        4 => fields.push(format!("{}{last}", rng.pick(&["0", "F", " ", "+"]))),
+        5 => {
+            let digit = rng.pick(&["a", "f", "G", "g", "/", ":", "@", "`", " ", "+", "-"]);
+            let at = rng.below(8);
+            let mut edition = last;
+            edition.replace_range(at..at + 1, digit);
+            fields.push(edition);
+        }
+        6 => fields.extend([last.clone(), rng.pick(&["", "00000000", "2"]).into()]),
+        _ => {
+            let at = 1 + rng.below(6);
+            fields.insert(at, last);
+        }
+    }
+    *first = fields.join("\t") + "\n";
+}
+
 /// Damages a line: its fields, or where it stands.
 fn bend_lines(rng: &mut Rng, lines: &mut Vec<String>) {
     let at = rng.below(lines.len());
@@ -138,7 +173,12 @@ fn bend_bytes(rng: &mut Rng, bytes: &mut Vec<u8>) {
 
 /// A file of a stock, as it stands or damaged.
 pub fn file(rng: &mut Rng, stock: &Stock) -> Vec<u8> {
-    let mut lines = form::lines(&stock.spec, &stock.cells, &stock.rings);
+    let mut lines = form::lines(&stock.spec, stock.edition, &stock.cells, &stock.rings);
+    match rng.below(16) {
+        0..3 => lines[0] = form::in_form_1(&lines[0]),
+        3 => bend_first(rng, &mut lines[0]),
+        _ => {}
+    }
     if rng.once_in(4) {
         bend_lines(rng, &mut lines);
     }

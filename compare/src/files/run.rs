@@ -1,5 +1,5 @@
 //! Stock files read and written by the C calls, in memory that is full of patterns.
-use super::form::{NAN, Read, lines};
+use super::form::{NAN, Read, in_form_1, lines};
 use super::generate::{Stock, bend, file, stock};
 use crate::call::{Reason, Spec, Store};
 use crate::count::Counts;
@@ -89,10 +89,11 @@ impl Reading {
         }
     }
 
-    /// What the end tells: the number, and n, the rings and the line, each where it was written.
-    pub fn end(&self, most: usize) -> (u32, [Option<usize>; 3]) {
-        let mut told = [PATTERN as usize; 3];
-        let [n, rings_count, line] = &mut told;
+    /// What the end tells: the number, and n, the rings, the edition and the line, each where it was
+    /// written. Of the edition's word the upper half stays.
+    pub fn end(&self, most: usize) -> (u32, [Option<usize>; 4]) {
+        let mut told = [PATTERN as usize; 4];
+        let [n, rings_count, edition, line] = &mut told;
         // SAFETY: as above.
         let code = unsafe {
             turning_read_end(
@@ -105,21 +106,29 @@ impl Reading {
                 self.rings.list().len(),
                 n,
                 rings_count,
+                (edition as *mut usize).cast(),
                 line,
             )
         };
-        (code, told.map(|t| (t != PATTERN as usize).then_some(t)))
+        let mut said = told.map(|t| (t != PATTERN as usize).then_some(t));
+        if code == 0 {
+            // it may be the pattern's own half
+            assert_eq!(told[2] >> 32, PATTERN as usize >> 32);
+            said[2] = Some(told[2] & u32::MAX as usize);
+        }
+        (code, said)
     }
 
     /// Where the words lent are other than those of the file read by its form.
     fn unlike(&self, read: &Read, cells: &Room, rings: &Room) -> Option<&'static str> {
-        let stage = match read.bar {
+        let stage = match read.first {
             None => 0,
             Some(_) => 1 + read.ended as u64,
         };
+        let [form, edition] = (read.first).map_or([0; 2], |f| [f.form, f.edition as u64]);
         let refused = if read.refused.is_some() { 16 } else { 0 };
         let nan = |bits: u64| f64::from_bits(bits).is_nan();
-        let bar = read.bar.unwrap_or(self.bar);
+        let bar = read.first.map_or(self.bar, |f| f.bar);
         let other_bar = (0..5).any(|k| self.bar[k] != bar[k] && !(nan(self.bar[k]) && nan(bar[k])));
         let line = read.lines + read.refused.is_some() as usize;
         let wanted = [
@@ -132,8 +141,8 @@ impl Reading {
             _ if self.state[..4] != wanted => Some("state"),
             _ if self.state[4] != read.held as u64 && refused == 0 => Some("held"),
             _ if self.state[5] != refused => Some("refused"),
-            _ if self.state[6] != read.bar.is_some() as u64 => Some("form"),
-            _ if self.state[7] != 0 => Some("spare"),
+            _ if self.state[6] != form => Some("form"),
+            _ if self.state[7] != edition => Some("edition"),
             _ if other_bar => Some("bar"),
             _ if !self.cells.is(cells) => Some("cells"),
             _ if !self.rings.is(rings) => Some("rings"),
@@ -177,8 +186,11 @@ fn read_unlike(
     let before = reading.clone();
     let (code, told) = reading.end(most);
     let wanted = match &end {
-        Ok(bar) => (0, [Some(bar.n), Some(read.ring_lines), None]),
-        Err(Reason { number, place }) => (*number, [None, None, *place]),
+        Ok(bar) => {
+            let edition = read.first.map(|f| f.edition as usize);
+            (0, [Some(bar.n), Some(read.ring_lines), edition, None])
+        }
+        Err(Reason { number, place }) => (*number, [None, None, None, *place]),
     };
     let number = wanted.0;
     if (code, told) != wanted {
@@ -199,6 +211,7 @@ fn read_unlike(
         let [cells, rings] = [&reading.cells, &reading.rings].map(floats);
         kept(
             &bar.spec,
+            &read,
             &cells[..4 * bar.n],
             &rings[..4 * read.ring_lines],
             bytes,
@@ -211,23 +224,26 @@ fn floats(room: &Room) -> Vec<f64> {
     room.list().iter().map(|w| f64::from_bits(*w)).collect()
 }
 
-/// An accepted stock goes through camlib's `from_parts`, which keeps its cells and its rings; its file is the one that was read.
-fn kept(spec: &Spec, cells: &[f64], rings: &[f64], bytes: &[u8]) {
+/// An accepted stock goes through camlib's `from_parts`, which keeps its cells and its rings; its file is the one that was read, or
+/// has the same first line in the form before.
+fn kept(spec: &Spec, read: &Read, cells: &[f64], rings: &[f64], bytes: &[u8]) {
     let bar = bar(spec).expect("an accepted file has an accepted bar");
     let [cells, rings] = [cells, rings].map(|list| list.as_chunks::<4>().0);
     let stock = camlib_stock(&bar, cells, rings);
     let kept: Vec<[f64; 4]> = stock.cells().iter().map(from_camlib).collect();
     assert_eq!(kept, cells, "camlib keeps the cells of a file");
-    assert_eq!(
-        lines(spec, cells, rings).concat().as_bytes(),
-        bytes,
-        "one file for each stock"
-    );
+    let first = read.first.expect("an accepted file has a first line");
+    let mut file = lines(spec, first.edition, cells, rings);
+    if first.form == 1 {
+        file[0] = in_form_1(&file[0]);
+    }
+    assert_eq!(file.concat().as_bytes(), bytes, "one file for each stock");
 }
 
 /// A stock's lines by the calls.
 pub struct Writing<'a> {
     pub spec: Spec,
+    pub edition: u32,
     pub cells: &'a [f64],
     pub store: &'a Store,
 }
@@ -284,6 +300,7 @@ impl Writing<'_> {
                 bore,
                 cell,
                 max_cells,
+                self.edition,
                 self.cells.as_ptr(),
                 self.cells.len(),
                 self.store.rings.as_ptr(),
@@ -333,7 +350,7 @@ impl Writing<'_> {
         let (cells, _) = self.cells.as_chunks::<4>();
         let (rings, _) = self.store.rings.as_chunks::<4>();
         let file = match cheap {
-            0 => lines(&self.spec, cells, &rings[..self.store.count]),
+            0 => lines(&self.spec, self.edition, cells, &rings[..self.store.count]),
             _ => vec![],
         };
         let count = (whole == 0).then_some(file.len());
@@ -449,6 +466,7 @@ impl Source for Files {
             let cells = &flat[..flat.len() - self.rng.once_in(16) as usize * flat.len().min(1)];
             let writing = Writing {
                 spec: stock.spec,
+                edition: stock.edition,
                 cells,
                 store: &store,
             };
@@ -479,6 +497,7 @@ pub fn stack(count: usize, seed: u64) -> Vec<(&'static str, usize)> {
         };
         let writing = Writing {
             spec: stock.spec,
+            edition: stock.edition,
             cells: stock.cells.as_flattened(),
             store: &store,
         };

@@ -1,8 +1,8 @@
-//! Change lists: the room that is lent for one, its commit, the difference of two stocks.
+//! Change lists: the room that is lent for one, its stamp, its commit, the difference of two stocks.
 use super::Rng;
 use super::numbers::{any, outside};
 use super::stock::{base, damaged_cells, damaged_spec, good_cells, some_cut};
-use crate::call::{Answer, Call, Change, List, Room};
+use crate::call::{Answer, Call, Change, List, Room, Stamp};
 use crate::oracle::answer;
 use crate::oracle::stock::Bar;
 
@@ -25,7 +25,7 @@ fn room_for(rng: &mut Rng, changes: usize) -> Room {
 /// Gives the call room: for every cell, for exactly its changes, or for one fewer.
 pub fn with_room(rng: &mut Rng, mut call: Call, n: usize) -> Call {
     let found = match answer(&call) {
-        Ok(Answer::Changes(changes)) => changes.len(),
+        Ok(Answer::Changes(changes, _)) => changes.len(),
         _ => 0,
     };
     let given = match rng.below(6) {
@@ -65,6 +65,7 @@ pub fn changes_to(rng: &mut Rng) -> Call {
     }
     let call = Call::ChangesTo {
         spec: damaged_spec(rng, &base),
+        stamp: stamp(rng),
         cells: damaged_cells(rng, &base, &cells),
         after: damaged_cells(rng, &base, &after),
         room: plenty(base.n),
@@ -76,13 +77,13 @@ pub fn changes_to(rng: &mut Rng) -> Call {
 pub fn some_changes(rng: &mut Rng, base: &Bar, cells: &[[f64; 4]]) -> Vec<Change> {
     let call = some_cut(rng, base, cells.as_flattened().to_vec());
     match answer(&call) {
-        Ok(Answer::Changes(changes)) => changes,
+        Ok(Answer::Changes(changes, _)) => changes,
         _ => vec![],
     }
 }
 
-/// A change list as lent, now and then damaged.
-pub fn damaged_changes(rng: &mut Rng, base: &Bar, mut changes: Vec<Change>) -> List {
+/// A change list as lent for the stock of the stamp, now and then damaged.
+pub fn damaged_changes(rng: &mut Rng, base: &Bar, mut changes: Vec<Change>, of: Stamp) -> List {
     match rng.below(10) {
         0 => faults(rng, base, &mut changes),
         _ => (0..rng.below(3)).for_each(|_| damage(rng, base, &mut changes)),
@@ -95,6 +96,7 @@ pub fn damaged_changes(rng: &mut Rng, base: &Bar, mut changes: Vec<Change>) -> L
             .flatten()
             .collect(),
         changes: changes.len(),
+        stamp: spoiled(rng, of),
     };
     if rng.once_in(4) {
         // More is lent than is used.
@@ -196,24 +198,77 @@ fn damage(rng: &mut Rng, base: &Bar, changes: &mut [Change]) {
     }
 }
 
-/// A generation, now and then about to pass its end.
+/// A generation, now and then about to pass its end, or the first.
 pub fn generation(rng: &mut Rng) -> u64 {
     match rng.below(16) {
         0 => u64::MAX,
         1 => u64::MAX - rng.below(6) as u64,
         2 => rng.word(),
+        3 | 4 => 0,
         _ => rng.below(1000) as u64,
     }
+}
+
+/// An edition: the first, the last, a small one or any.
+pub fn edition(rng: &mut Rng) -> u32 {
+    match rng.below(4) {
+        0 => 0,
+        1 => u32::MAX,
+        2 => rng.below(4) as u32,
+        _ => rng.word() as u32,
+    }
+}
+
+pub fn stamp(rng: &mut Rng) -> Stamp {
+    Stamp {
+        edition: edition(rng),
+        generation: generation(rng),
+    }
+}
+
+/// A list's stamp: that of the stock, and once in five another one.
+pub fn spoiled(rng: &mut Rng, of: Stamp) -> Stamp {
+    if rng.once_in(5) { other(rng, of) } else { of }
+}
+
+/// A stamp beside another one: the edition, the generation or both are not its.
+pub fn other(rng: &mut Rng, of: Stamp) -> Stamp {
+    let mut list = of;
+    let which = 1 + rng.below(3);
+    if which & 1 != 0 {
+        list.edition = match rng.below(4) {
+            0 => of.edition.wrapping_sub(1),
+            1 => of.edition.wrapping_add(1),
+            2 => of.edition ^ 1 << rng.below(32),
+            _ => edition(rng),
+        };
+    }
+    if which & 2 != 0 {
+        list.generation = match rng.below(6) {
+            // as a list has it that is kept over one commit, or over some
+            0 => of.generation.wrapping_sub(1),
+            1 => of.generation.wrapping_sub(1 + rng.below(9) as u64),
+            2 => of.generation.wrapping_add(1),
+            3 => of.generation ^ 1 << rng.below(64),
+            4 => of.generation & u32::MAX as u64,
+            _ => generation(rng),
+        };
+    }
+    if list == of {
+        list.generation ^= 1;
+    }
+    list
 }
 
 pub fn apply(rng: &mut Rng) -> Call {
     let base = base(rng);
     let cells = good_cells(rng, &base);
     let changes = some_changes(rng, &base, &cells);
+    let stamp = stamp(rng);
     Call::Apply {
         spec: damaged_spec(rng, &base),
+        stamp,
         cells: damaged_cells(rng, &base, &cells),
-        generation: generation(rng),
-        list: damaged_changes(rng, &base, changes),
+        list: damaged_changes(rng, &base, changes, stamp),
     }
 }

@@ -1,6 +1,6 @@
 //! Threads, drills, noses, polygons.
 use super::Rng;
-use super::changes::{plenty, with_room};
+use super::changes::{plenty, stamp, with_room};
 use super::numbers::{damaged, edge, outside, turning_point};
 use super::stock::{base, damaged_cells, damaged_spec, good_cells, r_near, z_near};
 use crate::call::{Call, Simple};
@@ -16,6 +16,7 @@ fn cut_call(rng: &mut Rng, make: impl Fn(&mut Rng, &Bar) -> Simple) -> Call {
     let call = Call::Cut {
         cut: make(rng, &base),
         spec: damaged_spec(rng, &base),
+        stamp: stamp(rng),
         cells: damaged_cells(rng, &base, &cells),
         room: plenty(base.n),
     };
@@ -222,6 +223,7 @@ fn nose_along(rng: &mut Rng, once_in: usize) -> Call {
     let segments = path(rng, &base, rn, once_in);
     let call = Call::Preview {
         spec: damaged_spec(rng, &base),
+        stamp: stamp(rng),
         cells: damaged_cells(rng, &base, &cells),
         side: side(rng),
         rn: damaged(rng, rn),
@@ -286,6 +288,7 @@ pub fn polygon(rng: &mut Rng) -> Call {
     let excess = polygon_excess(rng);
     let call = Call::PreviewPolygon {
         spec: damaged_spec(rng, &base),
+        stamp: stamp(rng),
         cells: damaged_cells(rng, &base, &cells),
         side: side(rng),
         excess: damaged(rng, excess),

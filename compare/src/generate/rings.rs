@@ -1,9 +1,9 @@
 //! Stores of rings, moves, parts, volumes.
 use super::Rng;
-use super::changes::{damaged_changes, generation, some_changes};
+use super::changes::{damaged_changes, generation, some_changes, stamp};
 use super::numbers::{any, edge, outside};
 use super::stock::{base, damaged_cells, damaged_spec, good_cells, r_near, z_near};
-use crate::call::{Answer, Call, Store};
+use crate::call::{Answer, Call, Stamp, Store};
 use crate::oracle::rings::stored;
 use crate::oracle::stock::{Bar, fresh};
 use crate::oracle::{MOST_RINGS, answer};
@@ -82,6 +82,7 @@ fn disjoint(base: &Bar, given: Vec<Ring>) -> Vec<Ring> {
     loop {
         let call = Call::FromParts {
             spec: base.spec,
+            stamp: Stamp::default(),
             cells: fresh(base).as_flattened().to_vec(),
             given: given.as_flattened().to_vec(),
             rings_len: 4 * MOST_RINGS,
@@ -290,12 +291,13 @@ pub fn apply_move(rng: &mut Rng) -> Call {
         removed.extend(vec![removed[0]; 254 + rng.below(5)]);
     }
     let more = added(&base, &rings, &removed);
+    let stamp = stamp(rng);
     Call::ApplyMove {
         spec: damaged_spec(rng, &base),
+        stamp,
         cells: damaged_cells(rng, &base, &cells),
         store: damaged_store(rng, &base, &rings, more),
-        generation: generation(rng),
-        list: damaged_changes(rng, &base, changes),
+        list: damaged_changes(rng, &base, changes, stamp),
         removed: damaged_rings(rng, removed),
     }
 }
@@ -324,6 +326,7 @@ pub fn from_parts(rng: &mut Rng) -> Call {
     };
     Call::FromParts {
         spec: damaged_spec(rng, &base),
+        stamp: stamp(rng),
         cells: damaged_cells(rng, &base, &cells),
         given: damaged_rings(rng, given),
         rings_len: 4 * room + rng.below(4),

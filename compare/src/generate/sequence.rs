@@ -1,13 +1,13 @@
 //! Sequences of calls on one stock.
 use super::Rng;
-use super::changes::generation;
+use super::changes::{edition, other, stamp};
 use super::cuts::{damaged_list, drill_cut, nose_radius, polygon_excess};
 use super::cuts::{polygon_points, segments, side, thread_numbers};
 use super::numbers::{any, damaged, edge, outside};
 use super::rings::{about_the_limit, damaged_rings, few_stored, limit_stored, nonempty};
 use super::rings::{far_edge, ring, side_by_side};
 use super::stock::{base, damaged_spec, good_cells, z_near};
-use crate::call::{Room, Simple, Store};
+use crate::call::{Room, Simple, Stamp, Store};
 use crate::oracle::MOST_RINGS;
 use crate::oracle::stock::{Bar, fresh};
 use crate::sequence::{Action, Damage, Sequence, Step};
@@ -18,6 +18,8 @@ pub const MOST_STEPS: usize = 40;
 /// What the steps of a sequence are made from.
 struct Maker {
     base: Bar,
+    /// The stamp at the start.
+    stamp: Stamp,
     /// Rings that were used before, to meet again.
     used: Vec<[f64; 4]>,
     steps: Vec<Step>,
@@ -39,6 +41,7 @@ pub fn sequence(rng: &mut Rng) -> Sequence {
     used.push(next);
     let mut maker = Maker {
         base,
+        stamp: stamp(rng),
         used,
         steps: vec![],
     };
@@ -55,9 +58,9 @@ pub fn sequence(rng: &mut Rng) -> Sequence {
     maker.steps.truncate(MOST_STEPS);
     Sequence {
         spec: base.spec,
+        stamp: maker.stamp,
         cells: cells.as_flattened().to_vec(),
         store: store(rng, &rings),
-        generation: generation(rng),
         steps: maker.steps,
     }
 }
@@ -83,12 +86,16 @@ fn store(rng: &mut Rng, rings: &[[f64; 4]]) -> Store {
 impl Maker {
     /// One more step; now and then its call is damaged.
     fn step(&mut self, rng: &mut Rng, action: Action) {
-        let damage = rng.once_in(12).then(|| damage(rng, &self.base, &action));
+        let damage = rng.once_in(12).then(|| self.damage(rng, &action));
         self.steps.push(Step { action, damage });
     }
 
-    /// A call, and after a preview as a rule its commit.
+    /// A call, and after a preview as a rule its commit. A difference from an earlier stock is one for
+    /// that stock, so that before its commit the stock is as a rule again that one.
     fn some_steps(&mut self, rng: &mut Rng) {
+        if rng.once_in(30) {
+            return self.kept_over_a_rebuild(rng);
+        }
         let action = match rng.below(32) {
             0..5 => self.nose(rng),
             5..7 => self.polygon(rng),
@@ -114,17 +121,52 @@ impl Maker {
         };
         let commits = match action {
             Action::Nose { .. } | Action::Polygon { .. } | Action::Cut(_) => !rng.once_in(4),
-            Action::Difference { .. } => rng.once_in(3),
+            Action::Difference { .. } => rng.once_in(2),
             _ => false,
+        };
+        let first = match action {
+            Action::Difference {
+                back,
+                from_now: false,
+            } if !rng.once_in(4) => Some(back),
+            _ => None,
         };
         self.step(rng, action);
         if commits {
+            if let Some(back) = first {
+                self.step(rng, Action::Return { back });
+            }
             let commit = match rng.below(4) {
                 0 => self.moved(rng, 0),
                 _ => Action::Commit { back: 0 },
             };
             self.step(rng, commit);
         }
+    }
+
+    /// Two cuts of a rebuilt stock are previewed, the second is committed, and the stock is rebuilt: the
+    /// first list, kept, has the stock's stamp again, but where the edition is another one.
+    fn kept_over_a_rebuild(&mut self, rng: &mut Rng) {
+        let again = Action::Rebuild {
+            more: vec![],
+            edition: None,
+        };
+        self.step(rng, again.clone());
+        for _ in 0..2 {
+            let cut = Action::Cut(self.simple(rng));
+            self.step(rng, cut);
+        }
+        self.step(rng, Action::Commit { back: 0 });
+        let rebuilt = match rng.below(4) {
+            0 => self.rebuild(rng),
+            _ => again,
+        };
+        self.step(rng, rebuilt);
+        let kept = match rng.below(4) {
+            0 => self.moved(rng, 1),
+            _ => Action::Commit { back: 1 },
+        };
+        self.step(rng, kept);
     }
 
     fn nose(&self, rng: &mut Rng) -> Action {
@@ -199,25 +241,30 @@ impl Maker {
     fn rebuild(&mut self, rng: &mut Rng) -> Action {
         Action::Rebuild {
             more: self.rings(rng),
+            edition: rng.once_in(3).then(|| edition(rng)),
         }
+    }
+
+    fn damage(&self, rng: &mut Rng, action: &Action) -> Damage {
+        damage(rng, &self.base, self.stamp, action)
     }
 }
 
 /// The kinds of damage that can befall the action's call, as `damage` numbers them.
 fn kinds(action: &Action) -> &'static [usize] {
     match action {
-        Action::Nose { .. } | Action::Polygon { .. } | Action::Cut(_) => &[0, 1, 2, 3, 3],
-        Action::Difference { .. } => &[0, 1, 2, 3, 3],
-        Action::Commit { .. } => &[0, 1, 2, 4, 4, 5, 5, 6, 10],
-        Action::Move { .. } => &[0, 1, 2, 4, 4, 5, 6, 7, 8, 9, 10],
-        Action::Ring(_) => &[0, 7, 7, 8, 9, 10],
-        Action::Rebuild { .. } => &[0, 1, 2, 9],
+        Action::Nose { .. } | Action::Polygon { .. } | Action::Cut(_) => &[0, 1, 2, 3, 3, 10],
+        Action::Difference { .. } => &[0, 1, 2, 3, 3, 10],
+        Action::Commit { .. } => &[0, 1, 2, 4, 4, 5, 5, 6, 10, 11, 12],
+        Action::Move { .. } => &[0, 1, 2, 4, 4, 5, 6, 7, 8, 9, 10, 11, 12],
+        Action::Ring(_) => &[0, 7, 7, 8, 9, 12],
+        Action::Rebuild { .. } => &[0, 1, 2, 9, 10],
         Action::Volume => &[0, 1, 2, 7, 8, 9],
         Action::EnvelopeAt(_) | Action::Return { .. } => &[0, 1, 2],
     }
 }
 
-fn damage(rng: &mut Rng, base: &Bar, action: &Action) -> Damage {
+fn damage(rng: &mut Rng, base: &Bar, start: Stamp, action: &Action) -> Damage {
     let edges = [
         -0.,
         f64::NAN,
@@ -256,6 +303,11 @@ fn damage(rng: &mut Rng, base: &Bar, action: &Action) -> Damage {
         },
         8 => Damage::Count(rng.pick(&[0, 1, MOST_RINGS + 1, usize::MAX, 1 << 62])),
         9 => Damage::Rings(rng.below(40)),
-        _ => Damage::Generation(u64::MAX - rng.below(3) as u64),
+        10 => Damage::Stamp(other(rng, start)),
+        11 => Damage::Listed(other(rng, start)),
+        _ => Damage::Both(Stamp {
+            edition: edition(rng),
+            generation: u64::MAX - rng.below(3) as u64,
+        }),
     }
 }

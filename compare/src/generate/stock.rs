@@ -1,7 +1,8 @@
 //! Bars, cells, and places on a bar.
 use super::Rng;
+use super::changes::stamp;
 use super::numbers::{any, damaged, edge, outside};
-use crate::call::{Answer, Call, Room, Simple, Spec};
+use crate::call::{Answer, Call, Room, Simple, Spec, Stamp};
 use crate::oracle::stock::{Bar, bar, fresh};
 use crate::oracle::{MOST_CELLS, answer};
 
@@ -224,7 +225,7 @@ pub fn good_cells(rng: &mut Rng, base: &Bar) -> Vec<[f64; 4]> {
 
 fn after_some_cut(rng: &mut Rng, base: &Bar, mut cells: Vec<[f64; 4]>) -> Vec<[f64; 4]> {
     let call = some_cut(rng, base, cells.as_flattened().to_vec());
-    if let Ok(Answer::Changes(changes)) = answer(&call) {
+    if let Ok(Answer::Changes(changes, _)) = answer(&call) {
         for c in changes {
             cells[c.index] = c.after;
         }
@@ -234,7 +235,7 @@ fn after_some_cut(rng: &mut Rng, base: &Bar, mut cells: Vec<[f64; 4]>) -> Vec<[f
 
 /// A cut of the bar with room for every cell.
 pub fn some_cut(rng: &mut Rng, base: &Bar, cells: Vec<f64>) -> Call {
-    let spec = base.spec;
+    let (spec, stamp) = (base.spec, Stamp::default());
     let room = Room {
         indices: base.n,
         records: 8 * base.n,
@@ -244,6 +245,7 @@ pub fn some_cut(rng: &mut Rng, base: &Bar, cells: Vec<f64>) -> Call {
     match rng.below(4) {
         0 => Call::Cut {
             spec,
+            stamp,
             cells,
             cut: Simple::Drill {
                 tip_z: z,
@@ -254,6 +256,7 @@ pub fn some_cut(rng: &mut Rng, base: &Bar, cells: Vec<f64>) -> Call {
         },
         1 => Call::Cut {
             spec,
+            stamp,
             cells,
             cut: Simple::ThreadCut {
                 z0: z,
@@ -264,6 +267,7 @@ pub fn some_cut(rng: &mut Rng, base: &Bar, cells: Vec<f64>) -> Call {
         },
         side => Call::Preview {
             spec,
+            stamp,
             cells,
             side: side as u32 % 2,
             rn: rng.written(0., 5.),
@@ -309,6 +313,7 @@ pub fn stock_call(rng: &mut Rng) -> Call {
         },
         _ => Call::New {
             spec,
+            stamp: stamp(rng),
             cells_len: match rng.below(10) {
                 0 => rng.pick(&[0, base.n, 4 * base.n - 1, 4 * base.n + 1, 4 * base.n + 4]),
                 _ => 4 * base.n,

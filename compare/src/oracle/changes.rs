@@ -2,8 +2,18 @@
 use super::stock::{
     Bar, bar, camlib_stock, cells, change_from_camlib, change_to_camlib, fits, from_camlib,
 };
-use super::{ADDS, AFTER, GENERATION, HOLDS_OTHER, NO_BIN, RISING, ROOM, demand, demand_at};
-use crate::call::{Answer, Change, List, Outcome, Reason, Room, Spec};
+use super::{ADDS, AFTER, GENERATION, HOLDS_OTHER, NO_BIN, RISING, ROOM, STALE, demand, demand_at};
+use crate::call::{Answer, Change, List, Outcome, Reason, Room, Spec, Stamp};
+
+/// 19: the list carries the stock's two numbers.
+pub fn of_this_stock(stamp: Stamp, list: &List) -> Result<(), Reason> {
+    let Stamp {
+        edition,
+        generation,
+    } = list.stamp;
+    demand(edition == stamp.edition, STALE)?;
+    demand(generation == stamp.generation, STALE)
+}
 
 /// 6: no more changes than are lent.
 pub fn lent_changes(list: &List) -> Result<Vec<Change>, Reason> {
@@ -39,13 +49,14 @@ pub fn acceptable(bar: &Bar, cells: &[[f64; 4]], changes: &[Change]) -> Result<(
     Ok(())
 }
 
-/// 1, 2, 3, 6, 7, 8/21/22/23, 12.
-pub fn apply(spec: &Spec, lent: &[f64], generation: u64, list: &List) -> Outcome {
+/// 1, 2, 3, 19, 6, 7, 8/21/22/23, 12.
+pub fn apply(spec: &Spec, stamp: Stamp, lent: &[f64], list: &List) -> Outcome {
     let bar = bar(spec)?;
     let cells = cells(&bar, lent)?;
+    of_this_stock(stamp, list)?;
     let changes = lent_changes(list)?;
     acceptable(&bar, &cells, &changes)?;
-    demand(generation < u64::MAX, GENERATION)?;
+    demand(stamp.generation < u64::MAX, GENERATION)?;
     let mut stock = camlib_stock(&bar, &cells, &[]);
     let changes: Vec<_> = changes.iter().map(change_to_camlib).collect();
     stock.apply(&changes).unwrap();
@@ -53,7 +64,7 @@ pub fn apply(spec: &Spec, lent: &[f64], generation: u64, list: &List) -> Outcome
     Ok(Answer::Stock(
         cells,
         vec![],
-        generation + stock.generation(),
+        stamp.generation + stock.generation(),
     ))
 }
 

@@ -2,8 +2,8 @@
 //!
 //! The answers come from camlib unchanged, but for nose cuts, which come from camlib with 01's length,
 //! and for `within` and the order, which unchanged camlib keeps to itself. What 01 says and camlib
-//! does not, stands here: the limits, the domain, the order of refusals, and that -0.0 is read as
-//! +0.0 and never stored. An envelope's radius has a second oracle, `full_look`, over all segments.
+//! does not, stands here: the limits, the domain, the order of refusals, the stamps of stocks and of
+//! lists, and that -0.0 is read as +0.0 and never stored. An envelope's radius has a second oracle, `full_look`, over all segments.
 mod changes;
 pub mod cuts;
 mod envelope;
@@ -16,7 +16,7 @@ pub mod ranges;
 pub mod rings;
 pub mod stock;
 
-use crate::call::{Answer, Call, Outcome, Reason};
+use crate::call::{Answer, Call, Change, Outcome, Reason, Stamp};
 
 /// The refusal numbers of document 01, and of the requests after it.
 pub const SPEC: u32 = 1;
@@ -33,6 +33,7 @@ pub const GENERATION: u32 = 12;
 pub const ENVELOPE: u32 = 14;
 pub const PROFILE: u32 = 17;
 pub const CHORDS: u32 = 18;
+pub const STALE: u32 = 19;
 pub const BLOCKS: u32 = 20;
 pub const NO_BIN: u32 = 21;
 pub const HOLDS_OTHER: u32 = 22;
@@ -83,6 +84,11 @@ pub fn full_look(call: &Call) -> Option<Outcome> {
     Some(found.map(Answer::Found))
 }
 
+/// A list carries the stamp of the stock that it was made of; of a difference the first one's.
+fn stamped(stamp: Stamp, changes: Result<Vec<Change>, Reason>) -> Outcome {
+    changes.map(|changes| Answer::Changes(changes, stamp))
+}
+
 /// What document 01 answers.
 pub fn answer(call: &Call) -> Outcome {
     match call {
@@ -90,41 +96,50 @@ pub fn answer(call: &Call) -> Outcome {
         Call::Length { x, y } => numbers::length(*x, *y).map(Answer::Number),
         Call::Validate { spec } => stock::bar(spec).map(|bar| Answer::Bins(bar.n)),
         Call::Bin { spec, i } => stock::bin(spec, *i).map(|[za, zb]| Answer::Range(za, zb)),
-        Call::New { spec, cells_len } => stock::new(spec, *cells_len).map(Answer::Cells),
+        Call::New {
+            spec, cells_len, ..
+        } => stock::new(spec, *cells_len).map(|cells| Answer::Stock(cells, vec![], 0)),
         Call::Preview {
             spec,
+            stamp,
             cells,
             side,
             rn,
             segments,
             room,
-        } => cuts::nose(spec, cells, *side, *rn, segments, *room).map(Answer::Changes),
+        } => stamped(*stamp, cuts::nose(spec, cells, *side, *rn, segments, *room)),
         Call::PreviewPolygon {
             spec,
+            stamp,
             cells,
             side,
             excess,
             points,
             room,
-        } => cuts::polygon(spec, cells, *side, *excess, points, *room).map(Answer::Changes),
+        } => stamped(
+            *stamp,
+            cuts::polygon(spec, cells, *side, *excess, points, *room),
+        ),
         Call::Cut {
             spec,
+            stamp,
             cells,
             cut,
             room,
-        } => cuts::simple(spec, cells, *cut, *room).map(Answer::Changes),
+        } => stamped(*stamp, cuts::simple(spec, cells, *cut, *room)),
         Call::Apply {
             spec,
+            stamp,
             cells,
-            generation,
             list,
-        } => changes::apply(spec, cells, *generation, list),
+        } => changes::apply(spec, *stamp, cells, list),
         Call::ChangesTo {
             spec,
+            stamp,
             cells,
             after,
             room,
-        } => changes::changes_to(spec, cells, after, *room).map(Answer::Changes),
+        } => stamped(*stamp, changes::changes_to(spec, cells, after, *room)),
         Call::RemoveRing {
             spec,
             store,
@@ -133,17 +148,18 @@ pub fn answer(call: &Call) -> Outcome {
         } => rings::remove_ring(spec, store, *generation, *ring),
         Call::ApplyMove {
             spec,
+            stamp,
             cells,
             store,
-            generation,
             list,
             removed,
-        } => rings::apply_move(spec, cells, store, *generation, list, removed),
+        } => rings::apply_move(spec, *stamp, cells, store, list, removed),
         Call::FromParts {
             spec,
             cells,
             given,
             rings_len,
+            ..
         } => rings::from_parts(spec, cells, given, *rings_len),
         Call::Volume { spec, cells, store } => {
             queries::volume(spec, cells, store).map(|[least, most]| Answer::Volume(least, most))

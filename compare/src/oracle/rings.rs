@@ -2,11 +2,11 @@
 //!
 //! camlib bounds neither the pieces nor the store, so 11 is decided here, on pieces counted by 01's
 //! steps. Then camlib does the work, and its rings must be the ones counted.
-use super::changes::{acceptable, lent_changes};
+use super::changes::{acceptable, lent_changes, of_this_stock};
 use super::stock::{Bar, bar, camlib_stock, cells, change_to_camlib, fresh, from_camlib};
 use super::{GENERATION, MOST_PIECES, MOST_RINGS, PIECES, RING, STORED};
 use super::{clean, demand, demand_at, storable};
-use crate::call::{Answer, List, Outcome, Reason, Spec, Store};
+use crate::call::{Answer, List, Outcome, Reason, Spec, Stamp, Store};
 
 /// A ring is z0, z1, r0, r1.
 type Ring = [f64; 4];
@@ -130,12 +130,12 @@ pub fn remove_ring(spec: &Spec, store: &Store, generation: u64, ring: Ring) -> O
     ))
 }
 
-/// 1, 2, 3, 6 for changes beyond what is lent, 4, 10, 7, 8/21/22/23, 12, 11.
+/// 1, 2, 3, 6 for changes beyond what is lent, 4, 19, 10, 7, 8/21/22/23, 12, 11.
 pub fn apply_move(
     spec: &Spec,
+    stamp: Stamp,
     lent: &[f64],
     store: &Store,
-    generation: u64,
     list: &List,
     removed: &[f64],
 ) -> Outcome {
@@ -143,10 +143,11 @@ pub fn apply_move(
     let cells = cells(&bar, lent)?;
     let changes = lent_changes(list)?;
     let rings = stored(&bar, store)?;
+    of_this_stock(stamp, list)?;
     let removed = given_rings(removed)?;
     acceptable(&bar, &cells, &changes)?;
     let steps = 1 + removed.iter().filter(|r| !empty(&clip(&bar, r))).count() as u64;
-    demand(generation <= u64::MAX - steps, GENERATION)?;
+    demand(stamp.generation <= u64::MAX - steps, GENERATION)?;
     let mut counted = rings.clone();
     for ring in &removed {
         store_ring(&mut counted, room(store.rings.len()), &bar, ring)?;
@@ -157,7 +158,7 @@ pub fn apply_move(
     assert_eq!(stock.generation(), steps);
     let cells = stock.cells().iter().map(from_camlib).collect();
     let rings = agreed(stock.rings(), &counted);
-    Ok(Answer::Stock(cells, rings, generation + steps))
+    Ok(Answer::Stock(cells, rings, stamp.generation + steps))
 }
 
 /// 1, 2, 3, 10, 11.

@@ -1,5 +1,5 @@
 //! One part of a call is not as it should be.
-use crate::call::{Call, List, Room, Spec, Store};
+use crate::call::{Call, List, Room, Spec, Stamp, Store};
 
 /// `at` counts from the start, and past the end from the start again.
 #[derive(Clone, Debug)]
@@ -33,7 +33,12 @@ pub enum Damage {
     Count(usize),
     /// So many numbers of rings are lent.
     Rings(usize),
-    Generation(u64),
+    /// The stock's stamp alone.
+    Stamp(Stamp),
+    /// The list's stamp alone.
+    Listed(Stamp),
+    /// The stamp of the stock and of its list.
+    Both(Stamp),
 }
 
 fn put<T>(list: &mut [T], at: usize, value: T) {
@@ -52,6 +57,7 @@ struct Parts<'a> {
     list: Option<&'a mut List>,
     store: Option<&'a mut Store>,
     rings_len: Option<&'a mut usize>,
+    stamp: Option<&'a mut Stamp>,
     generation: Option<&'a mut u64>,
 }
 
@@ -59,25 +65,24 @@ struct Parts<'a> {
 fn parts(call: &mut Call) -> Parts<'_> {
     let none = Parts::default();
     match call {
-        Call::Preview { spec, cells, room, .. }
-        | Call::PreviewPolygon { spec, cells, room, .. }
-        | Call::Cut { spec, cells, room, .. }
-        | Call::ChangesTo { spec, cells, room, .. } => {
-            Parts { spec: Some(spec), cells: Some(cells), room: Some(room), ..none }
-        }
-        Call::Apply { spec, cells, generation, list } => Parts {
-            spec: Some(spec), cells: Some(cells), list: Some(list), generation: Some(generation), ..none
+        Call::Preview { spec, stamp, cells, room, .. }
+        | Call::PreviewPolygon { spec, stamp, cells, room, .. }
+        | Call::Cut { spec, stamp, cells, room, .. }
+        | Call::ChangesTo { spec, stamp, cells, room, .. } => Parts {
+            spec: Some(spec), stamp: Some(stamp), cells: Some(cells), room: Some(room), ..none
+        },
+        Call::Apply { spec, stamp, cells, list } => Parts {
+            spec: Some(spec), stamp: Some(stamp), cells: Some(cells), list: Some(list), ..none
         },
         Call::RemoveRing { spec, store, generation, .. } => {
             Parts { spec: Some(spec), store: Some(store), generation: Some(generation), ..none }
         }
-        Call::ApplyMove { spec, cells, store, generation, list, .. } => Parts {
-            spec: Some(spec), cells: Some(cells), list: Some(list), store: Some(store),
-            generation: Some(generation), ..none
+        Call::ApplyMove { spec, stamp, cells, store, list, .. } => Parts {
+            spec: Some(spec), stamp: Some(stamp), cells: Some(cells), list: Some(list), store: Some(store), ..none
         },
-        Call::FromParts { spec, cells, rings_len, .. } => {
-            Parts { spec: Some(spec), cells: Some(cells), rings_len: Some(rings_len), ..none }
-        }
+        Call::FromParts { spec, stamp, cells, rings_len, .. } => Parts {
+            spec: Some(spec), stamp: Some(stamp), cells: Some(cells), rings_len: Some(rings_len), ..none
+        },
         Call::Volume { spec, cells, store } => {
             Parts { spec: Some(spec), cells: Some(cells), store: Some(store), ..none }
         }
@@ -85,6 +90,15 @@ fn parts(call: &mut Call) -> Parts<'_> {
             Parts { spec: Some(spec), cells: Some(cells), ..none }
         }
         _ => none,
+    }
+}
+
+impl Parts<'_> {
+    /// The stock's stamp; of a ring's call its generation.
+    fn put_stamp(self, value: Stamp) {
+        self.stamp.into_iter().for_each(|s| *s = value);
+        let generation = self.generation.into_iter();
+        generation.for_each(|g| *g = value.generation);
     }
 }
 
@@ -119,8 +133,11 @@ impl Damage {
                 store.for_each(|s| s.rings.resize(len, 0.));
                 parts.rings_len.iter_mut().for_each(|l| **l = len);
             }
-            Damage::Generation(value) => {
-                parts.generation.into_iter().for_each(|g| *g = value);
+            Damage::Stamp(value) => parts.put_stamp(value),
+            Damage::Listed(value) => parts.list.into_iter().for_each(|l| l.stamp = value),
+            Damage::Both(value) => {
+                parts.list.iter_mut().for_each(|l| l.stamp = value);
+                parts.put_stamp(value);
             }
         }
     }

@@ -1,15 +1,15 @@
 //! A stock as it is lent, with the lists made from it and the stocks that it was.
 use super::{Action, Sequence};
-use crate::call::{Call, Change, List, Room, Spec, Store};
+use crate::call::{Call, Change, List, Room, Spec, Stamp, Store};
 use crate::memory::{Lent, Memory};
 use crate::oracle::MOST_RINGS;
 
 /// What calls change.
 #[derive(Clone)]
 pub struct Stock {
+    pub stamp: Stamp,
     pub cells: Vec<f64>,
     pub store: Store,
-    pub generation: u64,
 }
 
 pub struct Flat {
@@ -29,9 +29,9 @@ impl Flat {
         Self {
             spec: sequence.spec,
             now: Stock {
+                stamp: sequence.stamp,
                 cells: sequence.cells.clone(),
                 store: sequence.store.clone(),
-                generation: sequence.generation,
             },
             lists: vec![],
             earlier: vec![],
@@ -44,36 +44,43 @@ impl Flat {
     }
 
     fn list_back(&self, by: usize) -> List {
-        back(&self.lists, by).cloned().unwrap_or_default()
+        let none = || list_of(&[], self.now.stamp);
+        back(&self.lists, by).cloned().unwrap_or_else(none)
     }
 
     /// The call that the action makes; none for a return.
     #[rustfmt::skip]
     pub fn call(&self, action: &Action) -> Option<Call> {
         let spec = self.spec;
-        let Stock { cells, store, generation } = self.now.clone();
+        let Stock { stamp, cells, store } = self.now.clone();
         let bins = cells.len() / 4;
         let room = Room { indices: bins, records: 8 * bins };
         Some(match action.clone() {
-            Action::Nose { side, rn, segments } => Call::Preview { spec, cells, side, rn, segments, room },
-            Action::Polygon { side, excess, points } => {
-                Call::PreviewPolygon { spec, cells, side, excess, points, room }
+            Action::Nose { side, rn, segments } => {
+                Call::Preview { spec, stamp, cells, side, rn, segments, room }
             }
-            Action::Cut(cut) => Call::Cut { spec, cells, cut, room },
-            Action::Commit { back } => Call::Apply { spec, cells, generation, list: self.list_back(back) },
+            Action::Polygon { side, excess, points } => {
+                Call::PreviewPolygon { spec, stamp, cells, side, excess, points, room }
+            }
+            Action::Cut(cut) => Call::Cut { spec, stamp, cells, cut, room },
+            Action::Commit { back } => Call::Apply { spec, stamp, cells, list: self.list_back(back) },
             Action::Move { back, removed } => {
                 let list = self.list_back(back);
-                Call::ApplyMove { spec, cells, store, generation, list, removed }
+                Call::ApplyMove { spec, stamp, cells, store, list, removed }
             }
-            Action::Ring(ring) => Call::RemoveRing { spec, store, generation, ring },
+            Action::Ring(ring) => Call::RemoveRing { spec, store, generation: stamp.generation, ring },
             Action::Difference { back, from_now } => {
-                let earlier = self.stock_back(back).cells.clone();
-                let (cells, after) = if from_now { (cells, earlier) } else { (earlier, cells) };
-                Call::ChangesTo { spec, cells, after, room }
+                let earlier = self.stock_back(back).clone();
+                let (stamp, cells, after) = match from_now {
+                    true => (stamp, cells, earlier.cells),
+                    false => (earlier.stamp, earlier.cells, cells),
+                };
+                Call::ChangesTo { spec, stamp, cells, after, room }
             }
-            Action::Rebuild { more } => {
+            Action::Rebuild { more, edition } => {
                 let given = [&store.rings[..4 * store.count], &more].concat();
-                Call::FromParts { spec, cells, given, rings_len: store.rings.len() }
+                let stamp = Stamp { edition: edition.unwrap_or(stamp.edition), ..stamp };
+                Call::FromParts { spec, stamp, cells, given, rings_len: store.rings.len() }
             }
             Action::Volume => Call::Volume { spec, cells, store },
             Action::EnvelopeAt(z) => Call::EnvelopeAt { spec, cells, z },
@@ -95,7 +102,7 @@ impl Flat {
                 return;
             }
             Call::Volume { .. } | Call::EnvelopeAt { .. } => return,
-            Call::FromParts { .. } => self.now.generation = 0,
+            Call::FromParts { stamp, .. } => self.now.stamp.edition = stamp.edition,
             _ => {}
         }
         if let Some(cells) = numbers("cells") {
@@ -106,7 +113,7 @@ impl Flat {
             self.now.store = Store { rings, count };
         }
         if let Some(generation) = word("generation") {
-            self.now.generation = generation;
+            self.now.stamp.generation = generation;
         }
         self.earlier.push(before);
     }
@@ -121,15 +128,20 @@ fn written_list(memory: &Memory) -> List {
             .collect(),
         records: buffer("records").numbers(),
         changes: buffer("count").words()[0] as usize,
+        stamp: Stamp {
+            edition: buffer("list_edition").words()[0] as u32,
+            generation: buffer("list_generation").words()[0],
+        },
     }
 }
 
-/// Changes as they are lent, with no room over.
-pub fn list_of(changes: &[Change]) -> List {
+/// Changes as they are lent, with no room over, for the stock of the stamp.
+pub fn list_of(changes: &[Change], stamp: Stamp) -> List {
     let records = changes.iter().flat_map(|c| [c.before, c.after]);
     List {
         indices: changes.iter().map(|c| c.index).collect(),
         records: records.flatten().collect(),
         changes: changes.len(),
+        stamp,
     }
 }

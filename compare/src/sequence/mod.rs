@@ -13,15 +13,15 @@ pub use damage::Damage;
 pub use flat::list_of;
 pub use run::{AS_IT_IS, Bent, Difference, Sequences, left_by, run};
 
-use crate::call::{Simple, Spec, Store};
+use crate::call::{Simple, Spec, Stamp, Store};
 
 /// A stock, and what is done with it.
 #[derive(Clone, Debug)]
 pub struct Sequence {
     pub spec: Spec,
+    pub stamp: Stamp,
     pub cells: Vec<f64>,
     pub store: Store,
-    pub generation: u64,
     pub steps: Vec<Step>,
 }
 
@@ -33,7 +33,7 @@ pub struct Step {
 }
 
 /// A call on the stock. `back` counts lists or stocks, 0 for the last; past the first it is the
-/// first, and where there is none the list is empty or the stock the present one.
+/// first, and where there is none the list is empty and the present stock's, or the stock the present one.
 #[rustfmt::skip]
 #[derive(Clone, Debug)]
 pub enum Action {
@@ -49,10 +49,10 @@ pub enum Action {
     /// The difference from an earlier stock to the present one, or from that to the earlier; leaves a
     /// list.
     Difference { back: usize, from_now: bool },
-    /// The stock is again an earlier one. No call.
+    /// The stock is again an earlier one, its stamp too. No call.
     Return { back: usize },
-    /// The stock is rebuilt from its parts and some rings more.
-    Rebuild { more: Vec<f64> },
+    /// The stock is rebuilt from its parts and some rings more, of another edition where one is named.
+    Rebuild { more: Vec<f64>, edition: Option<u32> },
     Volume,
     EnvelopeAt(f64),
 }

@@ -2,7 +2,7 @@
 use super::flat::Flat;
 use super::rust::Rust;
 use super::{Action, Sequence, Step};
-use crate::call::{Answer, Call, Outcome, Spec, Store};
+use crate::call::{Answer, Call, Outcome, Spec, Stamp, Store};
 use crate::count::Counts;
 use crate::generate::{Rng, sequence};
 use crate::memory::Memory;
@@ -68,12 +68,12 @@ impl Source for Sequences {
 fn shown_whole(sequence: &Sequence, difference: Option<Difference>) -> String {
     let Sequence {
         spec,
+        stamp,
         cells,
         store,
-        generation,
         steps,
     } = sequence;
-    let mut text = format!("{spec:?}\ncells {cells:?}\n{store:?}\ngeneration {generation}\n");
+    let mut text = format!("{spec:?}\n{stamp:?}\ncells {cells:?}\n{store:?}\n");
     for (k, step) in steps.iter().enumerate() {
         text += &format!("step {k}: {step:?}\n");
     }
@@ -95,7 +95,7 @@ pub fn run(sequence: &Sequence, bent: Bent, counts: &mut Counts) -> Result<(), D
 }
 
 /// The stock that the Rust's side of a sequence leaves; refused calls leave it as it was.
-pub fn left_by(sequence: &Sequence) -> (Spec, Vec<f64>, Store) {
+pub fn left_by(sequence: &Sequence) -> (Spec, Stamp, Vec<f64>, Store) {
     let mut rust = Rust::new(sequence);
     for Step { action, damage } in &sequence.steps {
         match (rust.flat.call(action), damage) {
@@ -111,7 +111,7 @@ pub fn left_by(sequence: &Sequence) -> (Spec, Vec<f64>, Store) {
         }
     }
     let now = rust.flat.now;
-    (rust.flat.spec, now.cells, now.store)
+    (rust.flat.spec, now.stamp, now.cells, now.store)
 }
 
 fn carry_out(
@@ -158,9 +158,9 @@ fn agree(call: &Call, living: &Outcome, outcome: &Outcome) -> bool {
     match (call, living, outcome) {
         (
             Call::FromParts { .. },
-            Ok(Answer::Stock(_, rings, _)),
-            Ok(Answer::Stock(_, other, _)),
-        ) => rings == other,
+            Ok(Answer::Stock(_, rings, g)),
+            Ok(Answer::Stock(_, other, h)),
+        ) => (rings, g) == (other, h),
         (Call::Apply { .. }, Ok(Answer::Stock(cells, _, g)), Ok(Answer::Stock(other, _, h))) => {
             (cells, g) == (other, h)
         }
@@ -173,15 +173,16 @@ fn agree(call: &Call, living: &Outcome, outcome: &Outcome) -> bool {
     }
 }
 
-/// The whole of both stocks: cells, rings stored, generation.
+/// The whole of both stocks: stamp, cells, rings stored.
 fn same_stock(ours: &Flat, theirs: &Rust) -> Result<(), String> {
     let bits = |numbers: &[f64]| -> Vec<u64> { numbers.iter().map(|x| x.to_bits()).collect() };
     let stored = |store: &Store| bits(&store.rings[..4 * store.count]);
+    let stamp = |stamp: Stamp| vec![stamp.edition as u64, stamp.generation];
     let (now, then) = (&ours.now, &theirs.flat.now);
     let parts = [
         ("cells", bits(&now.cells), bits(&then.cells)),
         ("rings", stored(&now.store), stored(&then.store)),
-        ("generation", vec![now.generation], vec![then.generation]),
+        ("stamp", stamp(now.stamp), stamp(then.stamp)),
     ];
     match parts.into_iter().find(|(_, a, b)| a != b) {
         None => Ok(()),

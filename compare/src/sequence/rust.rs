@@ -1,18 +1,18 @@
 //! The Rust's side: one stock of camlib with 01's length, from the first call to the last.
 use super::flat::{Flat, Stock, back, list_of};
 use super::{Action, Sequence};
-use crate::call::{Answer, Call, Change, List, Simple, Spec, Store};
+use crate::call::{Answer, Call, Change, List, Simple, Spec, Stamp, Store};
 use crate::oracle::clean;
 use crate::oracle::cuts::{change_with_length, segment, stock_with_length};
 use crate::oracle::queries::most_at;
 use crate::oracle::stock::bar;
 use length::turning::stock::{RadiusBounds, TurnCell, TurnChange, TurnSide, TurnStock};
 
-/// A stock at a generation of its own, which starts at 0.
+/// A stock at a generation of its own, which starts at 0, and the stamp at its start.
 #[derive(Clone)]
 struct Living {
     stock: TurnStock,
-    start: u64,
+    start: Stamp,
 }
 
 pub struct Rust {
@@ -23,7 +23,7 @@ pub struct Rust {
     pub flat: Flat,
 }
 
-fn living(spec: &Spec, cells: &[f64], rings: &[[f64; 4]], start: u64) -> Living {
+fn living(spec: &Spec, cells: &[f64], rings: &[[f64; 4]], start: Stamp) -> Living {
     let (cells, _) = cells.as_chunks::<4>();
     let bar = bar(spec).expect("a sequence's bar is accepted");
     let stock = stock_with_length(&bar, cells);
@@ -85,9 +85,18 @@ impl Living {
         };
         store.rings.resize(rings_len, 0.);
         Stock {
+            stamp: self.stamp(),
             cells: cells.as_flattened().to_vec(),
             store,
-            generation: self.start.wrapping_add(self.stock.generation()),
+        }
+    }
+
+    /// The edition it started with, and its generation now.
+    fn stamp(&self) -> Stamp {
+        let generation = self.start.generation.wrapping_add(self.stock.generation());
+        Stamp {
+            generation,
+            ..self.start
         }
     }
 
@@ -114,12 +123,7 @@ impl Rust {
     pub fn new(sequence: &Sequence) -> Self {
         let stored = rings(&sequence.store.rings[..4 * sequence.store.count]);
         Self {
-            now: living(
-                &sequence.spec,
-                &sequence.cells,
-                &stored,
-                sequence.generation,
-            ),
+            now: living(&sequence.spec, &sequence.cells, &stored, sequence.stamp),
             earlier: vec![],
             rings_len: sequence.store.rings.len(),
             flat: Flat::new(sequence),
@@ -130,8 +134,9 @@ impl Rust {
     pub fn carry_out(&mut self, action: &Action, call: &Call) -> Answer {
         if let Some(list) = self.list(action) {
             let list: Vec<Change> = list.iter().map(change_with_length).collect();
-            self.flat.lists.push(list_of(&list));
-            return Answer::Changes(list);
+            let stamp = self.list_stamp(action);
+            self.flat.lists.push(list_of(&list, stamp));
+            return Answer::Changes(list, stamp);
         }
         let stock = &self.now.stock;
         match action {
@@ -194,6 +199,18 @@ impl Rust {
         })
     }
 
+    /// The stamp of the stock that a list is made of; of a difference the first one's.
+    fn list_stamp(&self, action: &Action) -> Stamp {
+        let first = match action {
+            Action::Difference {
+                back: by,
+                from_now: false,
+            } => back(&self.earlier, *by),
+            _ => None,
+        };
+        first.unwrap_or(&self.now).stamp()
+    }
+
     /// The stock is again an earlier one.
     pub fn go_back(&mut self, by: usize) {
         let then = back(&self.earlier, by).unwrap_or(&self.now).clone();
@@ -208,12 +225,13 @@ impl Rust {
             .earlier
             .push(std::mem::replace(&mut self.flat.now, now));
         let Stock {
+            stamp,
             cells,
             store,
-            generation,
         } = self.now.answer();
         let rings = store.rings.as_chunks::<4>().0.to_vec();
-        Answer::Stock(cells.as_chunks::<4>().0.to_vec(), rings, generation)
+        let cells = cells.as_chunks::<4>().0.to_vec();
+        Answer::Stock(cells, rings, stamp.generation)
     }
 }
 
@@ -230,8 +248,18 @@ impl Living {
                 self.stock.remove_ring([z0, z1], [r0, r1]);
             }
             Call::FromParts {
-                spec, cells, given, ..
-            } => *self = living(spec, cells, &rings(given), 0),
+                spec,
+                stamp,
+                cells,
+                given,
+                ..
+            } => {
+                let start = Stamp {
+                    generation: 0,
+                    ..*stamp
+                };
+                *self = living(spec, cells, &rings(given), start);
+            }
             _ => unreachable!("{} changes no stock", call.name()),
         }
     }

@@ -17,7 +17,7 @@ impl Step {
                 parts.numbers.push(excess);
             }
             Action::Cut(cut) => parts.numbers.extend(simple_numbers(cut)),
-            Action::Move { removed: rings, .. } | Action::Rebuild { more: rings } => {
+            Action::Move { removed: rings, .. } | Action::Rebuild { more: rings, .. } => {
                 parts.items.push(Items::Flat(rings, 4));
             }
             Action::Ring(ring) => parts.numbers.extend(ring),
@@ -31,6 +31,11 @@ impl Step {
 
     /// A simpler step of its kind; false where there is none.
     fn simplify(&mut self) -> bool {
+        if let Action::Rebuild { edition, .. } = &mut self.action
+            && edition.take().is_some()
+        {
+            return true;
+        }
         let Action::Move { removed, .. } = &self.action else {
             return self.damage.take().is_some();
         };
@@ -58,7 +63,7 @@ impl Shrink for Sequence {
             spec: Some(&mut self.spec),
             cells: vec![&mut self.cells],
             items: vec![Items::Store(&mut self.store)],
-            generation: Some(&mut self.generation),
+            stamps: vec![&mut self.stamp],
             ..Parts::default()
         };
         for step in &mut self.steps {

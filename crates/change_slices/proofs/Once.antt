@@ -2,7 +2,6 @@
 use mathlib.Core.Path.{_≡_, sym, ap, ap₂, _∙_}
 use mathlib.Core.List.{List}
 use Prim.Native.Nat.{ℕ}
-use native.Mathlib.Omega.{arith}
 use lib.Ieee.{Float}
 use Rattle.refusals.specs.declared.Refusal.{Refusal}
 use Rattle.refusals.specs.Number.{reasonOf, reasonAt}
@@ -10,7 +9,9 @@ use Rattle.refusals.specs.Paper.{Paper}
 use Rattle.refusals.specs.Lent.{over}
 use Rattle.refusals.proofs.OneToOne.{one-reason, one-place, no-place}
 use Rattle.stock.specs.declared.TurnChange.{TurnChange}
-use Rattle.stock.proofs.Count.{same-answer}
+use Rattle.stock.specs.declared.Stamp.{Stamp}
+use Rattle.stock.specs.declared.TurnStock.{TurnStock}
+use Rattle.stock.proofs.Count.{no-answer, same-answer}
 use Rattle.changes.specs.declared.Previewed.{Previewed}
 use Rattle.changes.specs.Change.{changesFrom}
 use Rattle.changes.proofs.Proposals.{same-previewed}
@@ -22,12 +23,12 @@ use Rattle.change_slices.specs.Proposal.{Written}
 
 -- ---- a commit
 same-applied : (r r' : Applied) → appliedPaper r ≡ appliedPaper r' → r ≡ r'
-same-applied (applied.Generation g) (applied.Generation g') h = let e : g ≡ g' = same-answer h in ap (λ x. applied.Generation x) e
-same-applied (applied.Generation g) (applied.Refused c) h = let z : _≡_ {A = ℕ} 0 1 = cc in absurd (omega arith)
-same-applied (applied.Refused c) (applied.Generation g) h = let z : _≡_ {A = ℕ} 0 1 = cc in absurd (omega arith)
+same-applied (applied.Stock k) (applied.Stock k') h = let e : k ≡ k' = same-answer h in ap (λ (x : TurnStock). applied.Stock x) e
+same-applied (applied.Stock k) (applied.Refused c) h = absurd (no-answer (reasonOf c) k (sym h))
+same-applied (applied.Refused c) (applied.Stock k) h = absurd (no-answer (reasonOf c) k h)
 same-applied (applied.Refused c) (applied.Refused c') h = let e : reasonOf c ≡ reasonOf c' = cc in ap (λ x. applied.Refused x) (one-reason c c' e)
-same-applied (applied.Generation g) (applied.RefusedAt c k) h = let z : _≡_ {A = ℕ} 0 1 = cc in absurd (omega arith)
-same-applied (applied.RefusedAt c k) (applied.Generation g) h = let z : _≡_ {A = ℕ} 0 1 = cc in absurd (omega arith)
+same-applied (applied.Stock k) (applied.RefusedAt c j) h = absurd (no-answer (reasonAt c j) k (sym h))
+same-applied (applied.RefusedAt c j) (applied.Stock k) h = absurd (no-answer (reasonAt c j) k h)
 same-applied (applied.Refused c) (applied.RefusedAt c' k) h = let e : reasonOf c ≡ reasonAt c' k = cc in absurd (no-place c c' k e)
 same-applied (applied.RefusedAt c k) (applied.Refused c') h = let e : reasonOf c' ≡ reasonAt c k = cc in absurd (no-place c' c k e)
 same-applied (applied.RefusedAt c k) (applied.RefusedAt c' k') h =
@@ -36,8 +37,8 @@ same-applied (applied.RefusedAt c k) (applied.RefusedAt c' k') h =
     ap₂ (λ (x : Refusal) (j : ℕ). applied.RefusedAt x j) (p .0) (p .1)
 
 -- the answer and the cells
-pub applied-once : (p : Paper Committed) (r r' : Applied) (cs cs₁ cs₂ : List Float) → Applies p r cs cs₁ → Applies p r' cs cs₂ → (r ≡ r') × (cs₁ ≡ cs₂)
-applied-once p r r' cs cs₁ cs₂ a b = (same-applied r r' (a .answer ∙ sym (b .answer)), a .cells ∙ sym (b .cells))
+pub applied-once : (k : TurnStock) (p : Paper Committed) (r r' : Applied) (cs cs₁ cs₂ : List Float) → Applies k p r cs cs₁ → Applies k p r' cs cs₂ → (r ≡ r') × (cs₁ ≡ cs₂)
+applied-once k p r r' cs cs₁ cs₂ a b = (same-applied r r' (a .answer ∙ sym (b .answer)), a .cells ∙ sym (b .cells))
 
 -- ---- records read from flat lists: how many, and the records
 pub read-once : (is : List ℕ) (xs : List Float) (k r r' : ℕ) (l l₁ l₂ : List TurnChange) → Reads is xs k r l l₁ → Reads is xs k r' l l₂ → (r ≡ r') × (l₁ ≡ l₂)
@@ -46,5 +47,5 @@ read-once is xs k r r' l l₁ l₂ a b =
     (e, a .records ∙ ap (λ (m : ℕ). over (changesFrom is xs m) l) e ∙ sym (b .records))
 
 -- ---- records after a proposal: the answer, and the records
-pub written-once : (p : Paper (List TurnChange)) (r r' : Previewed) (l l₁ l₂ : List TurnChange) → Written p r l l₁ → Written p r' l l₂ → (r ≡ r') × (l₁ ≡ l₂)
-written-once p r r' l l₁ l₂ a b = (same-previewed r r' (a .answer ∙ sym (b .answer)), a .records ∙ sym (b .records))
+pub written-once : (st : Stamp) (p : Paper (List TurnChange)) (r r' : Previewed) (l l₁ l₂ : List TurnChange) → Written st p r l l₁ → Written st p r' l l₂ → (r ≡ r') × (l₁ ≡ l₂)
+written-once st p r r' l l₁ l₂ a b = (same-previewed r r' (a .answer ∙ sym (b .answer)), a .records ∙ sym (b .records))

@@ -18,13 +18,15 @@ use Rattle.floats.specs.Pick.{pick, pick-true, pick-false}
 use Rattle.stock.specs.declared.TurnStockSpec.{TurnStockSpec}
 use Rattle.stock.specs.declared.TurnCell.{TurnCell}
 use Rattle.stock.specs.declared.TurnChange.{TurnChange}
+use Rattle.stock.specs.declared.Stamp.{Stamp}
 use Rattle.stock.specs.Spec.{cleanSpec}
 use Rattle.stock.specs.Cell.{stockOf}
 use Rattle.stock.proofs.Count.{stocked, checked, same-answer, no-answer}
 use Rattle.reach.specs.Reach.{Act, actCell}
+use Rattle.changes.specs.declared.ChangeList.{ChangeList}
 use Rattle.changes.specs.declared.Previewed.{Previewed}
-use Rattle.changes.specs.declared.Previewed.the-variants.{Changes, Refused}
-use Rattle.changes.specs.Change.{changesTo, indicesOf, numbersOf, roomOf, changesFrom, settled, previewedPaper, countOf, writtenOf, Proposed}
+use Rattle.changes.specs.declared.Previewed.the-variants.{Listed, Refused}
+use Rattle.changes.specs.Change.{changesTo, indicesOf, numbersOf, roomOf, changesFrom, settled, previewedPaper, stamped, countOf, writtenOf, Proposed}
 use Rattle.changes.proofs.Rising.{at-most}
 use Rattle.changes.proofs.Placed.{length-numbers}
 use Rattle.changes.proofs.ReadBack.{read-back}
@@ -94,10 +96,11 @@ over-holds xs b = rw (length-append) (omega arith)
 pub from-over : (l : List TurnChange) (k : ℕ) (is is' : List ℕ) (xs xs' : List Float) → k ≡ length l → is' ≡ over (indicesOf l) is → xs' ≡ over (numbersOf l) xs → changesFrom is' xs' k ≡ l
 from-over l k is is' xs xs' ek ei ex = ap₂ (λ (p : List ℕ) (q : List Float). changesFrom p q k) ei ex ∙ ap (changesFrom (over (indicesOf l) is) (over (numbersOf l) xs)) ek ∙ read-back l is xs
 
-module _ (room : ℕ) (is is' : List ℕ) (xs xs' : List Float) where
+module _ (st : Stamp) (room : ℕ) (is is' : List ℕ) (xs xs' : List Float) where
   -- it answers with no more than room
-  lists-enough : (l : List TurnChange) (k : ℕ) → k ≡ length l → is' ≡ over (indicesOf l) is → xs' ≡ over (numbersOf l) xs → length l ≤ room → ListsRecords room (answers l) (Changes k) is' xs'
-  lists-enough l k ek ei ex h =
+  lists-enough : (l : List TurnChange) (list : ChangeList) → list ≡ record { count = length l; stamp = st } → is' ≡ over (indicesOf l) is → xs' ≡ over (numbersOf l) xs → length l ≤ room → ListsRecords st room (answers l) (Listed list) is' xs'
+  lists-enough l list e ei ex h =
+      let ek : list .count ≡ length l = ap (λ (x : ChangeList). x .count) e in
       let a = over-holds (indicesOf l) is in
       let b = over-holds (numbersOf l) xs in
       let c = length-map l (λ (x : TurnChange). x .index) in
@@ -105,44 +108,45 @@ module _ (room : ℕ) (is is' : List ℕ) (xs xs' : List Float) where
       let li : length is' ≡ length (over (indicesOf l) is) = ap length ei in
       let lx : length xs' ≡ length (over (numbersOf l) xs) = ap length ex in
       record {
-        answer = ap answers ek;
-        changes = from-over l k is is' xs xs' ek ei ex;
+        answer = ap answers e;
+        changes = from-over l (list .count) is is' xs xs' ek ei ex;
         held = omega arith;
         few = omega arith;
       }
 
   -- it refuses
-  none : (r : Reason) (c : Previewed) → previewedPaper c ≡ refuses r → countIn c ≡ 0 → ListsRecords room (refuses r) c is' xs'
+  none : (r : Reason) (c : Previewed) → previewedPaper c ≡ refuses r → countIn c ≡ 0 → ListsRecords st room (refuses r) c is' xs'
   unfolding changesFrom
   none r c e z = record { answer = e; changes = ap (changesFrom is' xs') z; held = omega arith; few = omega arith }
 
-  narrow-lists : (p : Paper (List TurnChange)) (a : Previewed) → Proposed p a is is' xs xs' → ListsRecords room (narrowed room p) (narrowAnswer room a) is' xs'
+  narrow-lists : (p : Paper (List TurnChange)) (a : Previewed) → Proposed st p a is is' xs xs' → ListsRecords st room (narrowed room p) (narrowAnswer room a) is' xs'
   unfolding onward narrowAnswer
-  narrow-lists (answers l) (Changes k) q =
-      let ek = same-answer (q .answer) in
-      go (ltb room k) refl ek
+  narrow-lists (answers l) (Listed list) q =
+      let e : list ≡ record { count = length l; stamp = st } = same-answer (q .answer) in
+      let ek : list .count ≡ length l = ap (λ (x : ChangeList). x .count) e in
+      go (ltb room (list .count)) refl e ek
     where
-      go : (t : Bool) → ltb room k ≡ t → k ≡ length l → ListsRecords room (settled room l) (pick t (Refused ChangesOverRoom) (Changes k)) is' xs'
-      go true e ek =
-          let h = ltb-true room k e in
+      go : (t : Bool) → ltb room (list .count) ≡ t → list ≡ record { count = length l; stamp = st } → list .count ≡ length l → ListsRecords st room (settled room l) (pick t (Refused ChangesOverRoom) (Listed list)) is' xs'
+      go true t e ek =
+          let h = ltb-true room (list .count) t in
           let f : settled room l ≡ refuses (only 6) = demand-false (leb (length l) room) 6 (answers l) (lt-leb (length l) room (omega arith)) in
-          rw (f, pick-true true (Refused ChangesOverRoom) (Changes k) refl) (none (only 6) (Refused ChangesOverRoom) refl refl)
-      go false e ek =
-          let h = ltb-false room k e in
+          rw (f, pick-true true (Refused ChangesOverRoom) (Listed list) refl) (none (only 6) (Refused ChangesOverRoom) refl refl)
+      go false t e ek =
+          let h = ltb-false room (list .count) t in
           let f : settled room l ≡ answers l = demand-true (leb (length l) room) 6 (answers l) (le-leb (length l) room (omega arith)) in
-          rw (f, pick-false false (Refused ChangesOverRoom) (Changes k) refl) (lists-enough l k ek (q .indices) (q .numbers) (omega arith))
-  narrow-lists (answers l) (Refused c) q = absurd (no-answer (reasonOf c) (length l) (q .answer))
-  narrow-lists (refuses r) (Changes k) q = absurd (no-answer r k (sym (q .answer)))
+          rw (f, pick-false false (Refused ChangesOverRoom) (Listed list) refl) (lists-enough l list e (q .indices) (q .numbers) (omega arith))
+  narrow-lists (answers l) (Refused c) q = absurd (no-answer (reasonOf c) _ (q .answer))
+  narrow-lists (refuses r) (Listed list) q = absurd (no-answer r list (sym (q .answer)))
   narrow-lists (refuses r) (Refused c) q = none r (Refused c) (q .answer) refl
 
-  pub narrows : (p : Paper (List TurnChange)) (a r : Previewed) → Proposed p a is is' xs xs' → r ≡ narrowAnswer room a → ListsRecords room (narrowed room p) r is' xs'
-  narrows p a r q e = subst (λ (x : Previewed). ListsRecords room (narrowed room p) x is' xs') (sym e) (narrow-lists p a q)
+  pub narrows : (p : Paper (List TurnChange)) (a r : Previewed) → Proposed st p a is is' xs xs' → r ≡ narrowAnswer room a → ListsRecords st room (narrowed room p) r is' xs'
+  narrows p a r q e = subst (λ (x : Previewed). ListsRecords st room (narrowed room p) x is' xs') (sym e) (narrow-lists p a q)
 
 -- ---- the records that are read from them
-pub records-hold : (p q : Paper (List TurnChange)) (r : Previewed) (is : List ℕ) (xs : List Float) (k : ℕ) (l l' : List TurnChange) → p ≡ q → ListsRecords (length l) q r is xs → Reads is xs (countIn r) k l l' → Written p r l l'
-records-hold p q r is xs k l l' e w d =
+pub records-hold : (st : Stamp) (p q : Paper (List TurnChange)) (r : Previewed) (is : List ℕ) (xs : List Float) (k : ℕ) (l l' : List TurnChange) → p ≡ q → ListsRecords st (length l) q r is xs → Reads is xs (countIn r) k l l' → Written st p r l l'
+records-hold st p q r is xs k l l' e w d =
     let h : k ≡ countIn r = d .count ∙ held-all (length is) (length xs) (countIn r) (length l) (w .held) (w .few) in
     record {
-      answer = w .answer ∙ ap countOf (sym e);
+      answer = w .answer ∙ ap (λ (x : Paper (List TurnChange)). stamped st (countOf x)) (sym e);
       records = d .records ∙ ap (λ (m : ℕ). over (changesFrom is xs m) l) h ∙ ap (λ (x : List TurnChange). over x l) (w .changes) ∙ ap (λ (x : Paper (List TurnChange)). over (writtenOf x) l) (sym e);
     }

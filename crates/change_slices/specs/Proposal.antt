@@ -11,29 +11,30 @@ use Rattle.refusals.specs.Paper.{Paper, onward}
 use Rattle.refusals.specs.Lent.{Lent, over}
 use Rattle.floats.specs.Pick.{pick}
 use Rattle.stock.specs.declared.TurnChange.{TurnChange}
+use Rattle.stock.specs.declared.Stamp.{Stamp}
 use Rattle.changes.specs.declared.Previewed.{Previewed}
-use Rattle.changes.specs.declared.Previewed.the-variants.{Changes, Refused}
-use Rattle.changes.specs.Change.{roomOf, roomIn, changesFrom, previewedPaper, settled, countOf, writtenOf}
+use Rattle.changes.specs.declared.Previewed.the-variants.{Listed, Refused}
+use Rattle.changes.specs.Change.{roomOf, roomIn, changesFrom, previewedPaper, stamped, settled, countOf, writtenOf}
 
--- the records after a proposal: its changes over the front, the rest as it was
-pub record Written (p : Paper (List TurnChange)) (r : Previewed) (l l' : List TurnChange) : Type 0 where
-  pub answer : previewedPaper r ≡ countOf p
+-- the answer, of a stock with this stamp, and the records after a proposal: its changes over the front, the rest as it was
+pub record Written (st : Stamp) (p : Paper (List TurnChange)) (r : Previewed) (l l' : List TurnChange) : Type 0 where
+  pub answer : previewedPaper r ≡ stamped st (countOf p)
   pub records : l' ≡ over (writtenOf p) l
 
 -- what a rule proposes into lent records, with the room that they are
-abbrev pub Writes : (ℕ → Paper (List TurnChange)) → Previewed → Lent TurnChange → Type 0
-Writes rule r changes = Written (rule (length (now (changes .entry)))) r (now (changes .entry)) (now (changes .exit))
+abbrev pub Writes : Stamp → (ℕ → Paper (List TurnChange)) → Previewed → Lent TurnChange → Type 0
+Writes st rule r changes = Written st (rule (length (now (changes .entry)))) r (now (changes .entry)) (now (changes .exit))
 
 -- ---- by way of flat lists
 
 -- how many changes an answer counts; none where it is a refusal
 abbrev pub countIn : Previewed → ℕ
-countIn (Changes k) = k
+countIn (Listed l) = l .count
 countIn (Refused c) = 0
 
 -- 6 where it counts more than room
 unfoldable pub narrowAnswer : ℕ → Previewed → Previewed
-narrowAnswer room (Changes k) = pick (ltb room k) (Refused ChangesOverRoom) (Changes k)
+narrowAnswer room (Listed l) = pick (ltb room (l .count)) (Refused ChangesOverRoom) (Listed l)
 narrowAnswer room (Refused c) = Refused c
 
 -- the same of a proposal
@@ -41,12 +42,12 @@ abbrev pub narrowed : ℕ → Paper (List TurnChange) → Paper (List TurnChange
 narrowed room p = onward p (settled room)
 
 -- the flat lists have its changes at the front, no more than room
-pub record ListsRecords (room : ℕ) (p : Paper (List TurnChange)) (r : Previewed) (is : List ℕ) (xs : List Float) : Type 0 where
-  pub answer : previewedPaper r ≡ countOf p
+pub record ListsRecords (st : Stamp) (room : ℕ) (p : Paper (List TurnChange)) (r : Previewed) (is : List ℕ) (xs : List Float) : Type 0 where
+  pub answer : previewedPaper r ≡ stamped st (countOf p)
   pub changes : changesFrom is xs (countIn r) ≡ writtenOf p
   pub held : countIn r ≤ roomOf (length is) (length xs)
   pub few : countIn r ≤ room
 
 -- so of a rule with the room that the flat lists have, narrowed
-abbrev pub ListsIn : ℕ → (ℕ → Paper (List TurnChange)) → Previewed → Lent ℕ → Lent Float → Type 0
-ListsIn room rule r indices records = ListsRecords room (narrowed room (rule (roomIn indices records))) r (now (indices .exit)) (now (records .exit))
+abbrev pub ListsIn : Stamp → ℕ → (ℕ → Paper (List TurnChange)) → Previewed → Lent ℕ → Lent Float → Type 0
+ListsIn st room rule r indices records = ListsRecords st room (narrowed room (rule (roomIn indices records))) r (now (indices .exit)) (now (records .exit))

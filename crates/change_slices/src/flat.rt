@@ -1,12 +1,11 @@
 // The changes of a tool in flat lists, where they are no more than the records that are lent.
 ghost use mathlib.Core.Path.{_≡_};
 ghost use Rattle.cuts.specs.Tool.{previewTool};
-ghost use Rattle.changes.specs.Change.{roomIn};
-ghost use Rattle.change_slices.specs.Proposal.{narrowed, narrowAnswer, countIn, ListsIn};
+ghost use Rattle.change_slices.specs.Proposal.{narrowAnswer, countIn, ListsIn};
 use changes::Previewed;
 use cuts::Tool;
 use refusals::Refusal;
-use stock::TurnStockSpec;
+use stock::TurnStock;
 
 // The same answer where it counts no more than room changes; 6.
 fn narrow(answer: Previewed, room: usize) -> Previewed
@@ -14,18 +13,18 @@ fn narrow(answer: Previewed, room: usize) -> Previewed
 {
     match answer {
         Previewed::Refused(r) => Previewed::Refused(r),
-        Previewed::Changes(k) => {
-            if room < k {
+        Previewed::Listed(list) => {
+            if room < list.count {
                 return Previewed::Refused(Refusal::ChangesOverRoom);
             }
-            Previewed::Changes(k)
+            Previewed::Listed(list)
         }
     }
 }
 
 // The changes of a tool in the flat lists, where they are no more than room.
 pub fn list(
-    spec: TurnStockSpec,
+    stock: TurnStock,
     cells: &[f64],
     tool: Tool,
     beside: &[f64],
@@ -33,9 +32,9 @@ pub fn list(
     indices: &mut [usize],
     records: &mut [f64],
 ) -> Previewed
-    ensures { λ r. ⌜ ListsIn room (previewTool spec (now (cells .entry)) tool (now (beside .entry))) r indices records ⌝ }
+    ensures { λ r. ⌜ ListsIn (stock .stamp) room (previewTool (stock .spec) (now (cells .entry)) tool (now (beside .entry))) r indices records ⌝ }
 {
-    let answer = cuts::preview_tool(spec, cells, tool, beside, indices, records);
+    let answer = cuts::preview_tool(stock, cells, tool, beside, indices, records);
     narrow(answer, room)
 }
 
@@ -44,7 +43,7 @@ pub fn count_of(answer: Previewed) -> usize
     ensures { λ r. ⌜ r ≡ countIn answer ⌝ }
 {
     match answer {
-        Previewed::Changes(k) => k,
+        Previewed::Listed(list) => list.count,
         Previewed::Refused(_) => 0,
     }
 }

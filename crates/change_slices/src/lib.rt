@@ -1,13 +1,12 @@
 // The change list as a lent slice of records: commit and move, and what a tool changes.
 //
 // A commit hands each record by value to a step of the fold that decides a list, and writes no cell
-// before all is decided. A move decides its list the same way, and then takes its rings. A tool's
+// before all is decided. A move decides its list as a commit does, and then takes its rings. A tool's
 // changes are listed in flat lists with room for every cell, and what they hold is read into the lent
 // records one by one.
 ghost use mathlib.Core.Path.{_≡_};
 ghost use Rattle.stock.specs.Cell.{putCell};
-ghost use Rattle.stock.specs.Stock.{stockFrom};
-ghost use Rattle.changes.specs.Commit.{commitOf, generationOf, appliedPaper, putAll, Commits};
+ghost use Rattle.changes.specs.Commit.{commitOf, generationOf, stockAt, appliedPaper, putAll, Commits};
 ghost use Rattle.cuts.specs.Tool.{previewTool};
 ghost use Rattle.moves.specs.Move.{MovesLent};
 ghost use Rattle.change_slices.specs.Read.{heldIn, ReadsInto};
@@ -18,8 +17,9 @@ use changes::Previewed;
 use cuts::Tool;
 use moves::Moved;
 use refusals::CELL_LIMIT;
+use stock::Stamp;
 use stock::TurnChange;
-use stock::TurnStockSpec;
+use stock::TurnStock;
 
 mod flat;
 mod moving;
@@ -36,18 +36,17 @@ fn put_after(cells: &mut [f64], change: TurnChange)
     stock::put_cell(cells, index, after);
 }
 
-// The generation after a commit of the changes, or its refusal: each record in turn is handed to a
-// step.
-fn decide(spec: TurnStockSpec, cells: &[f64], generation: u64, changes: &[TurnChange]) -> Applied
-    ensures { λ r. ⌜ appliedPaper r ≡ generationOf (commitOf spec (now (cells .entry)) generation (now (changes .entry))) ⌝ }
+// The stock after a commit of the changes, or its refusal: each record in turn is handed to a step.
+fn decide(stock: TurnStock, cells: &[f64], stamp: Stamp, changes: &[TurnChange]) -> Applied
+    ensures { λ r. ⌜ appliedPaper r ≡ stockAt stock (generationOf (commitOf stock (now (cells .entry)) stamp (now (changes .entry)))) ⌝ }
 {
-    let mut st = changes::begin(spec, cells);
+    let mut st = changes::begin(stock, cells, stamp);
     let mut i: usize = 0;
     while i < changes.len() {
         st = changes::step(st, cells, changes[i]);
         i += 1;
     }
-    changes::conclude(st, generation)
+    changes::conclude(st, stock)
 }
 
 // Every after-cell, written into its bin.
@@ -62,16 +61,12 @@ fn put_all(cells: &mut [f64], changes: &[TurnChange])
     }
 }
 
-// Commit the changes; 1, 2, 3, 7, then change by change 8, 21, 22, 23, then 12.
-pub fn apply(
-    spec: TurnStockSpec,
-    cells: &mut [f64],
-    generation: u64,
-    changes: &[TurnChange],
-) -> Applied
-    ensures { λ r. ⌜ Commits (commitOf spec (now (cells .entry)) generation (now (changes .entry))) r cells ⌝ }
+// Commit the changes of a list with this stamp: the stock afterwards; 1, 2, 3, 19 where the stamp is not
+// the stock's, 7, then change by change 8, 21, 22, 23, then 12.
+pub fn apply(stock: TurnStock, cells: &mut [f64], stamp: Stamp, changes: &[TurnChange]) -> Applied
+    ensures { λ r. ⌜ Commits stock (commitOf stock (now (cells .entry)) stamp (now (changes .entry))) r cells ⌝ }
 {
-    let answer = decide(spec, cells, generation, changes);
+    let answer = decide(stock, cells, stamp, changes);
     if !changes::is_accepted(answer) {
         return answer;
     }
@@ -79,23 +74,22 @@ pub fn apply(
     answer
 }
 
-// Commit the changes and take the rings `removed`: the stock afterwards; 1, 2, 3, 4, 10, 7, then change
-// by change 8, 21, 22, 23, then 12, 11.
+// Commit the changes of a list with this stamp and take the rings `removed`: the stock afterwards; 1, 2,
+// 3, 4, 19 where the stamp is not the stock's, 10, 7, then change by change 8, 21, 22, 23, then 12, 11.
 pub fn apply_move(
-    spec: TurnStockSpec,
+    stock: TurnStock,
     cells: &mut [f64],
     rings: &mut [f64],
-    count: usize,
-    generation: u64,
+    stamp: Stamp,
     changes: &[TurnChange],
     removed: &[f64],
 ) -> Moved
-    ensures { λ r. ⌜ MovesLent (stockFrom spec count generation)
-        (moveListOf spec (now (cells .entry)) (now (rings .entry)) count generation (now (changes .entry)) (now (removed .entry)))
+    ensures { λ r. ⌜ MovesLent stock
+        (moveListOf stock (now (cells .entry)) (now (rings .entry)) stamp (now (changes .entry)) (now (removed .entry)))
         r cells rings ⌝ }
 {
-    let decided = decide(spec, cells, 0, changes);
-    let answer = moving::store(spec, cells, rings, count, generation, decided, removed);
+    let decided = decide(stock, cells, stamp, changes);
+    let answer = moving::store(stock, cells, rings, stamp, decided, removed);
     if !moving::is_stored(answer) {
         return answer;
     }
@@ -130,21 +124,21 @@ pub fn read_changes(
     held
 }
 
-// The changes of a tool, as records: listed in flat lists with room for a change a cell, then read from
-// there; 1, 2, 3, 13, 5, 6.
+// The changes of a tool, as records, the list of this stock: listed in flat lists with room for a change
+// a cell, then read from there; 1, 2, 3, 13, 5, 6.
 pub fn propose(
-    spec: TurnStockSpec,
+    stock: TurnStock,
     cells: &[f64],
     tool: Tool,
     beside: &[f64],
     changes: &mut [TurnChange],
 ) -> Previewed
-    ensures { λ r. ⌜ Writes (previewTool spec (now (cells .entry)) tool (now (beside .entry))) r changes ⌝ }
+    ensures { λ r. ⌜ Writes (stock .stamp) (previewTool (stock .spec) (now (cells .entry)) tool (now (beside .entry))) r changes ⌝ }
 {
     let mut indices = [0usize; CELL_LIMIT];
     let mut records = [0.0f64; RECORD_LIMIT];
     let answer = flat::list(
-        spec,
+        stock,
         cells,
         tool,
         beside,

@@ -27,7 +27,7 @@ use Rattle.reach.proofs.Fit.{CellFit, fit-test, same-test, same-cell}
 use Rattle.reach.proofs.Removes.{Removes, Cuts}
 use Rattle.changes.specs.Change.{changeOf, changeAt, changesTo, indicesOf}
 use Rattle.changes.proofs.Rising.{RisingTo, rising}
-use Rattle.changes.specs.Commit.{onlyRemoves, appliesTo, passes, eachFrom, passAll, putAll, commitIn, commitOf}
+use Rattle.changes.specs.Commit.{onlyRemoves, appliesTo, passes, eachFrom, passAll, putAll, commitIn, ownCommit}
 use Rattle.changes.specs.Decide.{risesAfter, rises}
 use Rattle.changes.proofs.Falls.{rises-none}
 use Rattle.changes.proofs.Passed.{put-length}
@@ -164,10 +164,10 @@ module _ {spec : TurnStockSpec} {n : ℕ} {cs : List Float} (g : Good spec n cs)
   good-bins = put-bins (cleanSpec spec) n f cs (g .long) (g .fit) cuts
 
   -- a commit of them is refused only where the generations are spent
-  pub commit-is : (gen : ℕ) → commitOf spec cs gen (changesTo f cs n) ≡ demand (ltb gen lastGeneration) 12 (answers (record { cells = putAll cs (changesTo f cs n); generation = gen + 1 }))
-  unfolding commitOf commitIn
+  pub commit-is : (gen : ℕ) → ownCommit spec cs gen (changesTo f cs n) ≡ demand (ltb gen lastGeneration) 12 (answers (record { cells = putAll cs (changesTo f cs n); generation = gen + 1 }))
+  unfolding ownCommit commitIn
   commit-is gen = simp (good-stock g, good-pass, onward-answers)
 
   -- and accepted while they last
-  pub commit-accepts : (gen : ℕ) → gen < lastGeneration → commitOf spec cs gen (changesTo f cs n) ≡ answers (record { cells = putAll cs (changesTo f cs n); generation = gen + 1 })
+  pub commit-accepts : (gen : ℕ) → gen < lastGeneration → ownCommit spec cs gen (changesTo f cs n) ≡ answers (record { cells = putAll cs (changesTo f cs n); generation = gen + 1 })
   commit-accepts gen h = commit-is gen ∙ demand-true _ _ _ (lt-ltb gen lastGeneration h)

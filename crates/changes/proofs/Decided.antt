@@ -1,5 +1,5 @@
 -- How a list that is decided change by change comes out: as the rule of the whole list has it. Assumes nothing.
-use mathlib.Core.Path.{_≡_, refl, sym, _∙_, ap, ap₂}
+use mathlib.Core.Path.{_≡_, refl, sym, _∙_, ap, ap₂, subst}
 use mathlib.Core.Bool.{Bool, true, false, not, _&&_, _||_, false≢true}
 use mathlib.Core.List.{List, [], _∷_, _++_}
 use mathlib.Core.Option.{Option, none, some}
@@ -14,15 +14,19 @@ use Rattle.refusals.specs.Limits.{lastGeneration, lastPlace}
 use Rattle.floats.specs.Pick.{pick, pick-true}
 use Rattle.stock.specs.declared.TurnStockSpec.{TurnStockSpec}
 use Rattle.stock.specs.declared.TurnChange.{TurnChange}
+use Rattle.stock.specs.declared.Stamp.{Stamp}
+use Rattle.stock.specs.declared.TurnStock.{TurnStock}
 use Rattle.stock.specs.Spec.{cleanSpec}
 use Rattle.stock.specs.Cell.{cellAt, sameCell, stockOf}
+use Rattle.stock.specs.Stock.{sameStamp}
 use Rattle.changes.specs.declared.Applied.{Applied}
 use Rattle.changes.specs.declared.Applied.the-variants as applied
 use Rattle.changes.specs.Change.{roomOf, changeFrom, changeHeld, changesFrom}
-use Rattle.changes.specs.Commit.{onlyRemoves, appliesTo, passes, eachFrom, fallAfter, firstFall, passAll, putAll, commitIn, commitOf, Committed, appliedPaper, generationOf, cellsAfter, Applies}
-use Rattle.changes.specs.Decide.{applies, rises, Decides, onCells, onStock, beginOf, stepOf, stepsOf, outcomeOf, raisedOf, concludeOf, isAccepted}
+use Rattle.changes.specs.Commit.{onlyRemoves, appliesTo, passes, eachFrom, fallAfter, firstFall, passAll, putAll, commitIn, commitOf, Committed, appliedPaper, generationOf, stockAt, cellsAfter, Applies}
+use Rattle.changes.specs.Decide.{applies, rises, Decides, onCells, onStock, stampedStock, beginOf, stepOf, stepsOf, outcomeOf, raisedOf, concludeOf, isAccepted}
 use Rattle.changes.proofs.Passed.{from-next, further}
 use Rattle.changes.proofs.Falls.{rises-none, from-length}
+use Rattle.changes.proofs.Written.{ask-then}
 use Rattle.stock.proofs.Count.{and-both}
 
 -- ---- how the changes that are left decide it
@@ -109,14 +113,17 @@ module _ (cs : List Float) where
   unfolding withRest onward passAll
   on-cells s n l h = comes (onCells s n) l (from-first l h) ∙ ap (λ (o : Option ℕ). demandNone o 7 (eachFrom s n cs 0 l)) (pick-true true (fallFrom false 0 0 l) (some 0) refl ∙ first-is l)
 
-  -- of a stock that is asked: 1, 2, 3, then 7, then change by change
-  pub from-begin : (spec : TurnStockSpec) (l : List TurnChange) → length l ≤ lastPlace → outcomeOf (stepsOf cs (beginOf spec cs) l) ≡ onward (stockOf spec cs) (λ n. passAll (cleanSpec spec) n cs l)
+  -- of a stock that is asked: 1, 2, 3, 19, then 7, then change by change
+  pub from-begin : (k : TurnStock) (st : Stamp) (l : List TurnChange) → length l ≤ lastPlace → outcomeOf (stepsOf cs (beginOf k cs st) l) ≡ onward (stampedStock k cs st) (λ n. passAll (cleanSpec (k .spec)) n cs l)
   unfolding beginOf onward withRest
-  from-begin spec l h = at-stock (stockOf spec cs)
+  from-begin k st l h = at-stock (stampedStock k cs st)
     where
-      at-stock : (p : Paper ℕ) → outcomeOf (stepsOf cs (onStock (cleanSpec spec) p) l) ≡ onward p (λ n. passAll (cleanSpec spec) n cs l)
-      at-stock (answers n) = on-cells (cleanSpec spec) n l h
-      at-stock (refuses r) = comes (onStock (cleanSpec spec) (refuses r)) l (from-first l h)
+      s : TurnStockSpec
+      s = cleanSpec (k .spec)
+
+      at-stock : (p : Paper ℕ) → outcomeOf (stepsOf cs (onStock s p) l) ≡ onward p (λ n. passAll s n cs l)
+      at-stock (answers n) = on-cells s n l h
+      at-stock (refuses r) = comes (onStock s (refuses r)) l (from-first l h)
 
   -- ---- the lent lists, change by change
   sides : (p q r m : Paper (Unit {0})) → q ≡ onward r (λ _. m) → onward p (λ _. q) ≡ onward (onward p (λ _. r)) (λ _. m)
@@ -220,12 +227,23 @@ raised-in s n cs gen l = at-pass (passAll s n cs l)
     at-pass (answers a) = at-test (ltb gen lastGeneration)
     at-pass (refuses r) = refl
 
-pub conclude-is : (spec : TurnStockSpec) (cs : List Float) (gen : ℕ) (l : List TurnChange) → length l ≤ lastPlace → concludeOf (stepsOf cs (beginOf spec cs) l) gen ≡ generationOf (commitOf spec cs gen l)
-unfolding commitOf onward raisedOf
-conclude-is spec cs gen l h = ap (λ (p : Paper (Unit {0})). raisedOf p gen) (from-begin cs spec l h) ∙ at-stock (stockOf spec cs)
+-- a commit asks for the list's stamp with the stock
+pub commit-asks : (k : TurnStock) (cs : List Float) (st : Stamp) (l : List TurnChange) → commitOf k cs st l ≡ onward (stampedStock k cs st) (λ n. commitIn (cleanSpec (k .spec)) n cs (k .stamp .generation) l)
+unfolding commitOf stampedStock
+commit-asks k cs st l = ask-then (stockOf (k .spec) cs) (sameStamp st (k .stamp)) 19 (λ n. commitIn (cleanSpec (k .spec)) n cs (k .stamp .generation) l)
+
+pub conclude-is : (k : TurnStock) (cs : List Float) (st : Stamp) (l : List TurnChange) → length l ≤ lastPlace → concludeOf (stepsOf cs (beginOf k cs st) l) (k .stamp .generation) ≡ generationOf (commitOf k cs st l)
+unfolding onward raisedOf
+conclude-is k cs st l h =
+    ap (λ (p : Paper (Unit {0})). raisedOf p (k .stamp .generation)) (from-begin cs k st l h)
+    ∙ at-stock (stampedStock k cs st)
+    ∙ ap generationOf (sym (commit-asks k cs st l))
   where
-    at-stock : (p : Paper ℕ) → raisedOf (onward p (λ n. passAll (cleanSpec spec) n cs l)) gen ≡ generationOf (onward p (λ n. commitIn (cleanSpec spec) n cs gen l))
-    at-stock (answers n) = raised-in (cleanSpec spec) n cs gen l
+    s : TurnStockSpec
+    s = cleanSpec (k .spec)
+
+    at-stock : (p : Paper ℕ) → raisedOf (onward p (λ n. passAll s n cs l)) (k .stamp .generation) ≡ generationOf (onward p (λ n. commitIn s n cs (k .stamp .generation) l))
+    at-stock (answers n) = raised-in s n cs (k .stamp .generation) l
     at-stock (refuses r) = refl
 
 -- ---- what a commit leaves, by its answer
@@ -236,13 +254,17 @@ answering (answers a) = true
 answering (refuses r) = false
 
 accepted-is : (r : Applied) → isAccepted r ≡ answering (appliedPaper r)
-accepted-is (applied.Generation g) = refl
+accepted-is (applied.Stock k) = refl
 accepted-is (applied.Refused c) = refl
 accepted-is (applied.RefusedAt c k) = refl
 
 answering-is : (p : Paper Committed) → answering (generationOf p) ≡ answering p
 answering-is (answers k) = refl
 answering-is (refuses r) = refl
+
+at-is : (k : TurnStock) (p : Paper ℕ) → answering (stockAt k p) ≡ answering p
+at-is k (answers g) = refl
+at-is k (refuses r) = refl
 
 -- a commit that answers leaves every after-cell in its bin
 module _ (cs : List Float) (gen : ℕ) (l : List TurnChange) where
@@ -262,25 +284,29 @@ module _ (cs : List Float) (gen : ℕ) (l : List TurnChange) where
       at-pass (answers a) = puts-test (ltb gen lastGeneration)
       at-pass (refuses r) = λ e. absurd (false≢true e)
 
-  pub puts-all : (spec : TurnStockSpec) → Puts (commitOf spec cs gen l)
-  unfolding commitOf onward
-  puts-all spec = at-stock (stockOf spec cs)
-    where
-      at-stock : (p : Paper ℕ) → Puts (onward p (λ n. commitIn (cleanSpec spec) n cs gen l))
-      at-stock (answers n) = puts-in (cleanSpec spec) n
-      at-stock (refuses r) = λ e. absurd (false≢true e)
+-- so of a list that is asked for its stamp
+pub puts-all : (k : TurnStock) (cs : List Float) (st : Stamp) (l : List TurnChange) → Puts cs (k .stamp .generation) l (commitOf k cs st l)
+unfolding onward
+puts-all k cs st l = subst (Puts cs (k .stamp .generation) l) (sym (commit-asks k cs st l)) (at-stock (stampedStock k cs st))
+  where
+    s : TurnStockSpec
+    s = cleanSpec (k .spec)
+
+    at-stock : (p : Paper ℕ) → Puts cs (k .stamp .generation) l (onward p (λ n. commitIn s n cs (k .stamp .generation) l))
+    at-stock (answers n) = puts-in cs (k .stamp .generation) l s n
+    at-stock (refuses r) = λ e. absurd (false≢true e)
 
 leaves : (p : Paper Committed) (cs : List Float) → answering p ≡ false → cellsAfter p cs ≡ cs
 leaves (answers k) cs e = absurd (false≢true (sym e))
 leaves (refuses r) cs e = refl
 
 -- the answer is accepted and the cells are written, or it is a refusal and they are as they were
-module _ (p : Paper Committed) (cs : List Float) (r : Applied) (e : appliedPaper r ≡ generationOf p) where
+module _ (k : TurnStock) (p : Paper Committed) (cs : List Float) (r : Applied) (e : appliedPaper r ≡ stockAt k (generationOf p)) where
   same : isAccepted r ≡ answering p
-  same = accepted-is r ∙ ap answering e ∙ answering-is p
+  same = accepted-is r ∙ ap answering e ∙ at-is k (generationOf p) ∙ answering-is p
 
-  pub written : (gen : ℕ) (l : List TurnChange) → Puts cs gen l p → isAccepted r ≡ true → (cs' : List Float) → cs' ≡ putAll cs l → Applies p r cs cs'
+  pub written : (gen : ℕ) (l : List TurnChange) → Puts cs gen l p → isAccepted r ≡ true → (cs' : List Float) → cs' ≡ putAll cs l → Applies k p r cs cs'
   written gen l puts a cs' q = record { answer = e; cells = q ∙ sym (puts (sym same ∙ a)) }
 
-  pub refused : isAccepted r ≡ false → Applies p r cs cs
+  pub refused : isAccepted r ≡ false → Applies k p r cs cs
   refused a = record { answer = e; cells = sym (leaves p cs (sym same ∙ a)) }

@@ -4,8 +4,9 @@ pub mod ReadBack
 pub mod Proposals
 pub mod Passed
 pub mod Falls
-pub mod Decided
 pub mod Written
+pub mod Stamped
+pub mod Decided
 pub mod Differences
 pub mod Stocks
 pub mod Accepted

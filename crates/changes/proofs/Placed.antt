@@ -16,7 +16,7 @@ use Rattle.stock.specs.declared.TurnCell.{TurnCell}
 use Rattle.stock.specs.declared.TurnChange.{TurnChange}
 use Rattle.stock.specs.Cell.{cellAt, fourOf, putCell, sameCell}
 use Rattle.stock.proofs.Cells.{put-room}
-use Rattle.changes.specs.Change.{changeOf, changesTo, indicesOf, rowOf, numbersOf, roomOf, PutChange, lists, Listed, Listing}
+use Rattle.changes.specs.Change.{changeOf, changesTo, indicesOf, rowOf, numbersOf, roomOf, PutChange, lists, ListedOne, Listing}
 use Rattle.changes.proofs.Rising.{kept, made, grows, grown}
 
 -- no room: both lists stay
@@ -50,7 +50,7 @@ numbers-more (d ∷ l) c = rw (numbers-more l c)
 
 -- ---- the change, listed where it is one
 -- the cells are the same: both lists stay
-pub list-same : (k : ℕ) (c : TurnChange) (is : List ℕ) (xs : List Float) → sameCell (c .before) (c .after) ≡ true → Listed k k c is is xs xs
+pub list-same : (k : ℕ) (c : TurnChange) (is : List ℕ) (xs : List Float) → sameCell (c .before) (c .after) ≡ true → ListedOne k k c is is xs xs
 list-same k c is xs e =
     let n : lists (roomOf (length is) (length xs)) k c ≡ false = simp e in
     record { count = sym (pick-false _ _ _ n); indices = sym (pick-false _ _ _ n); numbers = sym (pick-false _ _ _ n) }
@@ -60,7 +60,7 @@ and-false true = refl
 and-false false = refl
 
 -- no room: both lists stay
-pub list-none : (k : ℕ) (c : TurnChange) (is : List ℕ) (xs : List Float) → roomOf (length is) (length xs) ≤ k → Listed k k c is is xs xs
+pub list-none : (k : ℕ) (c : TurnChange) (is : List ℕ) (xs : List Float) → roomOf (length is) (length xs) ≤ k → ListedOne k k c is is xs xs
 list-none k c is xs h =
     let n : lists (roomOf (length is) (length xs)) k c ≡ false = ap (λ (t : Bool). not (sameCell (c .before) (c .after)) && t) (le-ltb k (roomOf (length is) (length xs)) h) ∙ and-false (not (sameCell (c .before) (c .after))) in
     record { count = sym (pick-false _ _ _ n); indices = sym (pick-false _ _ _ n); numbers = sym (pick-false _ _ _ n) }
@@ -68,7 +68,7 @@ list-none k c is xs h =
 lists-is : (k : ℕ) (c : TurnChange) (room : ℕ) → sameCell (c .before) (c .after) ≡ false → k < room → lists room k c ≡ true
 lists-is k c room e h = simp (e, lt-ltb k room h)
 
-pub list-put : (k : ℕ) (c : TurnChange) (is is' : List ℕ) (xs xs' : List Float) → sameCell (c .before) (c .after) ≡ false → k < roomOf (length is) (length xs) → PutChange k c is is' xs xs' → Listed k (k + 1) c is is' xs xs'
+pub list-put : (k : ℕ) (c : TurnChange) (is is' : List ℕ) (xs xs' : List Float) → sameCell (c .before) (c .after) ≡ false → k < roomOf (length is) (length xs) → PutChange k c is is' xs xs' → ListedOne k (k + 1) c is is' xs xs'
 list-put k c is is' xs xs' e h p =
     let y = lists-is k c (roomOf (length is) (length xs)) e h in
     record {
@@ -87,7 +87,7 @@ module _ (f : ℕ → TurnCell → TurnCell) (cs : List Float) (i n k k' : ℕ) 
   index-length = length-map (changesTo f cs i) (λ (x : TurnChange). x .index)
 
   -- one more where its cell becomes another
-  next-made : Listed k k' (changeOf f cs i) is is' xs xs' → sameCell (cellAt cs i) (f i (cellAt cs i)) ≡ false → Listing f cs (i + 1) k' is₀ is' xs₀ xs'
+  next-made : ListedOne k k' (changeOf f cs i) is is' xs xs' → sameCell (cellAt cs i) (f i (cellAt cs i)) ≡ false → Listing f cs (i + 1) k' is₀ is' xs₀ xs'
   next-made p e =
       let m = made f cs i e in
       let grow = grown f cs i n e below in
@@ -109,7 +109,7 @@ module _ (f : ℕ → TurnCell → TurnCell) (cs : List Float) (i n k k' : ℕ) 
       }
 
   -- none more where it stays
-  next-kept : Listed k k' (changeOf f cs i) is is' xs xs' → sameCell (cellAt cs i) (f i (cellAt cs i)) ≡ true → Listing f cs (i + 1) k' is₀ is' xs₀ xs'
+  next-kept : ListedOne k k' (changeOf f cs i) is is' xs xs' → sameCell (cellAt cs i) (f i (cellAt cs i)) ≡ true → Listing f cs (i + 1) k' is₀ is' xs₀ xs'
   next-kept p e =
       let m = kept f cs i e in
       let y : lists (roomOf (length is) (length xs)) k (changeOf f cs i) ≡ false = simp e in
@@ -119,10 +119,10 @@ module _ (f : ℕ → TurnCell → TurnCell) (cs : List Float) (i n k k' : ℕ) 
         numbers = p .numbers ∙ pick-false _ _ _ y ∙ rw m (g .numbers);
       }
 
-  pub listing-next : (c : TurnChange) → c ≡ changeOf f cs i → Listed k k' c is is' xs xs' → Listing f cs (i + 1) k' is₀ is' xs₀ xs'
-  listing-next c ec p = go (sameCell (cellAt cs i) (f i (cellAt cs i))) refl (subst (λ (x : TurnChange). Listed k k' x is is' xs xs') ec p)
+  pub listing-next : (c : TurnChange) → c ≡ changeOf f cs i → ListedOne k k' c is is' xs xs' → Listing f cs (i + 1) k' is₀ is' xs₀ xs'
+  listing-next c ec p = go (sameCell (cellAt cs i) (f i (cellAt cs i))) refl (subst (λ (x : TurnChange). ListedOne k k' x is is' xs xs') ec p)
     where
-      go : (t : Bool) → sameCell (cellAt cs i) (f i (cellAt cs i)) ≡ t → Listed k k' (changeOf f cs i) is is' xs xs' → Listing f cs (i + 1) k' is₀ is' xs₀ xs'
+      go : (t : Bool) → sameCell (cellAt cs i) (f i (cellAt cs i)) ≡ t → ListedOne k k' (changeOf f cs i) is is' xs xs' → Listing f cs (i + 1) k' is₀ is' xs₀ xs'
       go true e q = next-kept q e
       go false e q = next-made q e
 

@@ -21,11 +21,19 @@ use Rattle.stock.proofs.Count.{no-answer, same-answer}
 use Rattle.reach.specs.Reach.{Act, actCell}
 use Rattle.reach.specs.Kinds.{PlainAct}
 use Rattle.reach.proofs.Removes.{Cuts, cut-cuts}
-use Rattle.changes.specs.declared.Previewed.the-variants.{Changes}
-use Rattle.changes.specs.Change.{changesTo, indicesOf, numbersOf, roomOf, settled, Proposed}
+use Rattle.stock.specs.declared.Stamp.{Stamp}
+use Rattle.stock.specs.declared.TurnStock.{TurnStock}
+use Rattle.stock.specs.Stock.{sameStamp}
+use Rattle.stock.proofs.Stamps.{own-stamp}
+use Rattle.changes.specs.declared.ChangeList.{ChangeList}
+use Rattle.changes.specs.declared.Tally.the-variants.{Changes}
+use Rattle.changes.specs.declared.Previewed.the-variants.{Listed}
+use Rattle.changes.specs.Change.{changesTo, indicesOf, numbersOf, roomOf, settled, Tallied, Proposed}
 use Rattle.changes.proofs.Placed.{length-numbers}
 use Rattle.changes.proofs.ReadBack.{read-back}
-use Rattle.changes.specs.Commit.{putAll, commitIn, commitOf, applyOf}
+use Rattle.changes.specs.Commit.{Committed, putAll, commitIn, commitOf, ownCommit, applyOf}
+use Rattle.changes.proofs.Proposals.{of-stock}
+use Rattle.changes.proofs.Stamped.{passed-by, own-commit}
 use Rattle.changes.proofs.Stocks.{Good}
 use Rattle.changes.proofs.Accepted.{commit-accepts}
 
@@ -39,11 +47,11 @@ pub record Wrote (l : List TurnChange) (k : ℕ) (is is' : List ℕ) (xs xs' : L
   pub numbers : xs' ≡ over (numbersOf l) xs
 
 -- so it is of a proposal that answered with a count
-pub wrote : (l : List TurnChange) (k : ℕ) (is is' : List ℕ) (xs xs' : List Float) → Proposed (settled (roomOf (length is) (length xs)) l) (Changes k) is is' xs xs' → Wrote l k is is' xs xs'
+pub wrote : (l : List TurnChange) (k : ℕ) (is is' : List ℕ) (xs xs' : List Float) → Tallied (settled (roomOf (length is) (length xs)) l) (Changes k) is is' xs xs' → Wrote l k is is' xs xs'
 unfolding demand
 wrote l k is is' xs xs' p = go (leb (length l) (roomOf (length is) (length xs))) refl p
   where
-    go : (t : Bool) → leb (length l) (roomOf (length is) (length xs)) ≡ t → Proposed (demand t 6 (answers l)) (Changes k) is is' xs xs' → Wrote l k is is' xs xs'
+    go : (t : Bool) → leb (length l) (roomOf (length is) (length xs)) ≡ t → Tallied (demand t 6 (answers l)) (Changes k) is is' xs xs' → Wrote l k is is' xs xs'
     go true e q = record { count = same-answer (q .answer); room = leb-true (length l) (roomOf (length is) (length xs)) e; indices = q .indices; numbers = q .numbers }
     go false e q = absurd (no-answer (only 6) k (sym (q .answer)))
 
@@ -56,23 +64,23 @@ room-kept l is xs h =
     let x = length-over (numbersOf l) xs (omega arith) in
     omega arith
 
--- a commit of k changes from the lists is a commit of the changes that were proposed into them, refused or accepted
-pub lent-is : (spec : TurnStockSpec) (cs : List Float) (gen k : ℕ) (l : List TurnChange) (is is' : List ℕ) (xs xs' : List Float) → Proposed (settled (roomOf (length is) (length xs)) l) (Changes k) is is' xs xs' → applyOf spec cs gen is' xs' k ≡ commitOf spec cs gen l
-unfolding applyOf commitOf
-lent-is spec cs gen k l is is' xs xs' p =
-    let w = wrote l k is is' xs xs' p in
+-- a commit of the list that was answered is a commit of the changes that were proposed into the lent lists, refused or accepted
+pub lent-is : (k : TurnStock) (cs : List Float) (list : ChangeList) (l : List TurnChange) (is is' : List ℕ) (xs xs' : List Float) → Proposed (k .stamp) (settled (roomOf (length is) (length xs)) l) (Listed list) is is' xs xs'
+    → applyOf k cs list is' xs' ≡ ownCommit (k .spec) cs (k .stamp .generation) l
+unfolding applyOf ownCommit
+lent-is k cs list l is is' xs xs' p =
+    let o = of-stock (k .stamp) (settled (roomOf (length is) (length xs)) l) list is is' xs xs' p in
+    let w = wrote l (list .count) is is' xs xs' (o .tally) in
     let e = le-leb (length l) (roomOf (length (over (indicesOf l) is)) (length (over (numbersOf l) xs))) (room-kept l is xs (w .room)) in
-    rw (w .count, w .indices, w .numbers, e, read-back l is xs) (go (stockOf spec cs))
-  where
-    go : (q : Paper ℕ) → onward q (λ n. demand true 6 (commitIn (cleanSpec spec) n cs gen l)) ≡ onward q (λ n. commitIn (cleanSpec spec) n cs gen l)
-    go (answers n) = onward-answers n (λ m. demand true 6 (commitIn (cleanSpec spec) m cs gen l)) ∙ demand-true true 6 (commitIn (cleanSpec spec) n cs gen l) refl ∙ sym (onward-answers n (λ m. commitIn (cleanSpec spec) m cs gen l))
-    go (refuses r) = onward-refuses r (λ m. demand true 6 (commitIn (cleanSpec spec) m cs gen l)) ∙ sym (onward-refuses r (λ m. commitIn (cleanSpec spec) m cs gen l))
+    let commit : ℕ → Paper Committed = λ (n : ℕ). commitIn (cleanSpec (k .spec)) n cs (k .stamp .generation) l in
+    rw (o .stamp, w .count, w .indices, w .numbers, e, read-back l is xs)
+    (passed-by (stockOf (k .spec) cs) (sameStamp (k .stamp) (k .stamp)) 19 (λ n. demand true 6 (commit n)) (own-stamp (k .stamp)) ∙ passed-by (stockOf (k .spec) cs) true 6 commit refl)
 
 -- so, on a stock that is not refused, changes to cells that fit, none of which adds material, are accepted from the lists too, while generations last
-pub lent-accepts : {spec : TurnStockSpec} {n : ℕ} {cs : List Float} (g : Good spec n cs) (f : ℕ → TurnCell → TurnCell) → ((i : ℕ) → i < n → Cuts (cleanSpec spec) (cellAt cs i) (f i (cellAt cs i)))
-    → (gen k : ℕ) (is is' : List ℕ) (xs xs' : List Float) → gen < lastGeneration → Proposed (settled (roomOf (length is) (length xs)) (changesTo f cs n)) (Changes k) is is' xs xs'
-    → applyOf spec cs gen is' xs' k ≡ answers (record { cells = putAll cs (changesTo f cs n); generation = gen + 1 })
-lent-accepts {spec} {n} {cs} g f cuts gen k is is' xs xs' h p = lent-is spec cs gen k (changesTo f cs n) is is' xs xs' p ∙ commit-accepts g f cuts gen h
+pub lent-accepts : (k : TurnStock) {n : ℕ} {cs : List Float} (g : Good (k .spec) n cs) (f : ℕ → TurnCell → TurnCell) → ((i : ℕ) → i < n → Cuts (cleanSpec (k .spec)) (cellAt cs i) (f i (cellAt cs i)))
+    → (list : ChangeList) (is is' : List ℕ) (xs xs' : List Float) → k .stamp .generation < lastGeneration → Proposed (k .stamp) (settled (roomOf (length is) (length xs)) (changesTo f cs n)) (Listed list) is is' xs xs'
+    → applyOf k cs list is' xs' ≡ answers (record { cells = putAll cs (changesTo f cs n); generation = k .stamp .generation + 1 })
+lent-accepts k {n} {cs} g f cuts list is is' xs xs' h p = lent-is k cs list (changesTo f cs n) is is' xs xs' p ∙ commit-accepts g f cuts (k .stamp .generation) h
 
 -- ---- a cut whose numbers are plain leaves cells that fit and adds nothing
 -- over each cell of the stock

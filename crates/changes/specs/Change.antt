@@ -14,9 +14,13 @@ use Rattle.refusals.specs.Lent.{Lent, over}
 use Rattle.floats.specs.Pick.{pick}
 use Rattle.stock.specs.declared.TurnCell.{TurnCell}
 use Rattle.stock.specs.declared.TurnChange.{TurnChange}
+use Rattle.stock.specs.declared.Stamp.{Stamp}
 use Rattle.stock.specs.Cell.{cellAt, noCell, fourOf, sameCell}
+use Rattle.changes.specs.declared.Tally.{Tally}
+use Rattle.changes.specs.declared.Tally.the-variants as tally
+use Rattle.changes.specs.declared.ChangeList.{ChangeList}
 use Rattle.changes.specs.declared.Previewed.{Previewed}
-use Rattle.changes.specs.declared.Previewed.the-variants.{Changes, Refused}
+use Rattle.changes.specs.declared.Previewed.the-variants as previewed
 
 -- ---- what changes, where f says what the cell of each bin becomes
 
@@ -72,7 +76,7 @@ abbrev pub lists : ℕ → ℕ → TurnChange → Bool
 lists room k c = not (sameCell (c .before) (c .after)) && ltb k room
 
 -- the two lists with the change behind k others, and how many there are then
-pub record Listed (k k' : ℕ) (c : TurnChange) (is is' : List ℕ) (xs xs' : List Float) : Type 0 where
+pub record ListedOne (k k' : ℕ) (c : TurnChange) (is is' : List ℕ) (xs xs' : List Float) : Type 0 where
   pub count : k' ≡ pick (lists (roomOf (length is) (length xs)) k c) (k + 1) k
   pub indices : is' ≡ pick (lists (roomOf (length is) (length xs)) k c) (set is k (c .index)) is
   pub numbers : xs' ≡ pick (lists (roomOf (length is) (length xs)) k c) (sets xs (8 * k) (rowOf c)) xs
@@ -83,12 +87,12 @@ pub record Listing (f : ℕ → TurnCell → TurnCell) (cs : List Float) (i k : 
   pub indices : is' ≡ over (indicesOf (changesTo f cs i)) is
   pub numbers : xs' ≡ over (numbersOf (changesTo f cs i)) xs
 
--- ---- the answer of a call that proposes changes
+-- ---- how many changes a rule proposes
 
--- what it says, case by case
-abbrev pub previewedPaper : Previewed → Paper ℕ
-previewedPaper (Changes k) = answers k
-previewedPaper (Refused c) = refuses (reasonOf c)
+-- what a tally says, case by case
+abbrev pub tallyPaper : Tally → Paper ℕ
+tallyPaper (tally.Changes k) = answers k
+tallyPaper (tally.Refused c) = refuses (reasonOf c)
 
 -- 6 unless there is room for the changes
 abbrev pub settled : ℕ → List TurnChange → Paper (List TurnChange)
@@ -104,9 +108,26 @@ abbrev pub writtenOf : Paper (List TurnChange) → List TurnChange
 writtenOf (answers l) = l
 writtenOf (refuses n) = []
 
--- The two lists after a proposal: its changes over the front, the rest as it was.
-pub record Proposed (p : Paper (List TurnChange)) (r : Previewed) (is is' : List ℕ) (xs xs' : List Float) : Type 0 where
-  pub answer : previewedPaper r ≡ countOf p
+-- The two lists after a proposal: its changes over the front, the rest as it was; and how many they are.
+pub record Tallied (p : Paper (List TurnChange)) (r : Tally) (is is' : List ℕ) (xs xs' : List Float) : Type 0 where
+  pub answer : tallyPaper r ≡ countOf p
+  pub indices : is' ≡ over (indicesOf (writtenOf p)) is
+  pub numbers : xs' ≡ over (numbersOf (writtenOf p)) xs
+
+-- ---- the answer of a call that proposes changes: their list, with the stamp of the stock that it is of
+
+abbrev pub previewedPaper : Previewed → Paper ChangeList
+previewedPaper (previewed.Listed l) = answers l
+previewedPaper (previewed.Refused c) = refuses (reasonOf c)
+
+-- a list of so many changes
+abbrev pub stamped : Stamp → Paper ℕ → Paper ChangeList
+stamped st (answers k) = answers (record { count = k; stamp = st })
+stamped st (refuses n) = refuses n
+
+-- the answer, of a stock with this stamp, and the two lists
+pub record Proposed (st : Stamp) (p : Paper (List TurnChange)) (r : Previewed) (is is' : List ℕ) (xs xs' : List Float) : Type 0 where
+  pub answer : previewedPaper r ≡ stamped st (countOf p)
   pub indices : is' ≡ over (indicesOf (writtenOf p)) is
   pub numbers : xs' ≡ over (numbersOf (writtenOf p)) xs
 
@@ -122,15 +143,18 @@ PutsChange k c indices records = PutChange k c (now (indices .entry)) (now (indi
 
 -- the change behind k others, and how many there are then
 abbrev pub ListsChange : ℕ → ℕ → TurnChange → Lent ℕ → Lent Float → Type 0
-ListsChange k k' c indices records = Listed k k' c (now (indices .entry)) (now (indices .exit)) (now (records .entry)) (now (records .exit))
+ListsChange k k' c indices records = ListedOne k k' c (now (indices .entry)) (now (indices .exit)) (now (records .entry)) (now (records .exit))
 
 -- the changes of the bins below i, and how many those are
 abbrev pub ListsBelow : (ℕ → TurnCell → TurnCell) → List Float → ℕ → ℕ → Lent ℕ → Lent Float → Type 0
 ListsBelow f cs i k indices records = Listing f cs i k (now (indices .entry)) (now (indices .exit)) (now (records .entry)) (now (records .exit))
 
--- what a rule proposes, with the room that is lent
-abbrev pub Proposes : (ℕ → Paper (List TurnChange)) → Previewed → Lent ℕ → Lent Float → Type 0
-Proposes rule r indices records = Proposed (rule (roomIn indices records)) r (now (indices .entry)) (now (indices .exit)) (now (records .entry)) (now (records .exit))
+-- what a rule proposes, with the room that is lent: counted, and as the list of a stock with this stamp
+abbrev pub Tallies : (ℕ → Paper (List TurnChange)) → Tally → Lent ℕ → Lent Float → Type 0
+Tallies rule r indices records = Tallied (rule (roomIn indices records)) r (now (indices .entry)) (now (indices .exit)) (now (records .entry)) (now (records .exit))
+
+abbrev pub Proposes : Stamp → (ℕ → Paper (List TurnChange)) → Previewed → Lent ℕ → Lent Float → Type 0
+Proposes st rule r indices records = Proposed st (rule (roomIn indices records)) r (now (indices .entry)) (now (indices .exit)) (now (records .entry)) (now (records .exit))
 
 -- there is room for the changes of the bins below n
 abbrev pub RoomFor : (ℕ → TurnCell → TurnCell) → List Float → ℕ → List ℕ → List Float → Type 0

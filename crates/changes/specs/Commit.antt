@@ -16,9 +16,13 @@ use Rattle.floats.specs.Pick.{pick}
 use Rattle.stock.specs.declared.TurnStockSpec.{TurnStockSpec}
 use Rattle.stock.specs.declared.TurnCell.{TurnCell}
 use Rattle.stock.specs.declared.TurnChange.{TurnChange}
+use Rattle.stock.specs.declared.Stamp.{Stamp}
+use Rattle.stock.specs.declared.TurnStock.{TurnStock}
 use Rattle.stock.specs.Spec.{cleanSpec}
 use Rattle.stock.specs.Cell.{cellAt, cellFits, sameCell, stockOf, putCell}
+use Rattle.stock.specs.Stock.{sameStamp, stockWith}
 use Rattle.changes.specs.Change.{roomOf, changesFrom}
+use Rattle.changes.specs.declared.ChangeList.{ChangeList}
 use Rattle.changes.specs.declared.Passing.{Passing}
 use Rattle.changes.specs.declared.Passing.the-variants as passing
 use Rattle.changes.specs.declared.Applied.{Applied}
@@ -98,20 +102,24 @@ commitIn s n cs gen l =
 abbrev pub commitHeld : TurnStockSpec → ℕ → List Float → ℕ → List ℕ → List Float → ℕ → Paper Committed
 commitHeld s n cs gen is xs k = commitIn s n cs gen (changesFrom is xs (min k (roomOf (length is) (length xs))))
 
--- a commit of a list of changes: 1, 2, 3, 7, then 8, 21, 22, 23 change by change, 12
-unfoldable pub commitOf : TurnStockSpec → List Float → ℕ → List TurnChange → Paper Committed
-commitOf spec cs gen l = onward (stockOf spec cs) (λ n. commitIn (cleanSpec spec) n cs gen l)
+-- a commit of a list of changes with its stamp: 1, 2, 3, 19 unless the stamp is the stock's, 7, then 8, 21, 22, 23 change by change, 12
+unfoldable pub commitOf : TurnStock → List Float → Stamp → List TurnChange → Paper Committed
+commitOf k cs st l =
+    onward (stockOf (k .spec) cs) (λ n.
+    demand (sameStamp st (k .stamp)) 19
+    (commitIn (cleanSpec (k .spec)) n cs (k .stamp .generation) l))
 
--- a commit of k changes of the lent lists: the same, with 6 directly after 3 where they hold fewer
-unfoldable pub applyOf : TurnStockSpec → List Float → ℕ → List ℕ → List Float → ℕ → Paper Committed
-applyOf spec cs gen is xs k =
-    onward (stockOf spec cs) (λ n.
-    demand (leb k (roomOf (length is) (length xs))) 6
-    (commitIn (cleanSpec spec) n cs gen (changesFrom is xs k)))
+-- a commit of a change list from the lent lists: the same, with 6 directly after 19 where they hold fewer
+unfoldable pub applyOf : TurnStock → List Float → ChangeList → List ℕ → List Float → Paper Committed
+applyOf k cs list is xs =
+    onward (stockOf (k .spec) cs) (λ n.
+    demand (sameStamp (list .stamp) (k .stamp)) 19
+    (demand (leb (list .count) (roomOf (length is) (length xs))) 6
+    (commitIn (cleanSpec (k .spec)) n cs (k .stamp .generation) (changesFrom is xs (list .count)))))
 
 -- what the answer of a commit says, case by case
-abbrev pub appliedPaper : Applied → Paper ℕ
-appliedPaper (applied.Generation g) = answers g
+abbrev pub appliedPaper : Applied → Paper TurnStock
+appliedPaper (applied.Stock k) = answers k
 appliedPaper (applied.Refused c) = refuses (reasonOf c)
 appliedPaper (applied.RefusedAt c k) = refuses (reasonAt c k)
 
@@ -119,16 +127,25 @@ abbrev pub generationOf : Paper Committed → Paper ℕ
 generationOf (answers k) = answers (k .generation)
 generationOf (refuses n) = refuses n
 
+-- the stock at that generation; its edition and its rings stay
+abbrev pub stockAt : TurnStock → Paper ℕ → Paper TurnStock
+stockAt k (answers g) = answers (stockWith k (k .rings) g)
+stockAt k (refuses n) = refuses n
+
 -- a refusal leaves the cells
 abbrev pub cellsAfter : Paper Committed → List Float → List Float
 cellsAfter (answers k) cs = k .cells
 cellsAfter (refuses n) cs = cs
 
--- the answer and the lent cells after a commit
-pub record Applies (p : Paper Committed) (r : Applied) (cs cs' : List Float) : Type 0 where
-  pub answer : appliedPaper r ≡ generationOf p
+-- the answer and the lent cells after a commit to the stock k
+pub record Applies (k : TurnStock) (p : Paper Committed) (r : Applied) (cs cs' : List Float) : Type 0 where
+  pub answer : appliedPaper r ≡ stockAt k (generationOf p)
   pub cells : cs' ≡ cellsAfter p cs
 
 -- of lent cells, at both moments
-abbrev pub Commits : Paper Committed → Applied → Lent Float → Type 0
-Commits p r cells = Applies p r (now (cells .entry)) (now (cells .exit))
+abbrev pub Commits : TurnStock → Paper Committed → Applied → Lent Float → Type 0
+Commits k p r cells = Applies k p r (now (cells .entry)) (now (cells .exit))
+
+-- ---- the commit of a stock's own list. Proved equal to `commitOf` with the stock's stamp (`own-commit`, proofs/Stamped); need not be believed.
+unfoldable pub ownCommit : TurnStockSpec → List Float → ℕ → List TurnChange → Paper Committed
+ownCommit spec cs gen l = onward (stockOf spec cs) (λ n. commitIn (cleanSpec spec) n cs gen l)

@@ -1,4 +1,4 @@
--- Proved equal to `commitOf` (`conclude-is`, proofs/Decided); need not be believed.
+-- Proved equal to `commitOf` (`conclude-is`, proofs/Stamped); need not be believed.
 -- A list of changes that is decided change by change: how far it is, one change on, and how it comes out. Assumes nothing.
 use mathlib.Core.Bool.{Bool, true, false, not, _&&_, _||_}
 use mathlib.Core.List.{List, [], _∷_, foldl}
@@ -10,10 +10,13 @@ use Rattle.refusals.specs.Limits.{lastGeneration, lastPlace}
 use Rattle.floats.specs.Pick.{pick}
 use Rattle.stock.specs.declared.TurnStockSpec.{TurnStockSpec}
 use Rattle.stock.specs.declared.TurnChange.{TurnChange}
+use Rattle.stock.specs.declared.Stamp.{Stamp}
+use Rattle.stock.specs.declared.TurnStock.{TurnStock}
 use Rattle.stock.specs.Spec.{cleanSpec}
 use Rattle.stock.specs.Cell.{cellAt, sameCell, stockOf}
+use Rattle.stock.specs.Stock.{sameStamp}
 use Rattle.changes.specs.declared.Applied.{Applied}
-use Rattle.changes.specs.declared.Applied.the-variants.{Generation, Refused, RefusedAt}
+use Rattle.changes.specs.declared.Applied.the-variants.{Stock, Refused, RefusedAt}
 use Rattle.changes.specs.declared.Deciding.{Deciding}
 use Rattle.changes.specs.Commit.{onlyRemoves, passes, passingPaper}
 
@@ -63,9 +66,13 @@ abbrev pub onStock : TurnStockSpec → Paper ℕ → Decides
 onStock s (answers n) = onCells s n
 onStock s (refuses r) = record { spec = s; n = 0; stock = refuses r; any = false; last = 0; rises = true; count = 0; fall = 0; found = answers tt }
 
--- before the first change: 1, 2, 3
-unfoldable pub beginOf : TurnStockSpec → List Float → Decides
-beginOf spec cs = onStock (cleanSpec spec) (stockOf spec cs)
+-- the number of cells of a stock that a list of this stamp is of: 1, 2, 3, 19
+unfoldable pub stampedStock : TurnStock → List Float → Stamp → Paper ℕ
+stampedStock k cs st = onward (stockOf (k .spec) cs) (λ n. demand (sameStamp st (k .stamp)) 19 (answers n))
+
+-- before the first change
+unfoldable pub beginOf : TurnStock → List Float → Stamp → Decides
+beginOf k cs st = onStock (cleanSpec (k .spec)) (stampedStock k cs st)
 
 -- one change on
 abbrev pub stepOf : List Float → Decides → TurnChange → Decides
@@ -99,6 +106,6 @@ concludeOf d gen = raisedOf (outcomeOf d) gen
 
 -- an answer that is no refusal
 abbrev pub isAccepted : Applied → Bool
-isAccepted (Generation g) = true
+isAccepted (Stock k) = true
 isAccepted (Refused c) = false
 isAccepted (RefusedAt c k) = false

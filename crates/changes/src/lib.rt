@@ -14,22 +14,47 @@ ghost use lib.ListN.{length};
 ghost use Rattle.refusals.specs.Limits.{lastPlace};
 ghost use Rattle.refusals.specs.Paper.{placeOr, placed, onward};
 ghost use Rattle.floats.specs.Pick.{pick};
-ghost use Rattle.changes.specs.Change.{roomOf, changeHeld, changesFrom, changesTo, settled, PutsChange, ListsChange, ListsBelow, RoomFor, Proposes};
-ghost use Rattle.changes.specs.Commit.{onlyRemoves, appliesTo, passes, passingPaper, eachFrom, firstFall, firstRefusal, putHeld, commitHeld, applyOf, appliedPaper, Commits};
-ghost use Rattle.changes.specs.Decide.{applies, rises, decidingPaper, onCells, beginOf, stepOf, outcomeOf, raisedOf, concludeOf, isAccepted};
+ghost use Rattle.stock.specs.Spec.{cleanSpec, countedPaper};
+ghost use Rattle.changes.specs.Change.{roomOf, changeHeld, changesFrom, changesTo, settled, PutsChange, ListsChange, ListsBelow, RoomFor, tallyPaper, previewedPaper, stamped, Tallies, Proposes};
+ghost use Rattle.changes.specs.Commit.{onlyRemoves, appliesTo, passes, passingPaper, eachFrom, firstFall, firstRefusal, putHeld, commitHeld, applyOf, appliedPaper, stockAt, Commits};
+ghost use Rattle.changes.specs.Decide.{applies, rises, decidingPaper, onCells, stampedStock, beginOf, stepOf, outcomeOf, raisedOf, concludeOf, isAccepted};
 ghost use Rattle.changes.specs.Difference.{otherCell, differenceOf};
 use refusals::LAST_GENERATION;
 use refusals::LAST_PLACE;
 use refusals::Refusal;
 use stock::Counted;
+use stock::Stamp;
 use stock::TurnCell;
 use stock::TurnChange;
+use stock::TurnStock;
 use stock::TurnStockSpec;
 
-// How many changes were written.
+// A list of so many changes, which are lent beside it, with the stamp of the stock that it is of.
+pub struct ChangeList {
+    pub count: usize,
+    pub stamp: Stamp,
+}
+
+// The changes that a call proposes.
 pub enum Previewed {
+    Listed(ChangeList),
+    Refused(Refusal),
+}
+
+// How many changes were written.
+pub enum Tally {
     Changes(usize),
     Refused(Refusal),
+}
+
+// The list of so many changes, of a stock with this stamp.
+pub fn list_of(tally: Tally, stamp: Stamp) -> Previewed
+    ensures { λ r. ⌜ previewedPaper r ≡ stamped stamp (tallyPaper tally) ⌝ }
+{
+    match tally {
+        Tally::Refused(r) => Previewed::Refused(r),
+        Tally::Changes(count) => Previewed::Listed(ChangeList { count, stamp }),
+    }
 }
 
 // How many changes the two lists have room for.
@@ -83,9 +108,9 @@ pub enum Passing {
     RefusedAt(Refusal, usize),
 }
 
-// The generation after a commit.
+// The stock after a commit.
 pub enum Applied {
-    Generation(u64),
+    Stock(TurnStock),
     Refused(Refusal),
     // at the place of the change in its list
     RefusedAt(Refusal, usize),
@@ -181,12 +206,28 @@ fn on_cells(s: TurnStockSpec, n: usize) -> Deciding
     }
 }
 
-// Before the first change; 1, 2, 3.
-pub fn begin(spec: TurnStockSpec, cells: &[f64]) -> Deciding
-    ensures { λ r. ⌜ decidingPaper r ≡ beginOf spec (now (cells .entry)) ⌝ }
+// The number of cells of a stock that a list of this stamp is of; 1, 2, 3, 19.
+fn stamped_cells(stock: TurnStock, cells: &[f64], stamp: Stamp) -> Counted
+    ensures { λ r. ⌜ countedPaper r ≡ stampedStock stock (now (cells .entry)) stamp ⌝ }
 {
-    let counted = stock::cells_fit(spec, cells);
-    let s = stock::clean_spec(spec);
+    let counted = stock::cells_fit(stock.spec, cells);
+    match counted {
+        Counted::Refused(r) => Counted::Refused(r),
+        Counted::Cells(n) => {
+            if stock::same_stamp(stamp, stock.stamp) {
+                return Counted::Cells(n);
+            }
+            Counted::Refused(Refusal::ListStale)
+        }
+    }
+}
+
+// Before the first change of a list with this stamp; 1, 2, 3, 19.
+pub fn begin(stock: TurnStock, cells: &[f64], stamp: Stamp) -> Deciding
+    ensures { λ r. ⌜ decidingPaper r ≡ beginOf stock (now (cells .entry)) stamp ⌝ }
+{
+    let counted = stamped_cells(stock, cells, stamp);
+    let s = stock::clean_spec(stock.spec);
     match counted {
         Counted::Refused(r) => Deciding {
             s,
@@ -297,27 +338,29 @@ fn outcome(st: Deciding) -> Passing
     }
 }
 
-// The generation after changes that pass; 12.
-fn raised(found: Passing, generation: u64) -> Applied
-    ensures { λ r. ⌜ appliedPaper r ≡ raisedOf (passingPaper found) generation ⌝ }
+// The stock after changes that pass; 12.
+fn raised(found: Passing, stock: TurnStock) -> Applied
+    ensures { λ r. ⌜ appliedPaper r ≡ stockAt stock (raisedOf (passingPaper found) (stock .stamp .generation)) ⌝ }
 {
     match found {
         Passing::Refused(r) => Applied::Refused(r),
         Passing::RefusedAt(r, k) => Applied::RefusedAt(r, k),
         Passing::Pass => {
+            let generation = stock.stamp.generation;
             if generation == LAST_GENERATION {
                 return Applied::Refused(Refusal::GenerationsSpent);
             }
-            Applied::Generation(generation + 1)
+            Applied::Stock(stock::stock_with(stock, stock.rings, generation + 1))
         }
     }
 }
 
-// After the last change: the stock's refusal, 7, then the first change that does not pass, 12.
-pub fn conclude(st: Deciding, generation: u64) -> Applied
-    ensures { λ r. ⌜ appliedPaper r ≡ concludeOf (decidingPaper st) generation ⌝ }
+// After the last change: the refusal of the stock or of the list's stamp, 7, then the first change that
+// does not pass, 12.
+pub fn conclude(st: Deciding, stock: TurnStock) -> Applied
+    ensures { λ r. ⌜ appliedPaper r ≡ stockAt stock (concludeOf (decidingPaper st) (stock .stamp .generation)) ⌝ }
 {
-    raised(outcome(st), generation)
+    raised(outcome(st), stock)
 }
 
 // Change j of the lent lists; one of no numbers where they hold none.
@@ -449,27 +492,29 @@ pub fn is_accepted(answer: Applied) -> bool
     ensures { λ r. ⌜ r ≡ isAccepted answer ⌝ }
 {
     match answer {
-        Applied::Generation(_) => true,
+        Applied::Stock(_) => true,
         Applied::Refused(_) => false,
         Applied::RefusedAt(_, _) => false,
     }
 }
 
 // A commit on n cells that are not asked again, of the first changes that the lists hold, k at most.
-// `apply` is this after its check; a caller whose preview was accepted has had the same check.
+// `apply` is this after its check; a caller whose preview of this stock was accepted has had the same
+// check, and its list has the stock's stamp.
 pub fn commit_unasked(
-    s: TurnStockSpec,
+    stock: TurnStock,
     n: usize,
     cells: &mut [f64],
-    generation: u64,
     indices: &[usize],
     records: &[f64],
     k: usize,
 ) -> Applied
-    ensures { λ r. ⌜ Commits (commitHeld s n (now (cells .entry)) generation (now (indices .entry)) (now (records .entry)) k) r cells ⌝ }
+    ensures { λ r. ⌜ Commits stock (commitHeld (cleanSpec (stock .spec)) n (now (cells .entry)) (stock .stamp .generation)
+        (now (indices .entry)) (now (records .entry)) k) r cells ⌝ }
 {
+    let s = stock::clean_spec(stock.spec);
     let found = first_refusal(s, n, cells, indices, records, k);
-    let answer = raised(found, generation);
+    let answer = raised(found, stock);
     if !is_accepted(answer) {
         return answer;
     }
@@ -477,27 +522,25 @@ pub fn commit_unasked(
     answer
 }
 
-// Commit k changes; 1, 2, 3, 6 where the lists hold fewer, 7, then change by change 8,
-// 21, 22, 23, then 12.
+// Commit a change list: the stock afterwards; 1, 2, 3, 19 where the list's stamp is not the stock's, 6
+// where the lists hold fewer changes, 7, then change by change 8, 21, 22, 23, then 12.
 pub fn apply(
-    spec: TurnStockSpec,
+    stock: TurnStock,
     cells: &mut [f64],
-    generation: u64,
+    list: ChangeList,
     indices: &[usize],
     records: &[f64],
-    changes: usize,
 ) -> Applied
-    ensures { λ r. ⌜ Commits (applyOf spec (now (cells .entry)) generation (now (indices .entry)) (now (records .entry)) changes) r cells ⌝ }
+    ensures { λ r. ⌜ Commits stock (applyOf stock (now (cells .entry)) list (now (indices .entry)) (now (records .entry))) r cells ⌝ }
 {
-    let counted = stock::cells_fit(spec, cells);
+    let counted = stamped_cells(stock, cells, list.stamp);
     match counted {
         Counted::Refused(r) => Applied::Refused(r),
         Counted::Cells(n) => {
-            if room(indices.len(), records.len()) < changes {
+            if room(indices.len(), records.len()) < list.count {
                 return Applied::Refused(Refusal::ChangesOverRoom);
             }
-            let s = stock::clean_spec(spec);
-            commit_unasked(s, n, cells, generation, indices, records, changes)
+            commit_unasked(stock, n, cells, indices, records, list.count)
         }
     }
 }
@@ -551,36 +594,50 @@ fn list_differences(
     n: usize,
     indices: &mut [usize],
     records: &mut [f64],
-) -> Previewed
-    ensures { λ r. ⌜ Proposes (λ room. settled room (changesTo (otherCell (now (after .entry))) (now (cells .entry)) n)) r indices records ⌝ }
+) -> Tally
+    ensures { λ r. ⌜ Tallies (λ room. settled room (changesTo (otherCell (now (after .entry))) (now (cells .entry)) n)) r indices records ⌝ }
 {
     let room = room(indices.len(), records.len());
     if n <= room {
-        return Previewed::Changes(write_differences(cells, after, n, indices, records));
+        return Tally::Changes(write_differences(cells, after, n, indices, records));
     }
     if count_differences(cells, after, n) <= room {
-        return Previewed::Changes(write_differences(cells, after, n, indices, records));
+        return Tally::Changes(write_differences(cells, after, n, indices, records));
     }
-    Previewed::Refused(Refusal::ChangesOverRoom)
+    Tally::Refused(Refusal::ChangesOverRoom)
 }
 
-// The changes that turn one stock into another of the same spec; 1, 2, 3, 6.
-pub fn changes_to(
+// The same of two lists of cells that are asked first; 1, 2, 3, 6.
+fn tally_differences(
     spec: TurnStockSpec,
     cells: &[f64],
     after: &[f64],
     indices: &mut [usize],
     records: &mut [f64],
-) -> Previewed
-    ensures { λ r. ⌜ Proposes (differenceOf spec (now (cells .entry)) (now (after .entry))) r indices records ⌝ }
+) -> Tally
+    ensures { λ r. ⌜ Tallies (differenceOf spec (now (cells .entry)) (now (after .entry))) r indices records ⌝ }
 {
     let counted = stock::cells_fit(spec, cells);
     let other = stock::cells_fit(spec, after);
     match counted {
-        Counted::Refused(r) => Previewed::Refused(r),
+        Counted::Refused(r) => Tally::Refused(r),
         Counted::Cells(n) => match other {
-            Counted::Refused(r) => Previewed::Refused(r),
+            Counted::Refused(r) => Tally::Refused(r),
             Counted::Cells(_) => list_differences(cells, after, n, indices, records),
         },
     }
+}
+
+// The changes that turn a stock into another of the same spec, with the first one's stamp; 1, 2, 3, 6.
+pub fn changes_to(
+    stock: TurnStock,
+    cells: &[f64],
+    after: &[f64],
+    indices: &mut [usize],
+    records: &mut [f64],
+) -> Previewed
+    ensures { λ r. ⌜ Proposes (stock .stamp) (differenceOf (stock .spec) (now (cells .entry)) (now (after .entry))) r indices records ⌝ }
+{
+    let tally = tally_differences(stock.spec, cells, after, indices, records);
+    list_of(tally, stock.stamp)
 }

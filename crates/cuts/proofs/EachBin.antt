@@ -16,7 +16,7 @@ use Rattle.stock.specs.declared.TurnSide.{TurnSide}
 use Rattle.stock.specs.Cell.{cellAt, sameCell}
 use Rattle.reach.specs.declared.Reach.{Reach}
 use Rattle.reach.specs.Reach.{Reached, passed, low, both, lowOf, ownOf, cutBy, cutCell, reachPaper, Act, actCell}
-use Rattle.changes.specs.Change.{changeAt, changeOf, changesTo, Listed, settled}
+use Rattle.changes.specs.Change.{changeAt, changeOf, changesTo, ListedOne, settled}
 use Rattle.changes.proofs.Placed.{list-same}
 use Rattle.cuts.specs.Source.{cutChange, SameTo}
 use Rattle.cuts.specs.Preview.{proposed}
@@ -71,9 +71,9 @@ proposed-same a b cs room n es h =
 
 -- ---- writing
 -- the change that was handed over is that of the bin
-pub listed-as : (f : ℕ → TurnCell → TurnCell) (cs : List Float) (i k k' : ℕ) (before after : TurnCell) {is is' : List ℕ} {xs xs' : List Float} → before ≡ cellAt cs i → after ≡ f i (cellAt cs i) → Listed k k' (record { index = i; before = before; after = after }) is is' xs xs' → Listed k k' (changeOf f cs i) is is' xs xs'
-listed-as f cs i k k' before after {is} {is'} {xs} {xs'} eb ea p = subst (λ (c : TurnChange). Listed k k' c is is' xs xs') (λ j. record { index = i; before = eb j; after = ea j }) p
+pub listed-as : (f : ℕ → TurnCell → TurnCell) (cs : List Float) (i k k' : ℕ) (before after : TurnCell) {is is' : List ℕ} {xs xs' : List Float} → before ≡ cellAt cs i → after ≡ f i (cellAt cs i) → ListedOne k k' (record { index = i; before = before; after = after }) is is' xs xs' → ListedOne k k' (changeOf f cs i) is is' xs xs'
+listed-as f cs i k k' before after {is} {is'} {xs} {xs'} eb ea p = subst (λ (c : TurnChange). ListedOne k k' c is is' xs xs') (λ j. record { index = i; before = eb j; after = ea j }) p
 
 -- the change that was handed over is the one that the cut makes of the cell
-pub listed-cut : (σ : TurnSide) (before after : TurnCell) (reached : Reach) (i k k' : ℕ) {is is' : List ℕ} {xs xs' : List Float} → after ≡ cutCell σ before (reachPaper reached) → Listed k k' (record { index = i; before = before; after = after }) is is' xs xs' → Listed k k' (cutChange σ before reached i) is is' xs xs'
-listed-cut σ before after reached i k k' {is} {is'} {xs} {xs'} e p = subst (λ (c : TurnChange). Listed k k' c is is' xs xs') (λ j. record { index = i; before = before; after = e j }) p
+pub listed-cut : (σ : TurnSide) (before after : TurnCell) (reached : Reach) (i k k' : ℕ) {is is' : List ℕ} {xs xs' : List Float} → after ≡ cutCell σ before (reachPaper reached) → ListedOne k k' (record { index = i; before = before; after = after }) is is' xs xs' → ListedOne k k' (cutChange σ before reached i) is is' xs xs'
+listed-cut σ before after reached i k k' {is} {is'} {xs} {xs'} e p = subst (λ (c : TurnChange). ListedOne k k' c is is' xs xs') (λ j. record { index = i; before = before; after = e j }) p

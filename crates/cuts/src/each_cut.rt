@@ -1,7 +1,7 @@
 // Each tool on a stock whose cells are checked: the rows of a nose or a polygon are filled first, a
 // thread and a drill are taken from their numbers; then the changes are listed.
 ghost use mathlib.Core.Path.{_≡_};
-ghost use Rattle.changes.specs.Change.{Proposes};
+ghost use Rattle.changes.specs.Change.{Tallies};
 ghost use Rattle.cuts.specs.Rows.{Graded, Room, Unfilled, rowAt, Says};
 ghost use Rattle.cuts.specs.Source.{threadAct, drillAct, ReadyFor};
 ghost use Rattle.cuts.specs.Tool.{sweepAct, sweepSide, cutIn, toolIn, toolInside};
@@ -15,7 +15,7 @@ use crate::nose_rows;
 use crate::polygon_rows;
 use crate::rows;
 use crate::single;
-use changes::Previewed;
+use changes::Tally;
 use refusals::Refusal;
 use stock::BinRange;
 use stock::TurnSide;
@@ -72,9 +72,9 @@ fn swept_over(
     records: &mut [f64],
     values: &mut [f64],
     there: &mut [bool],
-) -> Previewed
+) -> Tally
     requires { ⌜ ReadyFor s n (now cells) × Room n (now values) (now there) × Unfilled 0 n (rowAt (now values) (now there)) ⌝ }
-    ensures { λ r. ⌜ Proposes (proposing (sweepAct s sweep (now (beside .entry))) (now (cells .entry)) n) r indices records ⌝ }
+    ensures { λ r. ⌜ Tallies (proposing (sweepAct s sweep (now (beside .entry))) (now (cells .entry)) n) r indices records ⌝ }
 {
     let bins = fill(s, n, sweep, beside, values, there);
     list::list(
@@ -100,9 +100,9 @@ fn swept(
     cells: &[f64],
     indices: &mut [usize],
     records: &mut [f64],
-) -> Previewed
+) -> Tally
     requires { ⌜ ReadyFor s n (now cells) ⌝ }
-    ensures { λ r. ⌜ Proposes (proposing (sweepAct s sweep (now (beside .entry))) (now (cells .entry)) n) r indices records ⌝ }
+    ensures { λ r. ⌜ Tallies (proposing (sweepAct s sweep (now (beside .entry))) (now (cells .entry)) n) r indices records ⌝ }
 {
     if n <= rows::FEW_BINS {
         let mut values = [0.0f64; rows::FEW_PLACES];
@@ -145,9 +145,9 @@ fn thread(
     cells: &[f64],
     indices: &mut [usize],
     records: &mut [f64],
-) -> Previewed
+) -> Tally
     requires { ⌜ ReadyFor s n (now cells) ⌝ }
-    ensures { λ r. ⌜ Proposes (proposing (threadAct s side z0 z1 radius) (now (cells .entry)) n) r indices records ⌝ }
+    ensures { λ r. ⌜ Tallies (proposing (threadAct s side z0 z1 radius) (now (cells .entry)) n) r indices records ⌝ }
 {
     let lo = floats::least(z0, z1);
     let hi = floats::greatest(z0, z1);
@@ -176,9 +176,9 @@ fn drill(
     cells: &[f64],
     indices: &mut [usize],
     records: &mut [f64],
-) -> Previewed
+) -> Tally
     requires { ⌜ ReadyFor s n (now cells) ⌝ }
-    ensures { λ r. ⌜ Proposes (proposing (drillAct s «tip_z» radius cone) (now (cells .entry)) n) r indices records ⌝ }
+    ensures { λ r. ⌜ Tallies (proposing (drillAct s «tip_z» radius cone) (now (cells .entry)) n) r indices records ⌝ }
 {
     let first = ends::find(s, n, tip_z, true, false);
     list::list(
@@ -207,9 +207,9 @@ fn cut_in(
     cells: &[f64],
     indices: &mut [usize],
     records: &mut [f64],
-) -> Previewed
+) -> Tally
     requires { ⌜ ReadyFor s n (now cells) ⌝ }
-    ensures { λ r. ⌜ Proposes (cutIn s cut (now (cells .entry)) n) r indices records ⌝ }
+    ensures { λ r. ⌜ Tallies (cutIn s cut (now (cells .entry)) n) r indices records ⌝ }
 {
     match cut {
         Cut::Line {
@@ -256,7 +256,7 @@ fn cut_in(
             radius,
             cone,
         } => drill(s, n, tip_z, radius, cone, cells, indices, records),
-        Cut::Arc => Previewed::Refused(Refusal::Arc),
+        Cut::Arc => Tally::Refused(Refusal::Arc),
     }
 }
 
@@ -269,9 +269,9 @@ pub fn tool_in(
     cells: &[f64],
     indices: &mut [usize],
     records: &mut [f64],
-) -> Previewed
+) -> Tally
     requires { ⌜ ReadyFor s n (now cells) ⌝ }
-    ensures { λ r. ⌜ Proposes (toolIn s tool (now (beside .entry)) (now (cells .entry)) n) r indices records ⌝ }
+    ensures { λ r. ⌜ Tallies (toolIn s tool (now (beside .entry)) (now (cells .entry)) n) r indices records ⌝ }
 {
     match tool {
         Tool::Single(cut) => cut_in(s, n, single::clean_cut(cut), cells, indices, records),

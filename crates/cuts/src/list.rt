@@ -5,14 +5,14 @@ ghost use lib.ListN.{length};
 ghost use Rattle.refusals.specs.Limits.{cellLimit};
 ghost use Rattle.stock.specs.declared.TurnSide.the-variants.{Outer, Inner};
 ghost use Rattle.reach.specs.Reach.{reachPaper, reachFrom, actCell};
-ghost use Rattle.changes.specs.Change.{changeAt, changeOf, changesTo, ListsChange, ListsBelow, RoomFor, Proposes};
+ghost use Rattle.changes.specs.Change.{changeAt, changeOf, changesTo, ListsChange, ListsBelow, RoomFor, Tallies};
 ghost use Rattle.cuts.specs.Source.{sourceSide, sourceReach, sourceAct, spanAct, spanCell, cutChange, SameTo, SameBelow};
 ghost use Rattle.cuts.specs.Rows.{rowAt};
 ghost use Rattle.cuts.specs.Preview.{proposing};
 use crate::rows;
 use crate::single;
 use crate::unchanged;
-use changes::Previewed;
+use changes::Tally;
 use reach::Low;
 use reach::Reach;
 use refusals::Refusal;
@@ -250,13 +250,13 @@ pub fn list(
     n: usize,
     indices: &mut [usize],
     records: &mut [f64],
-) -> Previewed
+) -> Tally
     requires { ⌜ (first ≤ last) × (last ≤ n) × (n ≤ cellLimit) × SameBelow (now cells) n ⌝ }
-    ensures { λ r. ⌜ Proposes (proposing (spanAct first last (sourceAct s source (now (values .entry)) (now (there .entry)))) (now (cells .entry)) n) r indices records ⌝ }
+    ensures { λ r. ⌜ Tallies (proposing (spanAct first last (sourceAct s source (now (values .entry)) (now (there .entry)))) (now (cells .entry)) n) r indices records ⌝ }
 {
     let room = changes::room(indices.len(), records.len());
     if last - first <= room {
-        return Previewed::Changes(write(
+        return Tally::Changes(write(
             s,
             source,
             values,
@@ -269,7 +269,7 @@ pub fn list(
         ));
     }
     if count(s, source, values, there, cells, first, last) <= room {
-        return Previewed::Changes(write(
+        return Tally::Changes(write(
             s,
             source,
             values,
@@ -281,5 +281,5 @@ pub fn list(
             records,
         ));
     }
-    Previewed::Refused(Refusal::ChangesOverRoom)
+    Tally::Refused(Refusal::ChangesOverRoom)
 }

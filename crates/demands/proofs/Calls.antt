@@ -27,11 +27,15 @@ use Rattle.reach.proofs.Sides.{Ordered}
 use Rattle.reach.proofs.Deepest.{Deepest, deepest}
 use Rattle.reach.proofs.OneByOne.{cellAfter, cuts-of-bin, plain-lows, plain-highs, own-plain}
 use Rattle.reach.proofs.AnyOrder.{mem-map, bin-any-order, bin-however-often}
-use Rattle.changes.specs.declared.Previewed.the-variants.{Changes}
-use Rattle.changes.specs.Change.{changesTo, roomOf, countOf, Proposed}
-use Rattle.changes.proofs.Proposals.{same-proposal}
+use Rattle.stock.specs.declared.TurnStock.{TurnStock}
+use Rattle.stock.specs.declared.Stamp.{Stamp}
+use Rattle.stock.specs.Stock.{stampOf, stockFrom}
+use Rattle.changes.specs.declared.ChangeList.{ChangeList}
+use Rattle.changes.specs.declared.Previewed.the-variants.{Listed}
+use Rattle.changes.specs.Change.{changesTo, roomOf, countOf, stamped, Proposed}
+use Rattle.changes.proofs.Proposals.{same-listing}
 use Rattle.cuts.specs.Preview.{proposed}
-use Rattle.changes.specs.declared.Applied.the-variants.{Generation}
+use Rattle.changes.specs.declared.Applied.the-variants.{Stock}
 use Rattle.changes.specs.Commit.{putAll, Committed, applyOf, Applies}
 use Rattle.changes.proofs.Written.{same-outcome}
 use Rattle.changes.proofs.Stocks.{Good, stock-good, good-stock}
@@ -45,20 +49,20 @@ use Rattle.demands.proofs.Tools.{tool-sound, accepted-good, tools-each}
 
 -- ---- one cut by two calls
 
--- a proposal that answered with a count answered with changes
-answered : (p : Paper (List TurnChange)) (c : ℕ) → answers c ≡ countOf p → (l : List TurnChange) × (p ≡ answers l)
-answered (answers l) c e = (l, refl)
-answered (refuses r) c e = absurd (no-answer r c (sym e))
+-- a proposal that answered with a list answered with changes
+pub answered : (st : Stamp) (p : Paper (List TurnChange)) (c : ChangeList) → answers c ≡ stamped st (countOf p) → (l : List TurnChange) × (p ≡ answers l)
+answered st (answers l) c e = (l, refl)
+answered st (refuses r) c e = absurd (no-answer r c (sym e))
 
 -- what is left where a commit that could only be refused for its generation was accepted
 record Kept (k : Committed) (g : ℕ) (cs' : List Float) : Type 0 where
   cells : cs' ≡ k .cells
   generation : g ≡ k .generation
 
-kept : (t : Bool) (k : Committed) (g : ℕ) (cs cs' : List Float) → Applies (demand t 12 (answers k)) (Generation g) cs cs' → Kept k g cs'
+kept : (spec : TurnStockSpec) (edition rings gen : ℕ) (t : Bool) (k : Committed) (g : ℕ) (cs cs' : List Float) → Applies (stockFrom spec edition rings gen) (demand t 12 (answers k)) (Stock (stockFrom spec edition rings g)) cs cs' → Kept k g cs'
 unfolding demand
-kept true k g cs cs' a = record { cells = a .cells; generation = same-answer (a .answer) }
-kept false k g cs cs' a = absurd (no-answer (only 12) g (sym (a .answer)))
+kept spec edition rings gen true k g cs cs' a = record { cells = a .cells; generation = ap (λ (x : TurnStock). x .stamp .generation) (same-answer (a .answer)) }
+kept spec edition rings gen false k g cs cs' a = absurd (no-answer (only 12) (stockFrom spec edition rings g) (sym (a .answer)))
 
 -- the cut is in its domain, the cells afterwards fit, each is what the cut makes of it, and the generation is one more
 pub record Called (spec : TurnStockSpec) (n : ℕ) (t : Cutter) (cs cs' : List Float) (gen g : ℕ) : Type 0 where
@@ -67,19 +71,21 @@ pub record Called (spec : TurnStockSpec) (n : ℕ) (t : Cutter) (cs cs' : List F
   pub plain : PlainAct n (cutterAct spec t)
   pub generation : g ≡ gen + 1
 
-pub called : {spec : TurnStockSpec} {n : ℕ} → HeldSpec spec → (t : Cutter) → HeldCutter t → {cs cs' : List Float} → Good spec n cs → (gen g c : ℕ) (is is' : List ℕ) (xs xs' : List Float) → Proposed (cutterPreview spec t cs (roomOf (length is) (length xs))) (Changes c) is is' xs xs'
-    → Applies (applyOf spec cs gen is' xs' c) (Generation g) cs cs' → Called spec n t cs cs' gen g
-called {spec} {n} hs t ht {cs} {cs'} b gen g c is is' xs xs' p a =
+pub called : {spec : TurnStockSpec} {edition rings n : ℕ} → HeldSpec spec → (t : Cutter) → HeldCutter t → {cs cs' : List Float} → Good spec n cs → (gen g : ℕ) (list : ChangeList) (is is' : List ℕ) (xs xs' : List Float)
+    → Proposed (stampOf edition gen) (cutterPreview spec t cs (roomOf (length is) (length xs))) (Listed list) is is' xs xs'
+    → Applies (stockFrom spec edition rings gen) (applyOf (stockFrom spec edition rings gen) cs list is' xs') (Stock (stockFrom spec edition rings g)) cs cs' → Called spec n t cs cs' gen g
+called {spec} {edition} {rings} {n} hs t ht {cs} {cs'} b gen g list is is' xs xs' p a =
+    let stock = stockFrom spec edition rings gen in
     let room = roomOf (length is) (length xs) in
     let f = actCell (cutterAct spec t) in
     let l : List TurnChange = changesTo f cs n in
-    let y = answered (cutterPreview spec t cs room) c (p .answer) in
+    let y = answered (stampOf edition gen) (cutterPreview spec t cs room) list (p .answer) in
     let s = tool-sound spec n hs (b .count) t ht (accepted-good spec t cs room (y .0) (y .1)) in
     let cuts = act-cuts b (cutterAct spec t) (s .plain) in
-    let q = same-proposal (proposed (cutterAct spec t) cs room n) (cutterPreview spec t cs room) (Changes c) is is' xs xs' (sym (s .rule cs room (good-stock b))) p in
-    let e = lent-is spec cs gen c l is is' xs xs' q ∙ commit-is b f cuts gen in
+    let q = same-listing (stampOf edition gen) (proposed (cutterAct spec t) cs room n) (cutterPreview spec t cs room) (Listed list) is is' xs xs' (sym (s .rule cs room (good-stock b))) p in
+    let e = lent-is stock cs list l is is' xs xs' q ∙ commit-is b f cuts gen in
     let k : Committed = record { cells = putAll cs l; generation = gen + 1 } in
-    let w = kept (ltb gen lastGeneration) k g cs cs' (same-outcome (demand (ltb gen lastGeneration) 12 (answers k)) (applyOf spec cs gen is' xs' c) (Generation g) cs cs' (sym e) a) in
+    let w = kept spec edition rings gen (ltb gen lastGeneration) k g cs cs' (same-outcome stock (demand (ltb gen lastGeneration) 12 (answers k)) (applyOf stock cs list is' xs') (Stock (stockFrom spec edition rings g)) cs cs' (sym e) a) in
     record {
       good = subst (Good spec n) (sym (w .cells)) (put-good b f cuts);
       bins = λ i h. ap (λ (xs : List Float). cellAt xs i) (w .cells) ∙ good-bins b f cuts i h;
@@ -94,10 +100,10 @@ record After (spec : TurnStockSpec) (n : ℕ) (k : Committed) (l : List Cutter) 
   plain : Each (PlainAct n) (map (cutterAct spec) l)
   generation : m .generation ≡ k .generation + length l
 
-after : {spec : TurnStockSpec} {n : ℕ} → HeldSpec spec → {k m : Committed} {l : List Cutter} → Ran spec k l m → Each HeldCutter l → Good spec n (k .cells) → After spec n k l m
+after : {spec : TurnStockSpec} {edition rings n : ℕ} → HeldSpec spec → {k m : Committed} {l : List Cutter} → Ran spec edition rings k l m → Each HeldCutter l → Good spec n (k .cells) → After spec n k l m
 after hs {k} start ht b = record { good = b; bins = λ i h. refl; plain = tt; generation = sym (add-zero (k .generation)) }
-after {spec} {n} hs (cut {t} {l} {cs} {cs'} {gen} {g} {c} {is} {is'} {xs} {xs'} {m} p a r) ht b =
-    let w = called hs t (ht .0) b gen g c is is' xs xs' p a in
+after {spec} hs (cut {t} {l} {cs} {cs'} {gen} {g} {list} {is} {is'} {xs} {xs'} {m} p a r) ht b =
+    let w = called hs t (ht .0) b gen g list is is' xs xs' p a in
     let v = after hs r (ht .1) (w .good) in
     record {
       good = v .good;
@@ -131,7 +137,7 @@ acts-plain σ n i h c q [] ps = tt
 acts-plain σ n i h c q (a ∷ l) ps = (own-plain σ c (a .at i) q (ps .0 i h), acts-plain σ n i h c q l (ps .1))
 
 -- ---- THE DEMAND, over calls. The numbers handed over are values of f64, and the stock at the start is not refused.
-module _ {spec : TurnStockSpec} {n : ℕ} {k m : Committed} {l : List Cutter} (hs : HeldSpec spec) (hc : HeldList (k .cells)) (e : stockOf spec (k .cells) ≡ answers n) (ht : Each HeldCutter l) (r : Ran spec k l m) where
+module _ {spec : TurnStockSpec} {edition rings n : ℕ} {k m : Committed} {l : List Cutter} (hs : HeldSpec spec) (hc : HeldList (k .cells)) (e : stockOf spec (k .cells) ≡ answers n) (ht : Each HeldCutter l) (r : Ran spec edition rings k l m) where
   good : Good spec n (k .cells)
   good = stock-good hs hc e
 
@@ -152,18 +158,18 @@ module _ {spec : TurnStockSpec} {n : ℕ} {k m : Committed} {l : List Cutter} (h
       let o = start-ordered good σ i h in
       left-deepest σ c (ownsAt σ c i (map (cutterAct spec) l)) (cellAt (m .cells) i) o (acts-plain σ n i h c (o .limit) (map (cutterAct spec) l) (after hs r ht good .plain)) (run-leaves σ i h os)
 
-  bin-same : {m' : Committed} {l' : List Cutter} → List·Permᴰ l l' → Ran spec k l' m' → (σ : TurnSide) (i : ℕ) → i < n → Each (OnlyAt σ i) (map (cutterAct spec) l) → cellAt (m .cells) i ≡ cellAt (m' .cells) i
+  bin-same : {m' : Committed} {l' : List Cutter} → List·Permᴰ l l' → Ran spec edition rings k l' m' → (σ : TurnSide) (i : ℕ) → i < n → Each (OnlyAt σ i) (map (cutterAct spec) l) → cellAt (m .cells) i ≡ cellAt (m' .cells) i
   bin-same d r' σ i h os =
       let a = after hs r ht good in
       let b = after hs r' (each-perm HeldCutter d ht) good in
       a .bins i h ∙ bin-any-order σ n i h (cellAt (k .cells) i) (start-ordered good σ i h) (Permᴰ·map (cutterAct spec) d) (a .plain) os ∙ sym (b .bins i h)
 
   -- ANY ORDER, of cuts of both sides: two runs leave the same cell in each bin that one side only reaches
-  pub run-any-order-bin : {m' : Committed} {l' : List Cutter} → List·Permᴰ l l' → Ran spec k l' m' → (σ : TurnSide) (i : ℕ) → i < n → ToolsAt spec σ i l → cellAt (m .cells) i ≡ cellAt (m' .cells) i
+  pub run-any-order-bin : {m' : Committed} {l' : List Cutter} → List·Permᴰ l l' → Ran spec edition rings k l' m' → (σ : TurnSide) (i : ℕ) → i < n → ToolsAt spec σ i l → cellAt (m .cells) i ≡ cellAt (m' .cells) i
   run-any-order-bin d r' σ i h os = bin-same d r' σ i h (tools-each spec (OnlyAt σ i) l os)
 
   -- ANY ORDER, of cuts of one side: two runs leave the same cells and the same generation
-  pub run-any-order : {m' : Committed} {l' : List Cutter} → List·Permᴰ l l' → Ran spec k l' m' → (σ : TurnSide) → ToolsOf spec σ l → m ≡ m'
+  pub run-any-order : {m' : Committed} {l' : List Cutter} → List·Permᴰ l l' → Ran spec edition rings k l' m' → (σ : TurnSide) → ToolsOf spec σ l → m ≡ m'
   run-any-order {m'} d r' σ os =
       let a = after hs r ht good in
       let b = after hs r' (each-perm HeldCutter d ht) good in
@@ -172,7 +178,7 @@ module _ {spec : TurnStockSpec} {n : ℕ} {k m : Committed} {l : List Cutter} (h
       λ i. record { cells = ec i; generation = eg i }
 
   -- HOWEVER OFTEN: two runs of the same cuts of one side, each made as often as one likes, leave the same cells
-  pub run-however-often : {m' : Committed} {l' : List Cutter} → Each HeldCutter l' → Ran spec k l' m' → ((t : Cutter) → List·Memᴰ t l → List·Memᴰ t l') → ((t : Cutter) → List·Memᴰ t l' → List·Memᴰ t l) → (σ : TurnSide) → ToolsOf spec σ l → ToolsOf spec σ l' → m .cells ≡ m' .cells
+  pub run-however-often : {m' : Committed} {l' : List Cutter} → Each HeldCutter l' → Ran spec edition rings k l' m' → ((t : Cutter) → List·Memᴰ t l → List·Memᴰ t l') → ((t : Cutter) → List·Memᴰ t l' → List·Memᴰ t l) → (σ : TurnSide) → ToolsOf spec σ l → ToolsOf spec σ l' → m .cells ≡ m' .cells
   run-however-often {m'} {l'} ht' r' h h' σ os os' =
       let a = after hs r ht good in
       let b = after hs r' ht' good in

@@ -107,11 +107,11 @@ pub record FilledCells (spec : TurnStockSpec) (cs : List Float) : Type 0 where
   pub counted : cellsOf spec ≡ answers bins
   pub fits : stockOf spec cs ≡ answers bins
 
-pub fill-fits : (spec : TurnStockSpec) (k : TurnStock) (cs cs' : List Float) → HeldSpec spec → Filled spec (Stock k) cs cs' → FilledCells spec cs'
+pub fill-fits : (spec : TurnStockSpec) (edition : ℕ) (k : TurnStock) (cs cs' : List Float) → HeldSpec spec → Filled spec edition (Stock k) cs cs' → FilledCells spec cs'
 unfolding newOf
-fill-fits spec k cs cs' hs f = go (newOf spec (length cs)) refl (f .answer) (f .cells)
+fill-fits spec edition k cs cs' hs f = go (newOf spec (length cs)) refl (f .answer) (f .cells)
   where
-    go : (p : Paper ℕ) → newOf spec (length cs) ≡ p → answers k ≡ stockMade spec p → cs' ≡ newCells spec p cs → FilledCells spec cs'
+    go : (p : Paper ℕ) → newOf spec (length cs) ≡ p → answers k ≡ stockMade spec edition p → cs' ≡ newCells spec p cs → FilledCells spec cs'
     go (refuses r) e b c = absurd (no-answer r k (sym b))
     go (answers n) e b c =
         let a = answered (cellsOf spec) _ n e in

@@ -25,7 +25,7 @@ use Rattle.cuts.specs.declared.Cut.the-variants.{Thread, ThreadInner, Drill}
 use Rattle.cuts.specs.Cut.{misses, drillAt, threadReach, drillReach, cutReach, cutGood, cleanCut}
 use Rattle.cuts.specs.Preview.{previewCut}
 use Rattle.cuts.specs.Tool.{toolAct, toolGood, previewTool}
-use Rattle.changes.specs.Commit.{appliesTo, passes, eachFrom, fallAfter, firstFall, passAll, Committed, commitIn, commitOf}
+use Rattle.changes.specs.Commit.{appliesTo, passes, eachFrom, fallAfter, firstFall, passAll, Committed, commitIn, ownCommit}
 use Rattle.demands.specs.Job.{turned, turnedAll}
 use Rattle.demands.specs.Tool.{Cutter, single, nose, polygon, turnedTools, ToolsJob}
 use Rattle.demands.proofs.Tools.{tools-any-order}
@@ -87,7 +87,7 @@ same = tools-any-order (List·Permᴰ·swap refl refl) job Outer (refl, (refl, t
 
 -- and this is what they leave, worked out by the rules: lower is 4 in the first bin and 3 in the two others
 pub left : turnedTools bar 3 whole (long ∷ short ∷ []) ≡ answers (record { cells = four ∷ ten ∷ zero64 ∷ zero64 ∷ three ∷ ten ∷ zero64 ∷ zero64 ∷ three ∷ ten ∷ zero64 ∷ zero64 ∷ []; generation = 2 })
-unfolding turnedAll turned toolAct previewTool previewCut commitOf commitIn passAll firstFall fallAfter eachFrom passes appliesTo demandNone placed putCell changesTo changeAt cutCell cutBy ownOf withPair deeper shallower deepOf sureOf limitOf cutReach threadReach misses binOf stockOf onward demand cellsOf cleanSpec specGood cleanOf minusZero pick wholeUp cellsFit fitTo cellFits cutGood cleanCut leastOf greatestOf Ieee.ofBits Ieee.ofFields Ieee.odd Ieee.eq Ieee.lt Ieee.le Ieee.div Ieee.sub Ieee.add Ieee.mul Ieee.neg Ieee.sum Ieee.round Ieee.units Ieee.ofInt Ieee.size Ieee.span Ieee.climb
+unfolding turnedAll turned toolAct previewTool previewCut ownCommit commitIn passAll firstFall fallAfter eachFrom passes appliesTo demandNone placed putCell changesTo changeAt cutCell cutBy ownOf withPair deeper shallower deepOf sureOf limitOf cutReach threadReach misses binOf stockOf onward demand cellsOf cleanSpec specGood cleanOf minusZero pick wholeUp cellsFit fitTo cellFits cutGood cleanCut leastOf greatestOf Ieee.ofBits Ieee.ofFields Ieee.odd Ieee.eq Ieee.lt Ieee.le Ieee.div Ieee.sub Ieee.add Ieee.mul Ieee.neg Ieee.sum Ieee.round Ieee.units Ieee.ofInt Ieee.size Ieee.span Ieee.climb
 left = refl
 
 -- ---- a bin that both sides reach: the first to reach it is floor or ceiling of the second
@@ -96,16 +96,16 @@ bored = single (Drill (ofBits binary64 0xBFF0000000000000) seven zero64)
 
 -- threaded first, the thread goes to 4
 pub threaded-first : turnedTools bar 3 whole (long ∷ bored ∷ []) ≡ answers (record { cells = four ∷ ten ∷ seven ∷ seven ∷ four ∷ ten ∷ seven ∷ seven ∷ four ∷ ten ∷ seven ∷ seven ∷ []; generation = 2 })
-unfolding turnedAll turned toolAct previewTool previewCut commitOf commitIn passAll firstFall fallAfter eachFrom passes appliesTo demandNone placed putCell changesTo changeAt cutCell cutBy ownOf withPair deeper shallower deepOf sureOf limitOf cutReach threadReach drillReach drillAt misses binOf stockOf onward demand cellsOf cleanSpec specGood cleanOf minusZero pick wholeUp cellsFit fitTo cellFits cutGood cleanCut leastOf greatestOf Ieee.ofBits Ieee.ofFields Ieee.odd Ieee.eq Ieee.lt Ieee.le Ieee.div Ieee.sub Ieee.add Ieee.mul Ieee.neg Ieee.sum Ieee.round Ieee.units Ieee.ofInt Ieee.size Ieee.span Ieee.climb
+unfolding turnedAll turned toolAct previewTool previewCut ownCommit commitIn passAll firstFall fallAfter eachFrom passes appliesTo demandNone placed putCell changesTo changeAt cutCell cutBy ownOf withPair deeper shallower deepOf sureOf limitOf cutReach threadReach drillReach drillAt misses binOf stockOf onward demand cellsOf cleanSpec specGood cleanOf minusZero pick wholeUp cellsFit fitTo cellFits cutGood cleanCut leastOf greatestOf Ieee.ofBits Ieee.ofFields Ieee.odd Ieee.eq Ieee.lt Ieee.le Ieee.div Ieee.sub Ieee.add Ieee.mul Ieee.neg Ieee.sum Ieee.round Ieee.units Ieee.ofInt Ieee.size Ieee.span Ieee.climb
 threaded-first = refl
 
 -- bored first, it stops at 7
 pub bored-first : turnedTools bar 3 whole (bored ∷ long ∷ []) ≡ answers (record { cells = seven ∷ ten ∷ seven ∷ seven ∷ seven ∷ ten ∷ seven ∷ seven ∷ seven ∷ ten ∷ seven ∷ seven ∷ []; generation = 2 })
-unfolding turnedAll turned toolAct previewTool previewCut commitOf commitIn passAll firstFall fallAfter eachFrom passes appliesTo demandNone placed putCell changesTo changeAt cutCell cutBy ownOf withPair deeper shallower deepOf sureOf limitOf cutReach threadReach drillReach drillAt misses binOf stockOf onward demand cellsOf cleanSpec specGood cleanOf minusZero pick wholeUp cellsFit fitTo cellFits cutGood cleanCut leastOf greatestOf Ieee.ofBits Ieee.ofFields Ieee.odd Ieee.eq Ieee.lt Ieee.le Ieee.div Ieee.sub Ieee.add Ieee.mul Ieee.neg Ieee.sum Ieee.round Ieee.units Ieee.ofInt Ieee.size Ieee.span Ieee.climb
+unfolding turnedAll turned toolAct previewTool previewCut ownCommit commitIn passAll firstFall fallAfter eachFrom passes appliesTo demandNone placed putCell changesTo changeAt cutCell cutBy ownOf withPair deeper shallower deepOf sureOf limitOf cutReach threadReach drillReach drillAt misses binOf stockOf onward demand cellsOf cleanSpec specGood cleanOf minusZero pick wholeUp cellsFit fitTo cellFits cutGood cleanCut leastOf greatestOf Ieee.ofBits Ieee.ofFields Ieee.odd Ieee.eq Ieee.lt Ieee.le Ieee.div Ieee.sub Ieee.add Ieee.mul Ieee.neg Ieee.sum Ieee.round Ieee.units Ieee.ofInt Ieee.size Ieee.span Ieee.climb
 bored-first = refl
 
--- ---- runs of the calls: the two threads, each previewed and committed, over flat lists, over records and with commits that ask nothing again
-pub runs : Runs bar 3 whole (long ∷ short ∷ [])
+-- ---- runs of the calls: the two threads, each previewed and committed, over flat lists, over records and with commits that ask nothing again, on a stock of edition 2 with no rings
+pub runs : Runs bar 2 0 3 whole (long ∷ short ∷ [])
 runs = job-runs job
 
 -- ---- cuts from inside: a drill and an inner thread
@@ -160,5 +160,5 @@ shaped =
       spare = omega arith;
     }
 
-pub shaped-runs : Runs bar 3 whole (nosed ∷ swept ∷ long ∷ [])
+pub shaped-runs : Runs bar 2 0 3 whole (nosed ∷ swept ∷ long ∷ [])
 shaped-runs = job-runs shaped

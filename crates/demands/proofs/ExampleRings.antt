@@ -11,7 +11,7 @@ use Rattle.floats.specs.Numbers.{zero64, leastOf, greatestOf, sizeOf, cleanOf, 
 use Rattle.numbers.specs.Whole.{wholeUp}
 use Rattle.stock.specs.Spec.{cleanSpec, specGood, cellsOf}
 use Rattle.stock.specs.Cell.{cellFits, fitTo, cellsFit, stockOf, cellsLike}
-use Rattle.stock.specs.Stock.{stockFrom}
+use Rattle.stock.specs.Stock.{sameStamp, stockFrom, newStock}
 use Rattle.changes.specs.Change.{changesFrom}
 use Rattle.changes.specs.Commit.{eachFrom, firstFall, passAll}
 use Rattle.rings.specs.declared.Ring.{Ring}
@@ -52,7 +52,7 @@ abbrev none-stored : Store
 none-stored = record { numbers = empty; count = 0; generation = 0 }
 
 -- a ring taken by `remove_ring`
-pub ring-taken : RanRings bar none-stored (Ring.ring zero64 six two six ∷ []) (record { numbers = one; count = 1; generation = 1 })
+pub ring-taken : RanRings bar 3 none-stored (Ring.ring zero64 six two six ∷ []) (record { numbers = one; count = 1; generation = 1 })
 unfolding demand demandAt onward pick leastOf greatestOf sizeOf minusZero cleanOf over kept around split subtract subtractAll inHand clip left ringsOf flatOf storeAs ringFits apartAll storeFits countFits roomFor added storedNext removeIn removeRing countsOf ringsAfter cleanSpec specGood cellsOf wholeUp Ieee.ofBits Ieee.ofFields Ieee.odd Ieee.eq Ieee.ne Ieee.lt Ieee.le Ieee.div Ieee.sub Ieee.add Ieee.mul Ieee.neg Ieee.sum Ieee.round Ieee.units Ieee.ofInt Ieee.size Ieee.span Ieee.climb Ieee.toUnsigned
 ring-taken = ring (record { answer = refl; store = refl }) done
 
@@ -60,21 +60,21 @@ ring-taken = ring (record { answer = refl; store = refl }) done
 abbrev ringed : Move
 ringed = record { indices = []; numbers = []; count = 0; removed = zero64 ∷ six ∷ two ∷ six ∷ [] }
 
-pub move-made : RanMoves bar (record { cells = whole .cells; store = none-stored }) (ringed ∷ []) (record { cells = whole .cells; store = record { numbers = one; count = 1; generation = 2 } })
-unfolding demand demandNone onward pick leastOf greatestOf sizeOf minusZero cleanOf over kept around split subtract subtractAll inHand clip left ringsOf flatOf storeAs ringFits apartAll storeFits countFits badFrom badRing raisedBy roomFor added addedAll removeAllIn removeRings generationAfter moveIn moveOf changesFrom eachFrom firstFall passAll cleanSpec specGood cellsOf wholeUp cellFits fitTo cellsFit stockOf Ieee.ofBits Ieee.ofFields Ieee.odd Ieee.eq Ieee.ne Ieee.lt Ieee.le Ieee.div Ieee.sub Ieee.add Ieee.mul Ieee.neg Ieee.sum Ieee.round Ieee.units Ieee.ofInt Ieee.size Ieee.span Ieee.climb Ieee.toUnsigned
+pub move-made : RanMoves bar 3 (record { cells = whole .cells; store = none-stored }) (ringed ∷ []) (record { cells = whole .cells; store = record { numbers = one; count = 1; generation = 2 } })
+unfolding demand demandNone onward pick leastOf greatestOf sizeOf minusZero cleanOf over kept around split subtract subtractAll inHand clip left ringsOf flatOf storeAs ringFits apartAll storeFits countFits badFrom badRing raisedBy roomFor added addedAll removeAllIn removeRings generationAfter sameStamp moveIn moveOf changesFrom eachFrom firstFall passAll cleanSpec specGood cellsOf wholeUp cellFits fitTo cellsFit stockOf Ieee.ofBits Ieee.ofFields Ieee.odd Ieee.eq Ieee.ne Ieee.lt Ieee.le Ieee.div Ieee.sub Ieee.add Ieee.mul Ieee.neg Ieee.sum Ieee.round Ieee.units Ieee.ofInt Ieee.size Ieee.span Ieee.climb Ieee.toUnsigned
 move-made = made-move (record { answer = refl; cells = refl; rings = refl }) no-moves
 
 -- and by `from_parts`
-pub parts-rebuilt : Rebuilds bar empty (partsOf bar (whole .cells) (zero64 ∷ six ∷ two ∷ six ∷ []) empty) (rebuilt.Stock (stockFrom bar 1 0)) one
+pub parts-rebuilt : Rebuilds bar 3 empty (partsOf bar (whole .cells) (zero64 ∷ six ∷ two ∷ six ∷ []) empty) (rebuilt.Stock (stockFrom bar 3 1 0)) one
 unfolding demand demandNone onward pick leastOf greatestOf sizeOf minusZero cleanOf over kept around split subtract subtractAll inHand clip left ringsOf flatOf storeAs ringFits apartAll storeFits countFits badFrom badRing roomFor added addedAll removeAllIn removeRings countOf partsOf cleanSpec specGood cellsOf wholeUp cellFits fitTo cellsFit stockOf Ieee.ofBits Ieee.ofFields Ieee.odd Ieee.eq Ieee.ne Ieee.lt Ieee.le Ieee.div Ieee.sub Ieee.add Ieee.mul Ieee.neg Ieee.sum Ieee.round Ieee.units Ieee.ofInt Ieee.size Ieee.span Ieee.climb Ieee.toUnsigned
 parts-rebuilt = record { answer = refl; store = refl }
 
 -- ---- a job: the empty one offends at line 1, with 15
-pub empty-offends : (cs rs : List Float) → Offends (state freshRun cs rs) (piecesOf []) 1 15
+pub empty-offends : (edition : ℕ) (cs rs : List Float) → Offends (state (freshRun edition) cs rs) (piecesOf []) 1 15
 unfolding partedAt linesOn wrongWith demand
-empty-offends cs rs = record { before = []; line = []; after = []; order = refl; reached = state freshRun cs rs; carried = refl; number = refl; why = only 15; wrong = refl; refusal = refl }
+empty-offends edition cs rs = record { before = []; line = []; after = []; order = refl; reached = state (freshRun edition) cs rs; carried = refl; number = refl; why = only 15; wrong = refl; refusal = refl }
 
--- and the first line of 01's example, `bar`, with its newline, is carried out: one cell, of radius 20, with no bore
+-- and the first line of 01's example, `bar`, with its newline, is carried out: one cell, of radius 20, with no bore, of edition 3 in a job of edition 3
 abbrev barLine : List ℕ
 barLine = 98 ∷ 97 ∷ 114 ∷ 9 ∷ 48 ∷ 9 ∷ 49 ∷ 48 ∷ 48 ∷ 48 ∷ 9 ∷ 50 ∷ 48 ∷ 48 ∷ 48 ∷ 48 ∷ 9 ∷ 48 ∷ 9 ∷ 49 ∷ 48 ∷ 48 ∷ 48 ∷ []
 
@@ -84,7 +84,7 @@ millimetre = ofBits binary64 0x3FF0000000000000
 abbrev twenty : Float
 twenty = ofBits binary64 0x4034000000000000
 
-pub bar-carried : NoneOffends (state freshRun (zero64 ∷ zero64 ∷ zero64 ∷ zero64 ∷ []) []) (piecesOf (barLine ++ (10 ∷ [])))
-    (state (record { job = record { spec = record { «z_min_mm» = zero64; «z_max_mm» = millimetre; «outer_radius_mm» = twenty; «bore_radius_mm» = zero64; «cell_mm» = millimetre; «max_cells» = 512 }; cells = 1; rings = 0; generation = 0 }; lines = 1; refused = 0 }) (twenty ∷ twenty ∷ zero64 ∷ zero64 ∷ []) [])
+pub bar-carried : NoneOffends (state (freshRun 3) (zero64 ∷ zero64 ∷ zero64 ∷ zero64 ∷ []) []) (piecesOf (barLine ++ (10 ∷ [])))
+    (state (record { job = record { stock = newStock (record { «z_min_mm» = zero64; «z_max_mm» = millimetre; «outer_radius_mm» = twenty; «bore_radius_mm» = zero64; «cell_mm» = millimetre; «max_cells» = 512 }) 3; cells = 1 }; lines = 1; refused = 0 }) (twenty ∷ twenty ∷ zero64 ∷ zero64 ∷ []) [])
 unfolding partedAt intoFirst linesOn answered jobLine firstLine Job.barLine lineOf kindOf barOf numbers allNumbers at fieldNumber wholeOf isWhole allDigits spelt sameBytes demand onward pick over cleanSpec specGood cellsOf wholeUp cellsLike cleanOf minusZero Ieee.ofBits Ieee.ofFields Ieee.odd Ieee.eq Ieee.ne Ieee.lt Ieee.le Ieee.div Ieee.sub Ieee.add Ieee.mul Ieee.neg Ieee.sum Ieee.round Ieee.units Ieee.ofInt Ieee.size Ieee.span Ieee.climb Ieee.toUnsigned
 bar-carried = record { lines = barLine ∷ []; order = refl; carried = refl; some = refl }

@@ -13,19 +13,20 @@ use borrow.Author.Tests.{eqb-true, eqb-false, ltb-true, ltb-false, lt-ltb}
 use Rattle.floats.specs.Pick.{pick, pick-true, pick-false}
 use Rattle.text.proofs.Parting.{some}
 use Rattle.lines.specs.File.{piecesOf, ended, lineOn, overPieces}
-use Rattle.stock_lines.specs.declared.Bar.{Bar}
 use Rattle.stock_lines.specs.declared.Reading.{Reading}
 use Rattle.stock_lines.specs.declared.form.Four.{Four}
 use Rattle.stock_lines.specs.declared.form.Four.the-variants.{Numbers, NoFour}
-use Rattle.stock_lines.specs.declared.form.Five.{Five}
-use Rattle.stock_lines.specs.declared.form.Five.the-variants.{Spec, NoFive}
+use Rattle.stock_lines.specs.declared.form.First.{First}
+use Rattle.stock_lines.specs.declared.form.First.the-variants.{Says, NoFirst}
 use Rattle.stock_lines.specs.declared.room.Took.{Took}
 use Rattle.stock_lines.specs.declared.room.Took.the-variants.{Cell, Ring, End, NoLine}
-use Rattle.stock_lines.specs.Form.{formOf, writtenForm, lineOf, fourOf, fiveOf, cellPrefix, stockPrefix}
+use Rattle.stock_lines.specs.Form.{formOf, lineOf, fourOf, cellPrefix}
+use Rattle.stock_lines.specs.First.{firstOf}
 use Rattle.stock_lines.specs.Room.{kept, stored, taken, cellAt, ringAt, tookOf, ringsAfter}
 use Rattle.stock_lines.specs.Reading.{State, state, next, countTo, refusing, begun, onwardTo, went, onBody, onLine}
 use Rattle.stock_lines.proofs.Readings.{line-first, line-body, line-behind, count-more, count-full, begun-is}
 use Rattle.stock_file.specs.Read.{freshReading, stopped, onLong, onEnd, fileIn}
+use Rattle.stock_file.specs.Write.{Opening, opening}
 use Rattle.stock_file.proofs.LineSteps.{most, reading}
 use Rattle.stock_file.proofs.Leaves.{Filled, Stays, line-stays, pieces-stay}
 use Rattle.stock_file.proofs.Spelt.{walk, stopped-walk, went-on}
@@ -35,9 +36,9 @@ use Rattle.stock_file.proofs.WriteAfter as kinds
 abbrev pub fourIn : List Float → ℕ → Four
 fourIn l i = Numbers (getD l (4 * i) nan) (getD l (4 * i + 1) nan) (getD l (4 * i + 2) nan) (getD l (4 * i + 3) nan)
 
--- A file of these pieces left this: n cells' and m rings' lines, each in its turn behind the first line, m counted to 257. Where the room reaches, their numbers stand at their places, and of rings the first 256; every other number is as it was lent.
+-- A file of these pieces left this: n cells' and m rings' lines, each in its turn behind the first line, in the form that this names, m counted to 257. Where the room reaches, their numbers stand at their places, and of rings the first 256; every other number is as it was lent.
 pub record RoomHolds (cs rs : List Float) (ps : List (List ℕ)) (left : State) : Type 0 where
-  pub cells : (i : ℕ) → i < left .reading .cells → i < length cs / 4 → fourOf (lineOf (cellPrefix writtenForm i) 4 (getD ps (1 + i) [])) ≡ fourIn (left .cells) i
+  pub cells : (i : ℕ) → i < left .reading .cells → i < length cs / 4 → fourOf (lineOf (cellPrefix (left .reading .form) i) 4 (getD ps (1 + i) [])) ≡ fourIn (left .cells) i
   pub rings : (i : ℕ) → i < left .reading .rings → i < min 256 (length rs / 4) → ringAt (getD ps (1 + (left .reading .cells + i)) []) ≡ fourIn (left .rings) i
   pub cells-behind : (i : ℕ) → 4 * left .reading .cells ≤ i → getD (left .cells) i nan ≡ getD cs i nan
   pub cells-beyond : (i : ℕ) → 4 * (length cs / 4) ≤ i → getD (left .cells) i nan ≡ getD cs i nan
@@ -172,13 +173,13 @@ stands limit n n' l l' x y z w h m f =
 
 -- ---- lines behind the first
 
--- a refused line moves no count
-went-refused : (r : Reading) (t : Took) → went r t .refused ≡ true → (went r t .cells ≡ r .cells) × (went r t .rings ≡ r .rings)
+-- a refused line moves no count, and no form
+went-refused : (r : Reading) (t : Took) → went r t .refused ≡ true → (went r t .cells ≡ r .cells) × (went r t .rings ≡ r .rings) × (went r t .form ≡ r .form)
 unfolding went onwardTo refusing
 went-refused r Cell e = absurd (false≢true e)
 went-refused r Ring e = absurd (false≢true e)
 went-refused r End e = absurd (false≢true e)
-went-refused r NoLine e = (refl, refl)
+went-refused r NoLine e = (refl, refl, refl)
 
 module _ (left : State) where
   abbrev N : ℕ
@@ -187,48 +188,63 @@ module _ (left : State) where
   abbrev M : ℕ
   M = left .reading .rings
 
-  -- of the lines that follow n cells' and m rings' lines
-  record Rest (n m : ℕ) (cs rs : List Float) (ls : List (List ℕ)) : Type 0 where
-    cells : (i : ℕ) → n ≤ i → i < N → i < length cs / 4 → fourOf (lineOf (cellPrefix writtenForm i) 4 (getD ls (i - n) [])) ≡ fourIn (left .cells) i
+  abbrev F : ℕ
+  F = left .reading .form
+
+  -- of the lines that follow n cells' and m rings' lines, in form k
+  record Rest (k n m : ℕ) (cs rs : List Float) (ls : List (List ℕ)) : Type 0 where
+    cells : (i : ℕ) → n ≤ i → i < N → i < length cs / 4 → fourOf (lineOf (cellPrefix k i) 4 (getD ls (i - n) [])) ≡ fourIn (left .cells) i
     rings : (i : ℕ) → m ≤ i → i < M → i < min 256 (length rs / 4) → ringAt (getD ls (N - n + (i - m)) []) ≡ fourIn (left .rings) i
     fixed : 0 < m → N ≡ n
+    form : k ≡ F
 
   -- none more
-  no-more : (n m : ℕ) (cs rs : List Float) (ls : List (List ℕ)) → n ≡ N → m ≡ M → Rest n m cs rs ls
-  no-more n m cs rs ls e f = record { cells = λ i h k g. absurd (omega arith); rings = λ i h k g. absurd (omega (arith, h, k)); fixed = λ h. sym e }
+  no-more : (k n m : ℕ) (cs rs : List Float) (ls : List (List ℕ)) → n ≡ N → m ≡ M → k ≡ F → Rest k n m cs rs ls
+  no-more k n m cs rs ls e f q = record { cells = λ i h j g. absurd (omega arith); rings = λ i h j g. absurd (omega (arith, h, j)); fixed = λ h. sym e; form = q }
 
-  counts : (st : State) → st ≡ left → (st .reading .cells ≡ N) × (st .reading .rings ≡ M)
-  counts st e = (ap (λ (x : State). x .reading .cells) e, ap (λ (x : State). x .reading .rings) e)
+  -- the counts and the form of a state that is left
+  record Same (st : State) : Type 0 where
+    cells : st .reading .cells ≡ N
+    rings : st .reading .rings ≡ M
+    form : st .reading .form ≡ F
 
-  -- the end moves no count
-  ended-counts : (st : State) (p : List ℕ) → walk st (p ∷ []) ≡ left → (st .reading .cells ≡ N) × (st .reading .rings ≡ M)
-  unfolding overPieces ended refusing
+  counts : (st : State) → st ≡ left → Same st
+  counts st e = record { cells = ap (λ (x : State). x .reading .cells) e; rings = ap (λ (x : State). x .reading .rings) e; form = ap (λ (x : State). x .reading .form) e }
+
+  -- a refused line moves none of them
+  long-counts : (st : State) → Same (onLong st) → Same st
+  unfolding refusing
+  long-counts st c = record { cells = c .cells; rings = c .rings; form = c .form }
+
+  -- nor does the end
+  ended-counts : (st : State) (p : List ℕ) → walk st (p ∷ []) ≡ left → Same st
+  unfolding overPieces ended
   ended-counts st p e = by (stopped st) refl (eqb (length p) 0) refl (ltb (st .reading .stage) 2) refl
     where
-      by : (t : Bool) → stopped st ≡ t → (u : Bool) → eqb (length p) 0 ≡ u → (v : Bool) → ltb (st .reading .stage) 2 ≡ v → (st .reading .cells ≡ N) × (st .reading .rings ≡ M)
+      by : (t : Bool) → stopped st ≡ t → (u : Bool) → eqb (length p) 0 ≡ u → (v : Bool) → ltb (st .reading .stage) 2 ≡ v → Same st
       by true f u g v h = counts st (sym (pick-true _ _ _ f) ∙ e)
-      by false f true g true h = counts (onLong st) (sym (pick-false _ _ _ f ∙ pick-true _ _ _ g ∙ pick-true _ _ _ h) ∙ e)
+      by false f true g true h = long-counts st (counts (onLong st) (sym (pick-false _ _ _ f ∙ pick-true _ _ _ g ∙ pick-true _ _ _ h) ∙ e))
       by false f true g false h = counts st (sym (pick-false _ _ _ f ∙ pick-true _ _ _ g ∙ pick-false _ _ _ h) ∙ e)
-      by false f false g v h = counts (onLong st) (sym (pick-false _ _ _ f ∙ pick-false _ _ _ g) ∙ e)
+      by false f false g v h = long-counts st (counts (onLong st) (sym (pick-false _ _ _ f ∙ pick-false _ _ _ g) ∙ e))
 
   -- nor does what stands behind `end`
-  done-counts : (st : State) (ls : List (List ℕ)) → 2 ≤ st .reading .stage → stopped st ≡ false → walk st ls ≡ left → (st .reading .cells ≡ N) × (st .reading .rings ≡ M)
+  done-counts : (st : State) (ls : List (List ℕ)) → 2 ≤ st .reading .stage → stopped st ≡ false → walk st ls ≡ left → Same st
   unfolding overPieces lineOn refusing
   done-counts st [] h g e = counts st e
   done-counts st (p ∷ []) h g e = ended-counts st p e
   done-counts st (p ∷ q ∷ ls) h g e = by (ltb (length p) 128) refl
     where
-      by : (t : Bool) → ltb (length p) 128 ≡ t → (st .reading .cells ≡ N) × (st .reading .rings ≡ M)
+      by : (t : Bool) → ltb (length p) 128 ≡ t → Same st
       by true f =
           let k : lineOn stopped onLine onLong st p ≡ onLong st = pick-false _ _ _ g ∙ pick-true _ _ _ f ∙ line-behind st p (λ z. omega arith) (λ z. omega arith) in
-          counts (onLong st) (sym (ap (λ (x : State). walk x (q ∷ ls)) k ∙ stopped-walk (q ∷ ls) (onLong st) refl) ∙ e)
+          long-counts st (counts (onLong st) (sym (ap (λ (x : State). walk x (q ∷ ls)) k ∙ stopped-walk (q ∷ ls) (onLong st) refl) ∙ e))
       by false f =
           let k : lineOn stopped onLine onLong st p ≡ onLong st = pick-false _ _ _ g ∙ pick-false _ _ _ f in
-          counts (onLong st) (sym (ap (λ (x : State). walk x (q ∷ ls)) k ∙ stopped-walk (q ∷ ls) (onLong st) refl) ∙ e)
+          long-counts st (counts (onLong st) (sym (ap (λ (x : State). walk x (q ∷ ls)) k ∙ stopped-walk (q ∷ ls) (onLong st) refl) ∙ e))
 
-  module _ (b : Bar) where
+  module _ (b : Opening) where
     abbrev Again : List (List ℕ) → Type 0
-    Again ls = (n m l : ℕ) (cs rs : List Float) → l + length ls < 2 ^ 64 → walk (state (reading b 1 n m l) cs rs) ls ≡ left → Rest n m cs rs ls
+    Again ls = (n m l : ℕ) (cs rs : List Float) → l + length ls < 2 ^ 64 → walk (state (reading b 1 n m l) cs rs) ls ≡ left → Rest (b .form) n m cs rs ls
 
     module _ (n m l : ℕ) (cs rs : List Float) (p q : List ℕ) (ls : List (List ℕ)) (few : l + length (p ∷ q ∷ ls) < 2 ^ 64) (again : Again (q ∷ ls)) where
       abbrev st : State
@@ -247,35 +263,36 @@ module _ (left : State) where
       at-first : (i : ℕ) → i ≡ 0 → getD (p ∷ q ∷ ls) i [] ≡ p
       at-first i e = ap (λ (x : ℕ). getD (p ∷ q ∷ ls) x []) e
 
-      a-cell : (x y z w : Float) → m ≡ 0 → n < most → fourOf (lineOf (cellPrefix writtenForm n) 4 p) ≡ Numbers x y z w
-          → onLine st p ≡ state (reading b 1 (n + 1) m (l + 1)) (stored most cs n (Numbers x y z w)) rs → walk (onLine st p) (q ∷ ls) ≡ left → Rest n m cs rs (p ∷ q ∷ ls)
+      a-cell : (x y z w : Float) → m ≡ 0 → n < (most b) → fourOf (lineOf (cellPrefix (b .form) n) 4 p) ≡ Numbers x y z w
+          → onLine st p ≡ state (reading b 1 (n + 1) m (l + 1)) (stored (most b) cs n (Numbers x y z w)) rs → walk (onLine st p) (q ∷ ls) ≡ left → Rest (b .form) n m cs rs (p ∷ q ∷ ls)
       a-cell x y z w em lt four k e =
-          let st' : State = state (reading b 1 (n + 1) m (l + 1)) (stored most cs n (Numbers x y z w)) rs in
+          let st' : State = state (reading b 1 (n + 1) m (l + 1)) (stored (most b) cs n (Numbers x y z w)) rs in
           let e' = on st' k e in
           let s = later st' e' in
           let g : n + 1 ≤ N = s .cells .grows in
-          let long : length (stored most cs n (Numbers x y z w)) ≡ length cs = ap (λ (v : State). length (v .cells)) (sym k) ∙ line-stays st p .cells .long in
+          let long : length (stored (most b) cs n (Numbers x y z w)) ≡ length cs = ap (λ (v : State). length (v .cells)) (sym k) ∙ line-stays st p .cells .long in
           let r = again (n + 1) m (l + 1) _ rs (omega arith) e' in
           record {
             cells = λ i h v u. by-cell i (eqb i n) refl h v u s long r;
             rings = λ i h v u. let z : N - n + (i - m) ≡ suc (N - (n + 1) + (i - m)) = omega arith in ap ringAt (shift _ _ z) ∙ r .rings i h v u;
             fixed = λ h. absurd (omega arith);
+            form = r .form;
           }
         where
-          by-cell : (i : ℕ) (t : Bool) → eqb i n ≡ t → n ≤ i → i < N → i < length cs / 4 → Stays (state (reading b 1 (n + 1) m (l + 1)) (stored most cs n (Numbers x y z w)) rs) left → length (stored most cs n (Numbers x y z w)) ≡ length cs
-              → Rest (n + 1) m (stored most cs n (Numbers x y z w)) rs (q ∷ ls) → fourOf (lineOf (cellPrefix writtenForm i) 4 (getD (p ∷ q ∷ ls) (i - n) [])) ≡ fourIn (left .cells) i
+          by-cell : (i : ℕ) (t : Bool) → eqb i n ≡ t → n ≤ i → i < N → i < length cs / 4 → Stays (state (reading b 1 (n + 1) m (l + 1)) (stored (most b) cs n (Numbers x y z w)) rs) left → length (stored (most b) cs n (Numbers x y z w)) ≡ length cs
+              → Rest (b .form) (n + 1) m (stored (most b) cs n (Numbers x y z w)) rs (q ∷ ls) → fourOf (lineOf (cellPrefix (b .form) i) 4 (getD (p ∷ q ∷ ls) (i - n) [])) ≡ fourIn (left .cells) i
           by-cell i true e h v u s long r =
               let j : n ≡ i = sym (eqb-true _ _ e) in
               let o : i - n ≡ 0 = omega arith in
-              let first : fourOf (lineOf (cellPrefix writtenForm n) 4 p) ≡ fourIn (left .cells) n = four ∙ stands most n N cs (left .cells) x y z w lt (omega arith) (s .cells) in
-              ap (λ (c : List ℕ). fourOf (lineOf (cellPrefix writtenForm i) 4 c)) (at-first (i - n) o) ∙ subst (λ (c : ℕ). fourOf (lineOf (cellPrefix writtenForm c) 4 p) ≡ fourIn (left .cells) c) j first
+              let first : fourOf (lineOf (cellPrefix (b .form) n) 4 p) ≡ fourIn (left .cells) n = four ∙ stands (most b) n N cs (left .cells) x y z w lt (omega arith) (s .cells) in
+              ap (λ (c : List ℕ). fourOf (lineOf (cellPrefix (b .form) i) 4 c)) (at-first (i - n) o) ∙ subst (λ (c : ℕ). fourOf (lineOf (cellPrefix (b .form) c) 4 p) ≡ fourIn (left .cells) c) j first
           by-cell i false e h v u s long r =
               let d : i ≡ n → ⊥ = eqb-false _ _ e in
               let o : i - n ≡ suc (i - (n + 1)) = omega arith in
-              ap (λ (c : List ℕ). fourOf (lineOf (cellPrefix writtenForm i) 4 c)) (shift _ _ o) ∙ r .cells i (omega arith) v (subst (λ (c : ℕ). i < c / 4) (sym long) u)
+              ap (λ (c : List ℕ). fourOf (lineOf (cellPrefix (b .form) i) 4 c)) (shift _ _ o) ∙ r .cells i (omega arith) v (subst (λ (c : ℕ). i < c / 4) (sym long) u)
 
       a-ring : (x y z w : Float) → ringAt p ≡ Numbers x y z w
-          → onLine st p ≡ state (reading b 1 n (countTo 257 m) (l + 1)) cs (stored 256 rs m (Numbers x y z w)) → walk (onLine st p) (q ∷ ls) ≡ left → Rest n m cs rs (p ∷ q ∷ ls)
+          → onLine st p ≡ state (reading b 1 n (countTo 257 m) (l + 1)) cs (stored 256 rs m (Numbers x y z w)) → walk (onLine st p) (q ∷ ls) ≡ left → Rest (b .form) n m cs rs (p ∷ q ∷ ls)
       a-ring x y z w four k e =
           let st' : State = state (reading b 1 n (countTo 257 m) (l + 1)) cs (stored 256 rs m (Numbers x y z w)) in
           let e' = on st' k e in
@@ -287,6 +304,7 @@ module _ (left : State) where
             cells = λ i h v u. absurd (omega arith);
             rings = λ i h v u. by-ring i (eqb i m) refl h v u s long r same;
             fixed = λ h. same;
+            form = r .form;
           }
         where
           some-ring : (m : ℕ) → 0 < countTo 257 m
@@ -297,7 +315,7 @@ module _ (left : State) where
               by false f = let g : 257 ≤ m = ltb-false _ _ f in subst (λ (c : ℕ). 0 < c) (count-full 257 m g) (omega arith)
 
           by-ring : (i : ℕ) (t : Bool) → eqb i m ≡ t → m ≤ i → i < M → i < min 256 (length rs / 4) → Stays (state (reading b 1 n (countTo 257 m) (l + 1)) cs (stored 256 rs m (Numbers x y z w))) left
-              → length (stored 256 rs m (Numbers x y z w)) ≡ length rs → Rest n (countTo 257 m) cs (stored 256 rs m (Numbers x y z w)) (q ∷ ls) → N ≡ n → ringAt (getD (p ∷ q ∷ ls) (N - n + (i - m)) []) ≡ fourIn (left .rings) i
+              → length (stored 256 rs m (Numbers x y z w)) ≡ length rs → Rest (b .form) n (countTo 257 m) cs (stored 256 rs m (Numbers x y z w)) (q ∷ ls) → N ≡ n → ringAt (getD (p ∷ q ∷ ls) (N - n + (i - m)) []) ≡ fourIn (left .rings) i
           by-ring i true e h v u s long r same =
               let j : m ≡ i = sym (eqb-true _ _ e) in
               let lt : m < 256 = omega (arith, u, min-le-left 256 (length rs / 4)) in
@@ -313,65 +331,67 @@ module _ (left : State) where
               let o : N - n + (i - m) ≡ suc (N - n + (i - countTo 257 m)) = omega arith in
               ap ringAt (shift _ _ o) ∙ r .rings i (omega arith) v (subst (λ (c : ℕ). i < min 256 (c / 4)) (sym long) u)
 
-      a-line : walk st (p ∷ q ∷ ls) ≡ left → Rest n m cs rs (p ∷ q ∷ ls)
+      a-line : walk st (p ∷ q ∷ ls) ≡ left → Rest (b .form) n m cs rs (p ∷ q ∷ ls)
       unfolding overPieces lineOn onBody refusing
       a-line e = by (ltb (length p) 128) refl (stopped (onLine st p)) refl
         where
-          kinds-of : walk (onLine st p) (q ∷ ls) ≡ left → kinds.Kind b n m l cs rs p → Rest n m cs rs (p ∷ q ∷ ls)
+          kinds-of : walk (onLine st p) (q ∷ ls) ≡ left → kinds.Kind b n m l cs rs p → Rest (b .form) n m cs rs (p ∷ q ∷ ls)
           kinds-of f (kinds.cell x y z w em lt h k) = a-cell x y z w em lt h k f
           kinds-of f (kinds.ring x y z w h k) = a-ring x y z w h k f
-          kinds-of f (kinds.end t k) = let c = done-counts (state (reading b 2 n m (l + 1)) cs rs) (q ∷ ls) (omega arith) refl (on _ k f) in no-more n m cs rs _ (c .0) (c .1)
+          kinds-of f (kinds.end t k) = let c = done-counts (state (reading b 2 n m (l + 1)) cs rs) (q ∷ ls) (omega arith) refl (on _ k f) in no-more (b .form) n m cs rs _ (c .cells) (c .rings) (c .form)
 
-          by : (t : Bool) → ltb (length p) 128 ≡ t → (u : Bool) → stopped (onLine st p) ≡ u → Rest n m cs rs (p ∷ q ∷ ls)
+          by : (t : Bool) → ltb (length p) 128 ≡ t → (u : Bool) → stopped (onLine st p) ≡ u → Rest (b .form) n m cs rs (p ∷ q ∷ ls)
           by false f u g =
               let k : lineOn stopped onLine onLong st p ≡ onLong st = pick-false _ _ _ refl ∙ pick-false _ _ _ f in
-              let c = counts (onLong st) (sym (ap (λ (x : State). walk x (q ∷ ls)) k ∙ stopped-walk (q ∷ ls) (onLong st) refl) ∙ e) in
-              no-more n m cs rs _ (c .0) (c .1)
+              let c = long-counts st (counts (onLong st) (sym (ap (λ (x : State). walk x (q ∷ ls)) k ∙ stopped-walk (q ∷ ls) (onLong st) refl) ∙ e)) in
+              no-more (b .form) n m cs rs _ (c .cells) (c .rings) (c .form)
           by true f true g =
               let k : lineOn stopped onLine onLong st p ≡ onLine st p = pick-false _ _ _ refl ∙ pick-true _ _ _ f in
               let body : onLine st p ≡ onBody st p = line-body st p (λ z. omega arith) refl in
               let c = counts (onLine st p) (sym (ap (λ (x : State). walk x (q ∷ ls)) k ∙ stopped-walk (q ∷ ls) (onLine st p) g) ∙ e) in
-              let w = went-refused (reading b 1 n m l) (tookOf writtenForm n m l p) (ap stopped (sym body) ∙ g) in
-              no-more n m cs rs _ (sym (w .0) ∙ ap (λ (x : State). x .reading .cells) (sym body) ∙ c .0) (sym (w .1) ∙ ap (λ (x : State). x .reading .rings) (sym body) ∙ c .1)
+              let w = went-refused (reading b 1 n m l) (tookOf (b .form) n m l p) (ap stopped (sym body) ∙ g) in
+              no-more (b .form) n m cs rs _ (sym (w .0) ∙ ap (λ (x : State). x .reading .cells) (sym body) ∙ c .cells) (sym (w .1) ∙ ap (λ (x : State). x .reading .rings) (sym body) ∙ c .rings) (sym (w .2) ∙ ap (λ (x : State). x .reading .form) (sym body) ∙ c .form)
           by true f false g =
               let k : lineOn stopped onLine onLong st p ≡ onLine st p = pick-false _ _ _ refl ∙ pick-true _ _ _ f in
               kinds-of (ap (λ (x : State). walk x (q ∷ ls)) (sym k) ∙ e) (kinds.kind b n m l cs rs p (omega arith) g)
 
     rest : (ls : List (List ℕ)) → Again ls
     unfolding overPieces
-    rest [] n m l cs rs few e = let c = counts (state (reading b 1 n m l) cs rs) e in no-more n m cs rs [] (c .0) (c .1)
-    rest (p ∷ []) n m l cs rs few e = let c = ended-counts (state (reading b 1 n m l) cs rs) p e in no-more n m cs rs _ (c .0) (c .1)
+    rest [] n m l cs rs few e = let c = counts (state (reading b 1 n m l) cs rs) e in no-more (b .form) n m cs rs [] (c .cells) (c .rings) (c .form)
+    rest (p ∷ []) n m l cs rs few e = let c = ended-counts (state (reading b 1 n m l) cs rs) p e in no-more (b .form) n m cs rs _ (c .cells) (c .rings) (c .form)
     rest (p ∷ q ∷ ls) n m l cs rs few e = a-line n m l cs rs p q ls few (rest (q ∷ ls)) e
 
   -- from the first line on
   abbrev Whole : List Float → List Float → List (List ℕ) → Type 0
   Whole cs rs ps =
-      ((i : ℕ) → i < N → i < length cs / 4 → fourOf (lineOf (cellPrefix writtenForm i) 4 (getD ps (1 + i) [])) ≡ fourIn (left .cells) i) × ((i : ℕ) → i < M → i < min 256 (length rs / 4) → ringAt (getD ps (1 + (N + i)) []) ≡ fourIn (left .rings) i)
+      ((i : ℕ) → i < N → i < length cs / 4 → fourOf (lineOf (cellPrefix F i) 4 (getD ps (1 + i) [])) ≡ fourIn (left .cells) i) × ((i : ℕ) → i < M → i < min 256 (length rs / 4) → ringAt (getD ps (1 + (N + i)) []) ≡ fourIn (left .rings) i)
 
   nothing : (cs rs : List Float) (ps : List (List ℕ)) → 0 ≡ N → 0 ≡ M → Whole cs rs ps
   nothing cs rs ps e f = ((λ i h k. absurd (omega arith)), (λ i h k. absurd (omega (arith, h))))
 
   first-rest : (cs rs : List Float) (ps : List (List ℕ)) → length ps + 1 < 2 ^ 64 → walk (state freshReading cs rs) ps ≡ left → Whole cs rs ps
   unfolding overPieces lineOn begun refusing
-  first-rest cs rs [] few e = let c = counts (state freshReading cs rs) e in nothing cs rs [] (c .0) (c .1)
-  first-rest cs rs (p ∷ []) few e = let c = ended-counts (state freshReading cs rs) p e in nothing cs rs (p ∷ []) (c .0) (c .1)
-  first-rest cs rs (p ∷ q ∷ ls) few e = by (ltb (length p) 128) refl (fiveOf (lineOf (stockPrefix writtenForm) 5 p)) refl
+  first-rest cs rs [] few e = let c = counts (state freshReading cs rs) e in nothing cs rs [] (c .cells) (c .rings)
+  first-rest cs rs (p ∷ []) few e = let c = ended-counts (state freshReading cs rs) p e in nothing cs rs (p ∷ []) (c .cells) (c .rings)
+  first-rest cs rs (p ∷ q ∷ ls) few e = by (ltb (length p) 128) refl (firstOf p) refl
     where
       refused : lineOn stopped onLine onLong (state freshReading cs rs) p ≡ onLong (state freshReading cs rs) → Whole cs rs (p ∷ q ∷ ls)
       refused k =
-          let c = counts (onLong (state freshReading cs rs)) (sym (ap (λ (x : State). walk x (q ∷ ls)) k ∙ stopped-walk (q ∷ ls) (onLong (state freshReading cs rs)) refl) ∙ e) in
-          nothing cs rs (p ∷ q ∷ ls) (c .0) (c .1)
+          let c = long-counts (state freshReading cs rs) (counts (onLong (state freshReading cs rs)) (sym (ap (λ (x : State). walk x (q ∷ ls)) k ∙ stopped-walk (q ∷ ls) (onLong (state freshReading cs rs)) refl) ∙ e)) in
+          nothing cs rs (p ∷ q ∷ ls) (c .cells) (c .rings)
 
-      by : (t : Bool) → ltb (length p) 128 ≡ t → (f : Five) → fiveOf (lineOf (stockPrefix writtenForm) 5 p) ≡ f → Whole cs rs (p ∷ q ∷ ls)
+      by : (t : Bool) → ltb (length p) 128 ≡ t → (f : First) → firstOf p ≡ f → Whole cs rs (p ∷ q ∷ ls)
       by false g f h = refused (pick-false _ _ _ refl ∙ pick-false _ _ _ g)
-      by true g NoFive h = refused (pick-false _ _ _ refl ∙ pick-true _ _ _ g ∙ line-first (state freshReading cs rs) p refl ∙ ap (λ (x : Five). state (begun freshReading x) cs rs) h)
-      by true g (Spec x y z w v) h =
-          let b : Bar = record { «z_min_mm» = x; «z_max_mm» = y; «outer_radius_mm» = z; «bore_radius_mm» = w; «cell_mm» = v } in
+      by true g NoFirst h = refused (pick-false _ _ _ refl ∙ pick-true _ _ _ g ∙ line-first (state freshReading cs rs) p refl ∙ ap (λ (x : First). state (begun freshReading x) cs rs) h)
+      by true g (Says form edition b) h =
+          let d : Opening = opening form edition b in
           let one : 1 ≡ next freshReading = omega arith in
-          let k : lineOn stopped onLine onLong (state freshReading cs rs) p ≡ state (reading b 1 0 0 1) cs rs =
-          pick-false _ _ _ refl ∙ pick-true _ _ _ g ∙ line-first (state freshReading cs rs) p refl ∙ ap (λ (r : Reading). state r cs rs) (sym (begun-is freshReading (fiveOf (lineOf (stockPrefix writtenForm) 5 p)) _ _ _ _ _ 1 h one)) in
-          let r = rest b (q ∷ ls) 0 0 1 cs rs (omega arith) (ap (λ (u : State). walk u (q ∷ ls)) (sym k) ∙ e) in
-          ((λ i a c. let o : 1 + i ≡ suc (i - 0) = omega arith in ap (λ (u : ℕ). fourOf (lineOf (cellPrefix writtenForm i) 4 (getD (p ∷ q ∷ ls) u []))) o ∙ r .cells i (omega arith) a c), (λ i a c. let o : 1 + (N + i) ≡ suc (N - 0 + (i - 0)) = omega arith in ap (λ (u : ℕ). ringAt (getD (p ∷ q ∷ ls) u [])) o ∙ r .rings i (omega arith) a c))
+          let k : lineOn stopped onLine onLong (state freshReading cs rs) p ≡ state (reading d 1 0 0 1) cs rs =
+          pick-false _ _ _ refl ∙ pick-true _ _ _ g ∙ line-first (state freshReading cs rs) p refl ∙ ap (λ (r : Reading). state r cs rs) (sym (begun-is freshReading (firstOf p) _ _ _ 1 h one)) in
+          let r = rest d (q ∷ ls) 0 0 1 cs rs (omega arith) (ap (λ (u : State). walk u (q ∷ ls)) (sym k) ∙ e) in (
+            (λ i a c. let o : 1 + i ≡ suc (i - 0) = omega arith in ap (λ (u : ℕ). fourOf (lineOf (cellPrefix F i) 4 (getD (p ∷ q ∷ ls) u []))) o ∙ ap (λ (u : ℕ). fourOf (lineOf (cellPrefix u i) 4 (getD (p ∷ q ∷ ls) (suc (i - 0)) []))) (sym (r .form)) ∙ r .cells i (omega arith) a c),
+            (λ i a c. let o : 1 + (N + i) ≡ suc (N - 0 + (i - 0)) = omega arith in ap (λ (u : ℕ). ringAt (getD (p ∷ q ∷ ls) u [])) o ∙ r .rings i (omega arith) a c),
+          )
 
 -- WHAT THE LENT ROOM HOLDS after any read, refused or not, of fewer than 2^64 - 1 lines
 pub room-holds : (cs rs : List Float) (s : List ℕ) → length (piecesOf s) + 1 < 2 ^ 64 → RoomHolds cs rs (piecesOf s) (fileIn cs rs s)

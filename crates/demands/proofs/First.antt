@@ -2,7 +2,7 @@
 -- `Exactly rule asks` says it of a rule: `asks` is the list of its tests in 01's order, each with its number (specs/Refused). The rule refuses with k exactly when the first
 -- of them that does not hold has the number k, and answers exactly when all of them hold. Each call's promise says that it answers by its rule. Assumes nothing.
 --
--- Below each law names the calls that it is of. `change_slices::propose` has the rule of the flat call, with the number of records as the room (`preview-tool-exactly`). What the methods of an `Envelope` made by `new` answer is the rule of the flat call too (proofs/Profile): `envelope::held::Envelope::order`,
+-- Below each law names the calls that it is of. `change_slices::propose` has the rule of the flat call, with the number of records as the room (`preview-tool-exactly`). `changes::list_of` refuses with the number it is given. What the methods of an `Envelope` made by `new` answer is the rule of the flat call too (proofs/Profile): `envelope::held::Envelope::order`,
 -- `envelope::held::Envelope::radius_at`, `envelope::held::Envelope::radius_range`.
 use mathlib.Core.Path.{_≡_, refl, sym, ap, ap₂, _∙_, subst}
 use mathlib.Core.Logic.{inl, inr}
@@ -27,6 +27,10 @@ use Rattle.numbers.specs.Length.{plainLength, lengthOf}
 use Rattle.numbers.specs.Whole.{wholeUp}
 use Rattle.numbers.proofs.Asked.{AsBefore, length-as-before}
 use Rattle.stock.specs.declared.TurnStockSpec.{TurnStockSpec}
+use Rattle.stock.specs.declared.Stamp.{Stamp}
+use Rattle.stock.specs.declared.TurnStock.{TurnStock}
+use Rattle.stock.specs.Stock.{sameStamp}
+use Rattle.changes.specs.declared.ChangeList.{ChangeList}
 use Rattle.stock.specs.declared.TurnCell.{TurnCell}
 use Rattle.stock.specs.declared.TurnChange.{TurnChange}
 use Rattle.stock.specs.declared.TurnSide.{TurnSide}
@@ -272,30 +276,35 @@ pub commit-unasked-exactly : (s : TurnStockSpec) (n : ℕ) (cs : List Float) (ge
     → Exactly (commitHeld s n cs gen is xs k) (commitInAsks s (answers n) cs gen (changesFrom is xs (min k (change.roomOf (length is) (length xs)))))
 commit-unasked-exactly s n cs gen is xs k = exactly (commit-asks s (answers n) n refl cs gen _)
 
-whole-asks : (spec : TurnStockSpec) (cs : List Float) (gen : ℕ) (l : List TurnChange) → Asks (commitOf spec cs gen l) (commitAsks spec cs gen l)
+whole-asks : (k : TurnStock) (cs : List Float) (st : Stamp) (l : List TurnChange) → Asks (commitOf k cs st l) (commitAsks k cs st l)
 unfolding commitOf
-whole-asks spec cs gen l = asks-on (stockOf spec cs) _ (stock-asks spec cs) (λ n e. commit-asks (cleanSpec spec) (stockOf spec cs) n e cs gen l)
+whole-asks k cs st l =
+    asks-on (stockOf (k .spec) cs) _ (stock-asks (k .spec) cs) (λ n e.
+    asks-more (sameStamp st (k .stamp)) 19 (λ _.
+    commit-asks (cleanSpec (k .spec)) (stockOf (k .spec) cs) n e cs (k .stamp .generation) l))
 
--- `change_slices::apply`, a commit of a list of changes: 1, 2, 3, 7, then change by change 8, 21, 22, 23, then 12
-pub commit-exactly : (spec : TurnStockSpec) (cs : List Float) (gen : ℕ) (l : List TurnChange) → Exactly (commitOf spec cs gen l) (commitAsks spec cs gen l)
-commit-exactly spec cs gen l = exactly (whole-asks spec cs gen l)
+-- `change_slices::apply`, a commit of a list of changes with its stamp: 1, 2, 3, 19, 7, then change by change 8, 21, 22, 23, then 12
+pub commit-exactly : (k : TurnStock) (cs : List Float) (st : Stamp) (l : List TurnChange) → Exactly (commitOf k cs st l) (commitAsks k cs st l)
+commit-exactly k cs st l = exactly (whole-asks k cs st l)
 
 -- `conclude`, after `begin` and a `step` for each change: the same, of a list that a machine can hold
-pub conclude-exactly : (spec : TurnStockSpec) (cs : List Float) (gen : ℕ) (l : List TurnChange) → length l ≤ lastPlace → Exactly (concludeOf (stepsOf cs (beginOf spec cs) l) gen) (commitAsks spec cs gen l)
+pub conclude-exactly : (k : TurnStock) (cs : List Float) (st : Stamp) (l : List TurnChange) → length l ≤ lastPlace → Exactly (concludeOf (stepsOf cs (beginOf k cs st) l) (k .stamp .generation)) (commitAsks k cs st l)
 unfolding refusalOf
-conclude-exactly spec cs gen l h = exactly-as (concludeOf (stepsOf cs (beginOf spec cs) l) gen) (ap refusalOf (conclude-is spec cs gen l h) ∙ same (commitOf spec cs gen l)) (commit-exactly spec cs gen l)
+conclude-exactly k cs st l h =
+    exactly-as (concludeOf (stepsOf cs (beginOf k cs st) l) (k .stamp .generation)) (ap refusalOf (conclude-is k cs st l h) ∙ same (commitOf k cs st l)) (commit-exactly k cs st l)
   where
     same : (p : Paper Committed) → refusalOf (generationOf p) ≡ refusalOf p
     same (answers k) = refl
     same (refuses n) = refl
 
--- `apply`, a commit of k changes of the lent lists: the same, with 6 directly after 3
-pub apply-exactly : (spec : TurnStockSpec) (cs : List Float) (gen : ℕ) (is : List ℕ) (xs : List Float) (k : ℕ) → Exactly (applyOf spec cs gen is xs k) (applyAsks spec cs gen is xs k)
+-- `apply`, a commit of a change list from the lent lists: the same, with 6 directly after 19
+pub apply-exactly : (k : TurnStock) (cs : List Float) (list : ChangeList) (is : List ℕ) (xs : List Float) → Exactly (applyOf k cs list is xs) (applyAsks k cs list is xs)
 unfolding applyOf
-apply-exactly spec cs gen is xs k =
-    exactly (asks-on (stockOf spec cs) _ (stock-asks spec cs) (λ n e.
-    asks-more (leb k (change.roomOf (length is) (length xs))) 6 (λ _.
-    commit-asks (cleanSpec spec) (stockOf spec cs) n e cs gen (changesFrom is xs k))))
+apply-exactly k cs list is xs =
+    exactly (asks-on (stockOf (k .spec) cs) _ (stock-asks (k .spec) cs) (λ n e.
+    asks-more (sameStamp (list .stamp) (k .stamp)) 19 (λ _.
+    asks-more (leb (list .count) (change.roomOf (length is) (length xs))) 6 (λ _.
+    commit-asks (cleanSpec (k .spec)) (stockOf (k .spec) cs) n e cs (k .stamp .generation) (changesFrom is xs (list .count))))))
 
 -- ---- rings
 
@@ -370,27 +379,29 @@ fits-room : (e : Ring) (xs : List Float) (n : ℕ) → countFits e xs n ≡ true
 unfolding countFits
 fits-room e xs n h = and-both (leb n (ringRoom (length xs))) (storeFits e (ringsOf n xs)) h .0
 
-move-asks : (spec : TurnStockSpec) (n : ℕ) (cs xs : List Float) (count g : ℕ) (l : List TurnChange) (removed : List Float) → stockOf spec cs ≡ answers n → Asks (moveIn spec n cs xs count g l removed) (moveInAsks spec cs xs count g l removed)
+move-asks : (k : TurnStock) (n : ℕ) (cs xs : List Float) (st : Stamp) (l : List TurnChange) (removed : List Float) → stockOf (k .spec) cs ≡ answers n → Asks (moveIn k n cs xs st l removed) (moveInAsks k cs xs st l removed)
 unfolding moveIn
-move-asks spec n cs xs count g l removed e =
-    asks-more (countFits (barRing (cleanSpec spec)) xs count) 4 (λ f.
+move-asks k n cs xs st l removed e =
+    let spec = k .spec in
+    asks-more (countFits (barRing (cleanSpec spec)) xs (k .rings)) 4 (λ f.
+    asks-more (sameStamp st (k .stamp)) 19 (λ _.
     asks-found (badRing removed) 10
     (asks-on (passAll (cleanSpec spec) n cs l) _ (pass-asks (cleanSpec spec) (stockOf spec cs) n e cs l) (λ _ _.
-    asks-more (leb (generationAfter spec g removed) lastGeneration) 12 (λ _.
-    asks-then (removeRings spec xs count removed) _ (rings-room spec xs count removed (fits-room (barRing (cleanSpec spec)) xs count f)) (λ _ _. asks-none _)))))
+    asks-more (leb (generationAfter spec (k .stamp .generation) removed) lastGeneration) 12 (λ _.
+    asks-then (removeRings spec xs (k .rings) removed) _ (rings-room spec xs (k .rings) removed (fits-room (barRing (cleanSpec spec)) xs (k .rings) f)) (λ _ _. asks-none _))))))
 
--- `change_slices::apply_move`, of a list of changes: 1, 2, 3, 4, 10, 7, then change by change 8, 21, 22, 23, then 12, 11
-pub move-list-exactly : (spec : TurnStockSpec) (cs xs : List Float) (count g : ℕ) (l : List TurnChange) (removed : List Float) → Exactly (moveListOf spec cs xs count g l removed) (moveListAsks spec cs xs count g l removed)
+-- `change_slices::apply_move`, of a list of changes with its stamp: 1, 2, 3, 4, 19, 10, 7, then change by change 8, 21, 22, 23, then 12, 11
+pub move-list-exactly : (k : TurnStock) (cs xs : List Float) (st : Stamp) (l : List TurnChange) (removed : List Float) → Exactly (moveListOf k cs xs st l removed) (moveListAsks k cs xs st l removed)
 unfolding moveListOf
-move-list-exactly spec cs xs count g l removed = exactly (asks-on (stockOf spec cs) _ (stock-asks spec cs) (λ n e. move-asks spec n cs xs count g l removed e))
+move-list-exactly k cs xs st l removed = exactly (asks-on (stockOf (k .spec) cs) _ (stock-asks (k .spec) cs) (λ n e. move-asks k n cs xs st l removed e))
 
--- `apply_move`, of k changes of the lent lists: the same, with 6 directly after 3
-pub move-exactly : (spec : TurnStockSpec) (cs xs : List Float) (count g : ℕ) (is : List ℕ) (ys : List Float) (k : ℕ) (removed : List Float) → Exactly (moveOf spec cs xs count g is ys k removed) (moveAsks spec cs xs count g is ys k removed)
+-- `apply_move`, of a change list from the lent lists: the same, with 6 directly after 3
+pub move-exactly : (k : TurnStock) (cs xs : List Float) (list : ChangeList) (is : List ℕ) (ys : List Float) (removed : List Float) → Exactly (moveOf k cs xs list is ys removed) (moveAsks k cs xs list is ys removed)
 unfolding moveOf
-move-exactly spec cs xs count g is ys k removed =
-    exactly (asks-on (stockOf spec cs) _ (stock-asks spec cs) (λ n e.
-    asks-more (leb k (change.roomOf (length is) (length ys))) 6 (λ _.
-    move-asks spec n cs xs count g (changesFrom is ys k) removed e)))
+move-exactly k cs xs list is ys removed =
+    exactly (asks-on (stockOf (k .spec) cs) _ (stock-asks (k .spec) cs) (λ n e.
+    asks-more (leb (list .count) (change.roomOf (length is) (length ys))) 6 (λ _.
+    move-asks k n cs xs (list .stamp) (changesFrom is ys (list .count)) removed e)))
 
 -- ---- volume and `envelope_at`
 
@@ -421,9 +432,9 @@ unfolding lineCount
 line-count-exactly spec cs rs m = exactly (asks-on (stockOf spec cs) _ (stock-asks spec cs) (λ _ _. asks-more (countFits (barRing (cleanSpec spec)) rs m) 4 (λ _. asks-none _)))
 
 -- `file_line`: 1, 2, 3 for the length alone, 4 for the count alone
-pub file-line-exactly : (spec : TurnStockSpec) (cs rs : List Float) (m k : ℕ) → Exactly (lineFor spec cs rs m k) (fileLineAsks spec cs rs m)
+pub file-line-exactly : (stock : TurnStock) (cs rs : List Float) (k : ℕ) → Exactly (lineFor stock cs rs k) (fileLineAsks (stock .spec) cs rs (stock .rings))
 unfolding lineFor
-file-line-exactly spec cs rs m k = exactly (asks-on (newOf spec (length cs)) _ (new-asks spec (length cs)) (λ _ _. asks-more (leb m (ringRoom (length rs))) 4 (λ _. asks-none _)))
+file-line-exactly stock cs rs k = exactly (asks-on (newOf (stock .spec) (length cs)) _ (new-asks (stock .spec) (length cs)) (λ _ _. asks-more (leb (stock .rings) (ringRoom (length rs))) 4 (λ _. asks-none _)))
 
 -- `side_by_side::compare`: 24, 11
 pub compare-exactly : (s : TurnStockSpec) (a : Side) (t : TurnStockSpec) (b : Side) → Exactly (comparedOf s a t b) (compareAsks s a t b)
@@ -482,31 +493,34 @@ radius-range-exactly ps lo hi = exactly (asks-more (pointsGood ps && (usable lo 
 
 -- ---- a line of a job
 
-bar-asks : (spec : TurnStockSpec) (cs rs : List Float) → Asks (barLine spec cs rs) (barAsks spec cs)
+bar-asks : (edition : ℕ) (spec : TurnStockSpec) (cs rs : List Float) → Asks (barLine edition spec cs rs) (barAsks spec cs)
 unfolding barLine
-bar-asks spec cs rs = asks-on (cellsOf spec) _ (spec-asks spec) (λ n e. asks-of (cellsOf spec) n e (λ n. leb (4 * n) (length cs)) 3 (asks-none _))
+bar-asks edition spec cs rs = asks-on (cellsOf spec) _ (spec-asks spec) (λ n e. asks-of (cellsOf spec) n e (λ n. leb (4 * n) (length cs)) 3 (asks-none _))
 
 -- a cut: the changes that are committed are those that the preview answers
 cut-asks : (j : Job) (cut : Cut) (room : ℕ) (cs rs : List Float) → Asks (cutLine j cut room cs rs) (cutLineAsks j cut room cs)
 unfolding cutLine madeCut
 cut-asks j cut room cs rs =
     let own = cellsOfJob j cs in
-    asks-then (madeCut (j .spec) own (j .generation) cut room) _
-    (asks-on (previewCut (j .spec) own cut room) _ (preview-cut-asks (j .spec) own cut room) (λ l e.
-    subst (λ (p : Paper (List TurnChange)). Asks (commitOf (j .spec) own (j .generation) l) (commitAsks (j .spec) own (j .generation) (writtenOf p))) (sym e) (whole-asks (j .spec) own (j .generation) l)))
+    let k = j .stock in
+    asks-then (madeCut k own cut room) _
+    (asks-on (previewCut (k .spec) own cut room) _ (preview-cut-asks (k .spec) own cut room) (λ l e.
+    subst (λ (p : Paper (List TurnChange)). Asks (commitOf k own (k .stamp) l) (commitAsks k own (k .stamp) (writtenOf p))) (sym e) (whole-asks k own (k .stamp) l)))
     (λ _ _. asks-none _)
 
-ring-asks : (j : Job) (q : Ring) (cs rs : List Float) → Asks (removingLine j q cs rs) (removeAsks (j .spec) rs (j .rings) (j .generation) q)
+ring-asks : (j : Job) (q : Ring) (cs rs : List Float) → Asks (removingLine j q cs rs) (removeAsks (j .stock .spec) rs (j .stock .rings) (j .stock .stamp .generation) q)
 unfolding removingLine
-ring-asks j q cs rs = asks-then (removeRing (j .spec) rs (j .rings) (j .generation) q) _ (remove-ring-asks (j .spec) rs (j .rings) (j .generation) q) (λ _ _. asks-none _)
+ring-asks j q cs rs =
+    let k = j .stock in
+    asks-then (removeRing (k .spec) rs (k .rings) (k .stamp .generation) q) _ (remove-ring-asks (k .spec) rs (k .rings) (k .stamp .generation) q) (λ _ _. asks-none _)
 
-first-line-asks : (l : Line) (cs rs : List Float) → Asks (firstLine l cs rs) (firstLineAsks l cs)
+first-line-asks : (edition : ℕ) (l : Line) (cs rs : List Float) → Asks (firstLine edition l cs rs) (firstLineAsks l cs)
 unfolding firstLine firstLineAsks
-first-line-asks (Bar spec) cs rs = bar-asks spec cs rs
-first-line-asks (Cutting cut) cs rs = asks-fails 15 refl
-first-line-asks (Removing q) cs rs = asks-fails 15 refl
-first-line-asks Arc cs rs = asks-fails 15 refl
-first-line-asks Bad cs rs = asks-fails 15 refl
+first-line-asks edition (Bar spec) cs rs = bar-asks edition spec cs rs
+first-line-asks edition (Cutting cut) cs rs = asks-fails 15 refl
+first-line-asks edition (Removing q) cs rs = asks-fails 15 refl
+first-line-asks edition Arc cs rs = asks-fails 15 refl
+first-line-asks edition Bad cs rs = asks-fails 15 refl
 
 later-line-asks : (j : Job) (l : Line) (room : ℕ) (cs rs : List Float) → Asks (laterLine j l room cs rs) (laterLineAsks j l room cs rs)
 unfolding laterLine laterLineAsks
@@ -526,7 +540,7 @@ either false h k = k
 -- 13 for an arc, and what its call asks for a cut or a ring
 pub line-exactly : (j : Job) (s : List ℕ) (room : ℕ) (cs rs : List Float) → Exactly (jobLine j s room cs rs) (lineAsks j s room cs rs)
 unfolding jobLine
-line-exactly j s room cs rs = exactly (asks-more (ltb (length s) lineLimit) 15 (λ _. either (eqb (j .cells) 0) (first-line-asks (lineOf s) cs rs) (later-line-asks j (lineOf s) room cs rs)))
+line-exactly j s room cs rs = exactly (asks-more (ltb (length s) lineLimit) 15 (λ _. either (eqb (j .cells) 0) (first-line-asks (j .stock .stamp .edition) (lineOf s) cs rs) (later-line-asks j (lineOf s) room cs rs)))
 
 -- ---- profiles: 17, 18
 

@@ -25,12 +25,15 @@ use Rattle.stock.specs.declared.TurnSide.{TurnSide}
 use Rattle.reach.proofs.Sides.{Ordered}
 use Rattle.reach.proofs.Removes.{ordered}
 use Rattle.reach.proofs.OneByOne.{cellAfter, cuts-of-bin}
-use Rattle.changes.specs.declared.Previewed.the-variants.{Changes}
+use Rattle.stock.specs.declared.TurnStock.{TurnStock}
+use Rattle.changes.specs.declared.ChangeList.{ChangeList}
+use Rattle.changes.specs.declared.Previewed.the-variants.{Listed}
 use Rattle.changes.specs.Change.{changesTo, roomOf, Proposed}
 use Rattle.changes.proofs.Rising.{at-most}
-use Rattle.changes.proofs.Proposals.{same-proposal}
+use Rattle.changes.proofs.Proposals.{of-stock, same-listing}
 use Rattle.cuts.specs.Preview.{proposed, previewOf}
-use Rattle.changes.specs.Commit.{putAll, Committed, commitOf, applyOf}
+use Rattle.changes.specs.Commit.{putAll, Committed, commitOf, ownCommit, applyOf}
+use Rattle.changes.proofs.Stamped.{own-commit}
 use Rattle.changes.proofs.Stocks.{Good, stock-good, good-stock}
 use Rattle.changes.proofs.Accepted.{commit-accepts, put-good, good-bins}
 use Rattle.changes.proofs.Proposal.{wrote, lent-is, lent-accepts, act-cuts}
@@ -38,38 +41,54 @@ use Rattle.demands.specs.Job.{Step, turned, turnedAll, actStep, actsOf, 
 
 -- ---- a preview, committed
 
--- WHAT A PREVIEW PROPOSES, A COMMIT ON THE SAME STOCK ACCEPTS, while generations last: where the preview of a sound cut answers with changes l, the commit of l answers with
--- the cells that have every after-cell in its bin, and the next generation.
-pub preview-commits : {spec : TurnStockSpec} {n : ℕ} {u : Step} → Sound spec n u → HeldSpec spec → (cs : List Float) → HeldList cs → stockOf spec cs ≡ answers n → (room : ℕ) (l : List TurnChange) → u .preview cs room ≡ answers l
-    → (gen : ℕ) → gen < lastGeneration → commitOf spec cs gen l ≡ answers (record { cells = putAll cs l; generation = gen + 1 })
-preview-commits {spec} {n} {u} s hs cs hc e room l p gen h =
+-- the commit of a cut in turn asks for the list's stamp too, and the list has the stock's
+pub turned-asks : (k : TurnStock) (room : ℕ) (u : Step) (cs : List Float) → turned (k .spec) room u (record { cells = cs; generation = k .stamp .generation }) ≡ onward (u .preview cs room) (λ l. commitOf k cs (k .stamp) l)
+unfolding turned onward
+turned-asks k room u cs = go (u .preview cs room)
+  where
+    go : (p : Paper (List TurnChange)) → onward p (λ l. ownCommit (k .spec) cs (k .stamp .generation) l) ≡ onward p (λ l. commitOf k cs (k .stamp) l)
+    go (answers l) = sym (own-commit k cs l)
+    go (refuses r) = refl
+
+-- by the rule of a stock's own list
+own-commits : {spec : TurnStockSpec} {n : ℕ} {u : Step} → Sound spec n u → HeldSpec spec → (cs : List Float) → HeldList cs → stockOf spec cs ≡ answers n → (room : ℕ) (l : List TurnChange) → u .preview cs room ≡ answers l
+    → (gen : ℕ) → gen < lastGeneration → ownCommit spec cs gen l ≡ answers (record { cells = putAll cs l; generation = gen + 1 })
+own-commits {spec} {n} {u} s hs cs hc e room l p gen h =
     let g = stock-good hs hc e in
     let m : List TurnChange = changesTo (actCell (u .act)) cs n in
     let q : m ≡ l = same-answer (demanded (leb (length m) room) 6 (answers m) l (sym (s .rule cs room e) ∙ p) .1) in
     rw (← q) (commit-accepts g (actCell (u .act)) (act-cuts g (u .act) (s .plain)) gen h)
 
--- The same through the lent lists. A preview answered `Changes k` and left is', xs' in the lists that it was lent; a commit of k changes from those lists is then `turned`:
+-- WHAT A PREVIEW PROPOSES, A COMMIT ON THE SAME STOCK ACCEPTS, while generations last: where the preview of a sound cut answers with changes l, the commit of l, with the stock's stamp,
+-- answers with the cells that have every after-cell in its bin, and the next generation.
+pub preview-commits : (k : TurnStock) {n : ℕ} {u : Step} → Sound (k .spec) n u → HeldSpec (k .spec) → (cs : List Float) → HeldList cs → stockOf (k .spec) cs ≡ answers n → (room : ℕ) (l : List TurnChange) → u .preview cs room ≡ answers l
+    → k .stamp .generation < lastGeneration → commitOf k cs (k .stamp) l ≡ answers (record { cells = putAll cs l; generation = k .stamp .generation + 1 })
+preview-commits k s hs cs hc e room l p h = own-commit k cs l ∙ own-commits s hs cs hc e room l p (k .stamp .generation) h
+
+-- The same through the lent lists. A preview answered a list and left is', xs' in the lists that it was lent; a commit of that list to the stock is then `turned`:
 -- the preview and the commit by the rules alone, refused or accepted.
-pub lent-turned : {spec : TurnStockSpec} {n : ℕ} {u : Step} → Sound spec n u → (cs : List Float) → stockOf spec cs ≡ answers n
-    → (gen k : ℕ) (is is' : List ℕ) (xs xs' : List Float) → Proposed (u .preview cs (roomOf (length is) (length xs))) (Changes k) is is' xs xs'
-    → applyOf spec cs gen is' xs' k ≡ turned spec (roomOf (length is) (length xs)) u (record { cells = cs; generation = gen })
+pub lent-turned : (k : TurnStock) {n : ℕ} {u : Step} → Sound (k .spec) n u → (cs : List Float) → stockOf (k .spec) cs ≡ answers n
+    → (list : ChangeList) (is is' : List ℕ) (xs xs' : List Float) → Proposed (k .stamp) (u .preview cs (roomOf (length is) (length xs))) (Listed list) is is' xs xs'
+    → applyOf k cs list is' xs' ≡ turned (k .spec) (roomOf (length is) (length xs)) u (record { cells = cs; generation = k .stamp .generation })
 unfolding turned
-lent-turned {spec} {n} {u} s cs e gen k is is' xs xs' p =
+lent-turned k {n} {u} s cs e list is is' xs xs' p =
+    let spec = k .spec in
+    let gen = k .stamp .generation in
     let room = roomOf (length is) (length xs) in
     let l : List TurnChange = changesTo (actCell (u .act)) cs n in
-    let q = same-proposal (proposed (u .act) cs room n) (u .preview cs room) (Changes k) is is' xs xs' (sym (s .rule cs room e)) p in
-    let r : u .preview cs room ≡ answers l = s .rule cs room e ∙ demand-true _ _ _ (le-leb (length l) room (wrote l k is is' xs xs' q .room)) in
-    lent-is spec cs gen k l is is' xs xs' q ∙ sym (ap (λ (x : Paper (List TurnChange)). onward x (λ y. commitOf spec cs gen y)) r ∙ onward-answers _ _)
+    let q = same-listing (k .stamp) (proposed (u .act) cs room n) (u .preview cs room) (Listed list) is is' xs xs' (sym (s .rule cs room e)) p in
+    let r : u .preview cs room ≡ answers l = s .rule cs room e ∙ demand-true _ _ _ (le-leb (length l) room (wrote l (list .count) is is' xs xs' (of-stock (k .stamp) (proposed (u .act) cs room n) list is is' xs xs' q .tally) .room)) in
+    lent-is k cs list l is is' xs xs' q ∙ sym (ap (λ (x : Paper (List TurnChange)). onward x (λ y. ownCommit spec cs gen y)) r ∙ onward-answers _ _)
 
 -- And it is accepted while generations last: each cell is what the cut makes of it.
-pub lent-commits : {spec : TurnStockSpec} {n : ℕ} {u : Step} → Sound spec n u → HeldSpec spec → (cs : List Float) → HeldList cs → stockOf spec cs ≡ answers n
-    → (gen k : ℕ) (is is' : List ℕ) (xs xs' : List Float) → gen < lastGeneration → Proposed (u .preview cs (roomOf (length is) (length xs))) (Changes k) is is' xs xs'
-    → applyOf spec cs gen is' xs' k ≡ answers (record { cells = putAll cs (changesTo (actCell (u .act)) cs n); generation = gen + 1 })
-lent-commits {spec} {n} {u} s hs cs hc e gen k is is' xs xs' h p =
+pub lent-commits : (k : TurnStock) {n : ℕ} {u : Step} → Sound (k .spec) n u → HeldSpec (k .spec) → (cs : List Float) → HeldList cs → stockOf (k .spec) cs ≡ answers n
+    → (list : ChangeList) (is is' : List ℕ) (xs xs' : List Float) → k .stamp .generation < lastGeneration → Proposed (k .stamp) (u .preview cs (roomOf (length is) (length xs))) (Listed list) is is' xs xs'
+    → applyOf k cs list is' xs' ≡ answers (record { cells = putAll cs (changesTo (actCell (u .act)) cs n); generation = k .stamp .generation + 1 })
+lent-commits k {n} {u} s hs cs hc e list is is' xs xs' h p =
     let g = stock-good hs hc e in
     let room = roomOf (length is) (length xs) in
-    lent-accepts g (actCell (u .act)) (act-cuts g (u .act) (s .plain)) gen k is is' xs xs' h
-    (same-proposal (proposed (u .act) cs room n) (u .preview cs room) (Changes k) is is' xs xs' (sym (s .rule cs room e)) p)
+    lent-accepts k g (actCell (u .act)) (act-cuts g (u .act) (s .plain)) list is is' xs xs' h
+    (same-listing (k .stamp) (proposed (u .act) cs room n) (u .preview cs room) (Listed list) is is' xs xs' (sym (s .rule cs room e)) p)
 
 -- ---- an act in its domain, whose numbers are plain, is sound
 -- the preview of an act in its domain proposes its changes
@@ -107,7 +126,7 @@ cut-turned spec room n u k g s r h =
     record {
       cells = putAll (k .cells) l;
       good = put-good g f cuts;
-      answer = ap (λ (p : Paper (List TurnChange)). onward p (λ x. commitOf spec (k .cells) (k .generation) x)) e ∙ onward-answers _ _ ∙ commit-accepts g f cuts (k .generation) h;
+      answer = ap (λ (p : Paper (List TurnChange)). onward p (λ x. ownCommit spec (k .cells) (k .generation) x)) e ∙ onward-answers _ _ ∙ commit-accepts g f cuts (k .generation) h;
       bins = good-bins g f cuts;
     }
 

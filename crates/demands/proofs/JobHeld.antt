@@ -75,13 +75,13 @@ good-held {spec} {n} {cs} g k = go (ltb k (length cs)) refl
 -- ---- a run whose numbers are values of f64
 
 pub record HeldRun (st : State) : Type 0 where
-  pub spec : HeldSpec (st .run .job .spec)
+  pub spec : HeldSpec (st .run .job .stock .spec)
   pub cells : HeldList (ownOf st .cells)
 
 -- before the first line
-fresh-held : (cs rs : List Float) → HeldRun (state freshRun cs rs)
+fresh-held : (edition : ℕ) (cs rs : List Float) → HeldRun (state (freshRun edition) cs rs)
 unfolding fits ofBits
-fresh-held cs rs = record { spec = record { z-min = tt; z-max = tt; outer = tt; bore = tt; cell = tt }; cells = λ k. nan-fits binary64 }
+fresh-held edition cs rs = record { spec = record { z-min = tt; z-max = tt; outer = tt; bore = tt; cell = tt }; cells = λ k. nan-fits binary64 }
 
 -- a bar's numbers are read from its line
 abbrev BarHeld : Line → Type 0
@@ -112,7 +112,7 @@ bar-held l =
 
 -- ---- one line more
 
-first-held : (st : State) (x : Line) (s : Stand) → BarHeld x → firstLine x (st .cells) (st .rings) ≡ answers s → HeldRun (run.answered st (answers s))
+first-held : (st : State) (x : Line) (s : Stand) → BarHeld x → firstLine (st .run .job .stock .stamp .edition) x (st .cells) (st .rings) ≡ answers s → HeldRun (run.answered st (answers s))
 unfolding firstLine barLine run.answered
 first-held st (Bar spec) s h e =
     let a = answered (cellsOf spec) _ s e in
@@ -130,11 +130,11 @@ first-held st Bad s h e = absurd (no-answer (only 15) s e)
 cut-held : (st : State) (l : List ℕ) (s : Stand) → HeldRun st → (c : CutMade st l s) → HeldRun (run.answered st (answers s))
 unfolding run.answered
 cut-held st l s h c =
-    let spec = st .run .job .spec in
+    let spec = st .run .job .stock .spec in
     let a = 4 * st .run .job .cells in
     let k = c .left in
     let p = preview-is spec (lineCutter l) (ownOf st .cells) fullRoom (c .changes) (c .preview) in
-    let r : Ran spec (ownOf st) (lineCutter l ∷ []) k = rule-ran fullRoom (c .changes) k (c .preview) (c .commit) start in
+    let r : Ran spec (st .run .job .stock .stamp .edition) (st .run .job .stock .rings) (ownOf st) (lineCutter l ∷ []) k = rule-ran fullRoom (c .changes) k (c .preview) (c .commit) start in
     let long = commit-long spec (ownOf st .cells) (ownOf st .generation) (c .changes) k (c .commit) in
     subst (λ (x : Stand). HeldRun (run.answered st (answers x))) (sym (c .stood))
     (record { spec = h .spec; cells = subst HeldList (sym (front-is a (k .cells) (st .cells) long)) (good-held (run-good (h .spec) (h .cells) (p .1) (line-held l, tt) r)) })
@@ -142,7 +142,7 @@ cut-held st l s h c =
 ring-held : (st : State) (q : Ring) (s : Stand) → HeldRun st → removingLine (st .run .job) q (st .cells) (st .rings) ≡ answers s → HeldRun (run.answered st (answers s))
 unfolding removingLine run.answered
 ring-held st q s h e =
-    let a = answered (removeRing (st .run .job .spec) (st .rings) (st .run .job .rings) (st .run .job .generation) q) _ s e in
+    let a = answered (removeRing (st .run .job .stock .spec) (st .rings) (st .run .job .stock .rings) (st .run .job .stock .stamp .generation) q) _ s e in
     subst (λ (x : Stand). HeldRun (run.answered st (answers x))) (same-answer (a .then)) (record { spec = h .spec; cells = h .cells })
 
 -- a line that is carried out keeps it
@@ -153,7 +153,7 @@ line-kept st l s h e = by (eqb (st .run .job .cells) 0) refl
     j : Job
     j = st .run .job
 
-    rule : pick (eqb (j .cells) 0) (firstLine (lineOf l) (st .cells) (st .rings)) (laterLine j (lineOf l) fullRoom (st .cells) (st .rings)) ≡ answers s
+    rule : pick (eqb (j .cells) 0) (firstLine (j .stock .stamp .edition) (lineOf l) (st .cells) (st .rings)) (laterLine j (lineOf l) fullRoom (st .cells) (st .rings)) ≡ answers s
     rule = demanded _ _ _ _ e .1
 
     later : (x : Line) → lineOf l ≡ x → eqb (j .cells) 0 ≡ false → laterLine j x fullRoom (st .cells) (st .rings) ≡ answers s → HeldRun (run.answered st (answers s))
@@ -182,12 +182,12 @@ lines-going (l ∷ ls) st m g e = let a = answered (lineIn st l) _ m e in lines-
 
 -- THE DEMAND, of a job from its first line on: two jobs that differ in the order of lines one after the other that are cuts of one side, neither of them refused, write the same bytes, whatever
 -- stood in the lent memory. `reached` is the run where those lines begin.
-module _ (cs rs : List Float) (reached : State) (before ls ls' after : List (List ℕ)) (s s' : List ℕ) (end end' : State) (o : NoneOffends (state freshRun cs rs) (piecesOf s) end) (o' : NoneOffends (state freshRun cs rs) (piecesOf s') end')
-    (e : o .lines ≡ before ++ (ls ++ after)) (e' : o' .lines ≡ before ++ (ls' ++ after)) (d : List·Permᴰ ls ls') (b : linesOn (state freshRun cs rs) before ≡ answers reached) where
+module _ (edition : ℕ) (cs rs : List Float) (reached : State) (before ls ls' after : List (List ℕ)) (s s' : List ℕ) (end end' : State) (o : NoneOffends (state (freshRun edition) cs rs) (piecesOf s) end) (o' : NoneOffends (state (freshRun edition) cs rs) (piecesOf s') end')
+    (e : o .lines ≡ before ++ (ls ++ after)) (e' : o' .lines ≡ before ++ (ls' ++ after)) (d : List·Permᴰ ls ls') (b : linesOn (state (freshRun edition) cs rs) before ≡ answers reached) where
   held : HeldRun reached
-  held = lines-kept before (state freshRun cs rs) reached (fresh-held cs rs) b
+  held = lines-kept before (state (freshRun edition) cs rs) reached (fresh-held edition cs rs) b
 
-  pub job-order : Each IsCut ls → (σ : TurnSide) → ToolsOf (reached .run .job .spec) σ (map lineCutter ls) → outputOf (jobOf (state freshRun cs rs) s) ≡ outputOf (jobOf (state freshRun cs rs) s')
+  pub job-order : Each IsCut ls → (σ : TurnSide) → ToolsOf (reached .run .job .stock .spec) σ (map lineCutter ls) → outputOf (jobOf (state (freshRun edition) cs rs) s) ≡ outputOf (jobOf (state (freshRun edition) cs rs) s')
   job-order is σ os =
-      let fresh = state freshRun cs rs in
+      let fresh = state (freshRun edition) cs rs in
       job-any-order fresh reached before ls ls' after s s' end end' o o' e e' d refl b (lines-going before fresh reached refl b) (held .spec) (held .cells) is σ os

@@ -1,9 +1,9 @@
--- Which numbers a job refuses with. After every line that is accepted its cells and its rings fit, so that neither 3 nor 4 arises; there is room for a change of every cell (6); and what the preview of a line proposes its commit accepts (7, 8, 21, 22, 23). Assumes nothing.
+-- Which numbers a job refuses with. After every line that is accepted its cells and its rings fit, so that neither 3 nor 4 arises; there is room for a change of every cell (6); the list of a line's preview has the stock's stamp (19); and what it proposes its commit accepts (7, 8, 21, 22, 23). Assumes nothing.
 use mathlib.Core.Path.{_≡_, refl, sym, ap, _∙_, subst}
 use mathlib.Core.Bool.{Bool, true, false, not}
 use mathlib.Core.List.{List, [], _∷_, _++_}
 use mathlib.Core.Option.{Option, none, some}
-use mathlib.Core.Logic.{_⊎_, inl, inr}
+use mathlib.Core.Logic.{_⊎_, inl, inr, ⊎-elim}
 use Prim.Native.Nat.{ℕ, zero, suc, _+_, _*_, _≤_, _<_}
 use native.Mathlib.Omega.{arith}
 use lib.Dec.{T, eqb, leb, ltb}
@@ -25,6 +25,7 @@ use Rattle.stock.specs.declared.TurnCell.{TurnCell}
 use Rattle.stock.specs.declared.TurnSide.{TurnSide}
 use Rattle.stock.specs.Spec.{cleanSpec, quotient, counted, cellsOf}
 use Rattle.stock.specs.Cell.{cellAt, fourOf, freshCell, cellsLike}
+use Rattle.stock.specs.Stock.{newStock, stockWith}
 use Rattle.stock.proofs.Count.{checked, no-answer}
 use Rattle.stock.proofs.Bins.{HeldSpec, Bar, bar-of}
 use Rattle.stock.proofs.Cells.{length-like}
@@ -52,7 +53,7 @@ use Rattle.rings.specs.Remove.{RingStore, roomFor, added, storedNext, removeIn,
 use Rattle.rings.proofs.Taken.{ring-passes}
 use Rattle.stock.specs.declared.TurnChange.{TurnChange}
 use Rattle.changes.specs.Change.{changesTo}
-use Rattle.changes.specs.Commit.{Committed, putAll, commitOf}
+use Rattle.changes.specs.Commit.{Committed, putAll, ownCommit}
 use Rattle.changes.proofs.Stocks.{Good, good-stock}
 use Rattle.changes.proofs.Accepted.{commit-is, put-good}
 use Rattle.changes.proofs.Proposal.{act-cuts}
@@ -60,6 +61,7 @@ use Rattle.job_run.specs.declared.line.Job.{Job}
 use Rattle.demands.specs.Refused.{hasPlace}
 use Rattle.job_run.specs.Job.{fullRoom, Stand, stand, barLine, madeCut, cutLine, removingLine, firstLine, laterLine, jobLine}
 use Rattle.job_run.specs.Run.{State, state, freshRun, refusedWith, answered, onLine, onLong, isEmpty, onEnd, stopped, jobOf}
+use Rattle.job_run.proofs.Made.{made-own}
 use Rattle.lines.specs.File.{piecesOf}
 use Rattle.lines.proofs.Alike.{alike-file}
 use Rattle.demands.specs.Tool.{single, cutterAct, cutterGood}
@@ -215,10 +217,10 @@ count-only g spec = only-demand g _ 1 _ (λ _. bar-outside) (go (wholeUp (quotie
 
 -- after its bar
 pub record Running (j : Job) (cs rs : List Float) : Type 0 where
-  pub held : HeldSpec (j .spec)
-  pub good : Good (j .spec) (j .cells) (take (4 * j .cells) cs)
+  pub held : HeldSpec (j .stock .spec)
+  pub good : Good (j .stock .spec) (j .cells) (take (4 * j .cells) cs)
   pub few : j .cells ≤ maxCells
-  pub stored : countFits (barRing (cleanSpec (j .spec))) rs (j .rings) ≡ true
+  pub stored : countFits (barRing (cleanSpec (j .stock .spec))) rs (j .stock .rings) ≡ true
 
 pub data Fitting (j : Job) (cs rs : List Float) : Type 0 where
   barless : j .cells ≡ 0 → Fitting j cs rs
@@ -241,14 +243,14 @@ none-stored : (e : Ring) (rs : List Float) → countFits e rs 0 ≡ true
 unfolding countFits ringsOf storeFits
 none-stored e rs = rw (le-leb 0 (ringRoom (length rs)) (omega arith))
 
-goes-bar : (g : ℕ) (spec : TurnStockSpec) (cs rs : List Float) → HeldSpec spec → spec .«max_cells» ≡ maxCells → length cs ≡ 4 * maxCells → Goes g (barLine spec cs rs)
+goes-bar : (g edition : ℕ) (spec : TurnStockSpec) (cs rs : List Float) → HeldSpec spec → spec .«max_cells» ≡ maxCells → length cs ≡ 4 * maxCells → Goes g (barLine edition spec cs rs)
 unfolding barLine onward
-goes-bar g spec cs rs hs most long = go (cellsOf spec) refl
+goes-bar g edition spec cs rs hs most long = go (cellsOf spec) refl
   where
     new : ℕ → List Float
     new n = cellsLike (freshCell (cleanSpec spec)) n
 
-    go : (p : Paper ℕ) → cellsOf spec ≡ p → Goes g (onward p (λ n. demand (leb (4 * n) (length cs)) 3 (answers (stand (record { spec = spec; cells = n; rings = 0; generation = 0 }) (over (new n) cs) rs))))
+    go : (p : Paper ℕ) → cellsOf spec ≡ p → Goes g (onward p (λ n. demand (leb (4 * n) (length cs)) 3 (answers (stand (record { stock = newStock spec edition; cells = n }) (over (new n) cs) rs))))
     go (refuses m) e = off (only-number (count-only g spec) e)
     go (answers n) e =
         let few : n ≤ maxCells = omega (arith, checked spec n e .most, most) in
@@ -265,74 +267,81 @@ module _ (j : Job) (cs rs : List Float) (r : Running j cs rs) (long : length cs 
   abbrev own : List Float
   own = take (4 * j .cells) cs
 
+  abbrev spec : TurnStockSpec
+  spec = j .stock .spec
+
+  abbrev gen : ℕ
+  gen = j .stock .stamp .generation
+
   -- a cut
   made-good : (u : Cut) → HeldCut u → isArc (cleanCut u) ≡ false → cutGood (cleanCut u) ≡ true
-      → madeCut (j .spec) own (j .generation) u fullRoom ≡ demand (ltb (j .generation) lastGeneration) 12 (answers (record { cells = putAll own (changesTo (actCell (cutterAct (j .spec) (single u))) own (j .cells)); generation = j .generation + 1 }))
-  unfolding madeCut toolGood previewTool
+      → madeCut (j .stock) own u fullRoom ≡ demand (ltb gen lastGeneration) 12 (answers (record { cells = putAll own (changesTo (actCell (cutterAct spec (single u))) own (j .cells)); generation = gen + 1 }))
+  unfolding toolGood previewTool
   made-good u hu ha hg =
       let good : cutterGood (single u) ≡ true = rw (ha, hg) in
-      let s = tool-sound (j .spec) (j .cells) (r .held) (r .good .count) (single u) hu good in
-      let e = good-accepted (j .spec) (j .cells) (single u) own fullRoom (good-stock (r .good)) (r .few) good in
-      ap (λ (p : Paper (List TurnChange)). onward p (λ l. commitOf (j .spec) own (j .generation) l)) e
+      let s = tool-sound spec (j .cells) (r .held) (r .good .count) (single u) hu good in
+      let e = good-accepted spec (j .cells) (single u) own fullRoom (good-stock (r .good)) (r .few) good in
+      made-own (j .stock) own u fullRoom
+      ∙ ap (λ (p : Paper (List TurnChange)). onward p (λ l. ownCommit spec own gen l)) e
       ∙ onward-answers _ _
-      ∙ commit-is (r .good) (actCell (cutterAct (j .spec) (single u))) (act-cuts (r .good) (cutterAct (j .spec) (single u)) (s .plain)) (j .generation)
+      ∙ commit-is (r .good) (actCell (cutterAct spec (single u))) (act-cuts (r .good) (cutterAct spec (single u)) (s .plain)) gen
 
-  made-bad : (u : Cut) → isArc (cleanCut u) ≡ false → cutGood (cleanCut u) ≡ false → madeCut (j .spec) own (j .generation) u fullRoom ≡ refuses (only 5)
+  made-bad : (u : Cut) → isArc (cleanCut u) ≡ false → cutGood (cleanCut u) ≡ false → madeCut (j .stock) own u fullRoom ≡ refuses (only 5)
   unfolding madeCut previewCut
   made-bad u ha hg = simp (papers, good-stock (r .good), ha, hg)
 
-  goes-cut : (u : Cut) → HeldCut u → isArc (cleanCut u) ≡ false → Goes (j .generation) (cutLine j u fullRoom cs rs)
+  goes-cut : (u : Cut) → HeldCut u → isArc (cleanCut u) ≡ false → Goes gen (cutLine j u fullRoom cs rs)
   unfolding cutLine toolGood
-  goes-cut u hu ha = by (cutGood (cleanCut u)) refl (ltb (j .generation) lastGeneration) refl
+  goes-cut u hu ha = by (cutGood (cleanCut u)) refl (ltb gen lastGeneration) refl
     where
       after : Committed → Paper Stand
-      after k = answers (stand (record { spec = j .spec; cells = j .cells; rings = j .rings; generation = k .generation }) (over (k .cells) cs) rs)
+      after k = answers (stand (record { stock = stockWith (j .stock) (j .stock .rings) (k .generation); cells = j .cells }) (over (k .cells) cs) rs)
 
-      by : (t : Bool) → cutGood (cleanCut u) ≡ t → (v : Bool) → ltb (j .generation) lastGeneration ≡ v → Goes (j .generation) (onward (madeCut (j .spec) own (j .generation) u fullRoom) after)
-      by false e v f = subst (λ (p : Paper Committed). Goes (j .generation) (onward p after)) (sym (made-bad u ha e)) (subst (Goes (j .generation)) (sym (onward-refuses (only 5) after)) (off (numbered cut-outside)))
+      by : (t : Bool) → cutGood (cleanCut u) ≡ t → (v : Bool) → ltb gen lastGeneration ≡ v → Goes gen (onward (madeCut (j .stock) own u fullRoom) after)
+      by false e v f = subst (λ (p : Paper Committed). Goes gen (onward p after)) (sym (made-bad u ha e)) (subst (Goes gen) (sym (onward-refuses (only 5) after)) (off (numbered cut-outside)))
       by true e false f =
-          subst (λ (p : Paper Committed). Goes (j .generation) (onward p after)) (sym (made-good u hu ha e ∙ demand-false _ _ _ f))
-          (subst (Goes (j .generation)) (sym (onward-refuses (only 12) after)) (off (numbered (spent (ltb-false _ _ f)))))
+          subst (λ (p : Paper Committed). Goes gen (onward p after)) (sym (made-good u hu ha e ∙ demand-false _ _ _ f))
+          (subst (Goes gen) (sym (onward-refuses (only 12) after)) (off (numbered (spent (ltb-false _ _ f)))))
       by true e true f =
-          let s = tool-sound (j .spec) (j .cells) (r .held) (r .good .count) (single u) hu (rw (ha, e) refl) in
-          let act = cutterAct (j .spec) (single u) in
+          let s = tool-sound spec (j .cells) (r .held) (r .good .count) (single u) hu (rw (ha, e) refl) in
+          let act = cutterAct spec (single u) in
           let g' = put-good (r .good) (actCell act) (act-cuts (r .good) act (s .plain)) in
           let new : List Float = putAll own (changesTo (actCell act) own (j .cells)) in
-          subst (λ (p : Paper Committed). Goes (j .generation) (onward p after)) (sym (made-good u hu ha e ∙ demand-true _ _ _ f))
-          (subst (Goes (j .generation)) (sym (onward-answers (record { cells = new; generation = j .generation + 1 }) after))
+          subst (λ (p : Paper Committed). Goes gen (onward p after)) (sym (made-good u hu ha e ∙ demand-true _ _ _ f))
+          (subst (Goes gen) (sym (onward-answers (record { cells = new; generation = gen + 1 }) after))
           (on (running (record {
             held = r .held;
-            good = subst (Good (j .spec) (j .cells)) (sym (over-front (4 * j .cells) new cs (g' .long))) g';
+            good = subst (Good spec (j .cells)) (sym (over-front (4 * j .cells) new cs (g' .long))) g';
             few = r .few;
             stored = r .stored;
           })) (over-long new cs (omega (arith, g' .long, r .few, long)) ∙ long)))
 
   -- a ring
-  ring-only : (q : Ring) → finiteRing q ≡ true → Only (j .generation) (removeRing (j .spec) rs (j .rings) (j .generation) q)
+  ring-only : (q : Ring) → finiteRing q ≡ true → Only gen (removeRing spec rs (j .stock .rings) gen q)
   unfolding removeRing removeIn storedNext added
   ring-only q h =
       simp (papers, r .good .count, r .stored, h)
-      (either (Only (j .generation)) _ _ _ (only-demand (j .generation) _ 12 _ (λ f. spent (ltb-false _ _ f)) (go (roomFor _ _ _) _)) accepted)
+      (either (Only gen) _ _ _ (only-demand gen _ 12 _ (λ f. spent (ltb-false _ _ f)) (go (roomFor _ _ _) _)) accepted)
     where
       store : List Ring → RingStore
-      store l = record { rings = l; generation = j .generation + 1 }
+      store l = record { rings = l; generation = gen + 1 }
 
-      go : (t : Bool) (l : List Ring) → Only (j .generation) (onward (demand t 11 (answers l)) (λ k. answers (store k)))
+      go : (t : Bool) (l : List Ring) → Only gen (onward (demand t 11 (answers l)) (λ k. answers (store k)))
       go true l = simp papers accepted
       go false l = simp papers (refused (numbered rings-over))
 
-  goes-ring : (q : Ring) → finiteRing q ≡ true → Goes (j .generation) (removingLine j q cs rs)
+  goes-ring : (q : Ring) → finiteRing q ≡ true → Goes gen (removingLine j q cs rs)
   unfolding removingLine
-  goes-ring q h = go (removeRing (j .spec) rs (j .rings) (j .generation) q) refl
+  goes-ring q h = go (removeRing spec rs (j .stock .rings) gen q) refl
     where
       after : RingStore → Paper Stand
-      after s = answers (stand (record { spec = j .spec; cells = j .cells; rings = length (s .rings); generation = s .generation }) cs (storeAs rs (s .rings)))
+      after s = answers (stand (record { stock = stockWith (j .stock) (length (s .rings)) (s .generation); cells = j .cells }) cs (storeAs rs (s .rings)))
 
-      go : (p : Paper RingStore) → removeRing (j .spec) rs (j .rings) (j .generation) q ≡ p → Goes (j .generation) (onward p after)
-      go (refuses m) e = subst (Goes (j .generation)) (sym (onward-refuses m after)) (off (only-number (ring-only q h) e))
+      go : (p : Paper RingStore) → removeRing spec rs (j .stock .rings) gen q ≡ p → Goes gen (onward p after)
+      go (refuses m) e = subst (Goes gen) (sym (onward-refuses m after)) (off (only-number (ring-only q h) e))
       go (answers s) e =
-          subst (Goes (j .generation)) (sym (onward-answers s after))
-          (on (running (record { held = r .held; good = r .good; few = r .few; stored = ring-passes (j .spec) rs (j .rings) (j .generation) q s e })) long)
+          subst (Goes gen) (sym (onward-answers s after))
+          (on (running (record { held = r .held; good = r .good; few = r .few; stored = ring-passes spec rs (j .stock .rings) gen q s e })) long)
 
 -- ---- a line
 
@@ -341,15 +350,15 @@ unfolding demand
 goes-demand g true n p k h = h
 goes-demand g false n p k h = off (numbered k)
 
-goes-first : (g : ℕ) (l : Line) (cs rs : List Float) → Says l → length cs ≡ 4 * maxCells → Goes g (firstLine l cs rs)
+goes-first : (g edition : ℕ) (l : Line) (cs rs : List Float) → Says l → length cs ≡ 4 * maxCells → Goes g (firstLine edition l cs rs)
 unfolding firstLine
-goes-first g (line.Bar spec) cs rs s long = goes-bar g spec cs rs (s .0) (s .1) long
-goes-first g (line.Cutting u) cs rs s long = off (numbered malformed)
-goes-first g (line.Removing q) cs rs s long = off (numbered malformed)
-goes-first g line.Arc cs rs s long = off (numbered malformed)
-goes-first g line.Bad cs rs s long = off (numbered malformed)
+goes-first g edition (line.Bar spec) cs rs s long = goes-bar g edition spec cs rs (s .0) (s .1) long
+goes-first g edition (line.Cutting u) cs rs s long = off (numbered malformed)
+goes-first g edition (line.Removing q) cs rs s long = off (numbered malformed)
+goes-first g edition line.Arc cs rs s long = off (numbered malformed)
+goes-first g edition line.Bad cs rs s long = off (numbered malformed)
 
-goes-later : (j : Job) (l : Line) (cs rs : List Float) → Says l → Running j cs rs → length cs ≡ 4 * maxCells → Goes (j .generation) (laterLine j l fullRoom cs rs)
+goes-later : (j : Job) (l : Line) (cs rs : List Float) → Says l → Running j cs rs → length cs ≡ 4 * maxCells → Goes (j .stock .stamp .generation) (laterLine j l fullRoom cs rs)
 unfolding laterLine
 goes-later j (line.Bar spec) cs rs s r long = off (numbered malformed)
 goes-later j (line.Cutting u) cs rs s r long = goes-cut j cs rs r long u (s .0) (s .1)
@@ -357,12 +366,12 @@ goes-later j (line.Removing q) cs rs s r long = goes-ring j cs rs r long q s
 goes-later j line.Arc cs rs s r long = off (numbered an-arc)
 goes-later j line.Bad cs rs s r long = off (numbered malformed)
 
-goes-line : (j : Job) (s : List ℕ) (cs rs : List Float) → Fitting j cs rs → length cs ≡ 4 * maxCells → Goes (j .generation) (jobLine j s fullRoom cs rs)
+goes-line : (j : Job) (s : List ℕ) (cs rs : List Float) → Fitting j cs rs → length cs ≡ 4 * maxCells → Goes (j .stock .stamp .generation) (jobLine j s fullRoom cs rs)
 unfolding jobLine
-goes-line j s cs rs h long = goes-demand (j .generation) _ 15 _ malformed (by (eqb (j .cells) 0) refl h)
+goes-line j s cs rs h long = goes-demand (j .stock .stamp .generation) _ 15 _ malformed (by (eqb (j .cells) 0) refl h)
   where
-    by : (t : Bool) → eqb (j .cells) 0 ≡ t → Fitting j cs rs → Goes (j .generation) (pick (eqb (j .cells) 0) (firstLine (lineOf s) cs rs) (laterLine j (lineOf s) fullRoom cs rs))
-    by true e k = simp (e, yes) (goes-first (j .generation) (lineOf s) cs rs (line-says s) long)
+    by : (t : Bool) → eqb (j .cells) 0 ≡ t → Fitting j cs rs → Goes (j .stock .stamp .generation) (pick (eqb (j .cells) 0) (firstLine (j .stock .stamp .edition) (lineOf s) cs rs) (laterLine j (lineOf s) fullRoom cs rs))
+    by true e k = simp (e, yes) (goes-first (j .stock .stamp .generation) (j .stock .stamp .edition) (lineOf s) cs rs (line-says s) long)
     by false e (barless z) = absurd (eqb-false _ _ e z)
     by false e (running r) = simp (e, no) (goes-later j (lineOf s) cs rs (line-says s) r long)
 
@@ -398,9 +407,9 @@ job-has-no-place j s cs rs h long k e =
 pub record Numbered (st : State) : Type 0 where
   pub long : length (st .cells) ≡ 4 * maxCells
   pub fitting : Fitting (st .run .job) (st .cells) (st .rings)
-  pub number : (st .run .refused ≡ 0) ⊎ JobNumber (st .run .job .generation) (st .run .refused)
+  pub number : (st .run .refused ≡ 0) ⊎ JobNumber (st .run .job .stock .stamp .generation) (st .run .refused)
 
-numbered-answered : (st : State) (p : Paper Stand) → Numbered st → Goes (st .run .job .generation) p → Numbered (answered st p)
+numbered-answered : (st : State) (p : Paper Stand) → Numbered st → Goes (st .run .job .stock .stamp .generation) p → Numbered (answered st p)
 unfolding answered refusedWith
 numbered-answered st p h (on f l) = record { long = l; fitting = f; number = inl refl }
 numbered-answered st p h (off k) = record { long = h .long; fitting = h .fitting; number = inr (k .number) }
@@ -422,15 +431,28 @@ record Both (a b : State) : Type 0 where
   holds : Numbered a
 
 -- THE NUMBERS OF A JOB, from before its first byte on: of every file, and by `calls-however-cut` of every run of the calls.
-pub job-numbers : (cs rs : List Float) (s : List ℕ) → length cs ≡ 4 * maxCells → Numbered (jobOf (state freshRun cs rs) s)
-job-numbers cs rs s long =
+pub job-numbers : (edition : ℕ) (cs rs : List Float) (s : List ℕ) → length cs ≡ 4 * maxCells → Numbered (jobOf (state (freshRun edition) cs rs) s)
+job-numbers edition cs rs s long =
     alike-file stopped onLine onLong onEnd Both
     (λ a b h. ap stopped (h .same))
     (λ a b l h. record { same = ap (λ (x : State). onLine x l) (h .same); holds = numbered-line a l (h .holds) })
     (λ a b h. record { same = ap onLong (h .same); holds = numbered-long a (h .holds) })
     (λ a b h. record { same = ap onEnd (h .same); holds = numbered-end a (h .holds) })
     (piecesOf s)
-    (state freshRun cs rs)
-    (state freshRun cs rs)
+    (state (freshRun edition) cs rs)
+    (state (freshRun edition) cs rs)
     (record { same = refl; holds = record { long = long; fitting = barless refl; number = inl refl } })
     .holds
+
+-- 19 IS NONE OF THEM: no file is refused for a list of another stamp.
+not-stale : {g n : ℕ} → JobNumber g n → n ≡ 19 → ⊥
+not-stale bar-outside e = omega arith
+not-stale cells-over e = omega arith
+not-stale cut-outside e = omega arith
+not-stale rings-over e = omega arith
+not-stale (spent h) e = omega arith
+not-stale an-arc e = omega arith
+not-stale malformed e = omega arith
+
+pub job-not-stale : (edition : ℕ) (cs rs : List Float) (s : List ℕ) → length cs ≡ 4 * maxCells → jobOf (state (freshRun edition) cs rs) s .run .refused ≡ 19 → ⊥
+job-not-stale edition cs rs s long e = ⊎-elim (λ z. omega (arith, z, e)) (λ k. not-stale k e) (job-numbers edition cs rs s long .number)

@@ -22,9 +22,10 @@ use Rattle.stock.specs.declared.TurnStockSpec.{TurnStockSpec}
 use Rattle.stock.specs.declared.TurnChange.{TurnChange}
 use Rattle.stock.specs.declared.TurnSide.{TurnSide}
 use Rattle.stock.specs.Cell.{stockOf}
+use Rattle.stock.specs.Stock.{stockWith}
 use Rattle.stock.proofs.Count.{demanded, no-answer, same-answer}
 use Rattle.stock.proofs.Bins.{HeldSpec, HeldList}
-use Rattle.changes.specs.Commit.{Committed, putAll, commitIn, commitOf}
+use Rattle.changes.specs.Commit.{Committed, putAll, commitIn, ownCommit}
 use Rattle.cuts.specs.declared.Cut.{Cut}
 use Rattle.cuts.specs.Preview.{previewCut}
 use Rattle.cuts.specs.Tool.{previewTool}
@@ -40,6 +41,7 @@ use Rattle.job_words.specs.Number.{positive, negative, fieldNumber}
 use Rattle.job_words.specs.Kind.{mmOf, at, numbers, barOf, noseOn, noseOf, threadOf, threadInnerOf, drillOf, ringOf, kindOf, lineOf, fieldsOf}
 use Rattle.job_run.specs.declared.line.Job.{Job}
 use Rattle.job_run.specs.Job.{Stand, stand, lineLimit, fullRoom, cellsOfJob, madeCut, cutLine, firstLine, laterLine, jobLine}
+use Rattle.job_run.proofs.Made.{made-own}
 use Rattle.lines.specs.File.{piecesOf}
 use Rattle.job_run.specs.Run as run
 use Rattle.job_run.specs.Run.{State, next, outputOf, jobOf}
@@ -131,8 +133,8 @@ module _ (a : ℕ) (xs cs : List Float) (e : length xs ≡ length (take a cs)) w
           ap (drop a) (over-all xs cs k) ∙ drop-of-length-le xs {i = a} (omega arith) ∙ sym (drop-of-length-le cs {i = a} (omega arith))
 
 -- a commit leaves as many numbers
-pub commit-long : (spec : TurnStockSpec) (cs : List Float) (gen : ℕ) (l : List TurnChange) (k : Committed) → commitOf spec cs gen l ≡ answers k → length (k .cells) ≡ length cs
-unfolding commitOf commitIn
+pub commit-long : (spec : TurnStockSpec) (cs : List Float) (gen : ℕ) (l : List TurnChange) (k : Committed) → ownCommit spec cs gen l ≡ answers k → length (k .cells) ≡ length cs
+unfolding ownCommit commitIn
 commit-long spec cs gen l k h =
     let s = answered (stockOf spec cs) _ k h in
     let p = answered _ _ _ (s .then) in
@@ -146,19 +148,20 @@ commit-long spec cs gen l k h =
 pub record CutMade (st : State) (l : List ℕ) (s : Stand) : Type 0 where
   pub changes : List TurnChange
   pub left : Committed
-  pub preview : cutterPreview (st .run .job .spec) (lineCutter l) (ownOf st .cells) fullRoom ≡ answers changes
-  pub commit : commitOf (st .run .job .spec) (ownOf st .cells) (ownOf st .generation) changes ≡ answers left
-  pub stood : s ≡ stand (record { spec = st .run .job .spec; cells = st .run .job .cells; rings = st .run .job .rings; generation = left .generation }) (over (left .cells) (st .cells)) (st .rings)
+  pub preview : cutterPreview (st .run .job .stock .spec) (lineCutter l) (ownOf st .cells) fullRoom ≡ answers changes
+  pub commit : ownCommit (st .run .job .stock .spec) (ownOf st .cells) (ownOf st .generation) changes ≡ answers left
+  pub stood : s ≡ stand (record { stock = stockWith (st .run .job .stock) (st .run .job .stock .rings) (left .generation); cells = st .run .job .cells }) (over (left .cells) (st .cells)) (st .rings)
 
 pub cut-made : (st : State) (l : List ℕ) (s : Stand) → IsCut l → eqb (st .run .job .cells) 0 ≡ false → lineIn st l ≡ answers s → CutMade st l s
-unfolding jobLine laterLine cutLine madeCut previewTool
+unfolding jobLine laterLine cutLine previewTool
 cut-made st l s c b e =
     let j = st .run .job in
     let u = cutIn (lineOf l) in
     let d = demanded _ _ _ _ e .1 in
     let f : cutLine j u fullRoom (st .cells) (st .rings) ≡ answers s = ap (λ (x : Line). laterLine j x fullRoom (st .cells) (st .rings)) (sym c) ∙ sym (pick-false _ _ _ b) ∙ d in
-    let m = answered (madeCut (j .spec) (cellsOfJob j (st .cells)) (j .generation) u fullRoom) _ s f in
-    let p = answered (previewCut (j .spec) (cellsOfJob j (st .cells)) u fullRoom) _ (m .value) (m .first) in
+    let own = cellsOfJob j (st .cells) in
+    let m = answered (madeCut (j .stock) own u fullRoom) _ s f in
+    let p = answered (previewCut (j .stock .spec) own u fullRoom) _ (m .value) (sym (made-own (j .stock) own u fullRoom) ∙ m .first) in
     record { changes = p .value; left = m .value; preview = p .first; commit = p .then; stood = sym (same-answer (m .then)) }
 
 -- a cut is carried out after the bar alone
@@ -168,7 +171,7 @@ cut-later st l s c e = by (eqb (st .run .job .cells) 0) refl
   where
     by : (t : Bool) → eqb (st .run .job .cells) 0 ≡ t → t ≡ false
     by false b = refl
-    by true b = absurd (no-answer (only 15) s (ap (λ (x : Line). firstLine x (st .cells) (st .rings)) (sym c) ∙ sym (pick-true _ _ _ b) ∙ demanded _ _ _ _ e .1))
+    by true b = absurd (no-answer (only 15) s (ap (λ (x : Line). firstLine (st .run .job .stock .stamp .edition) x (st .cells) (st .rings)) (sym c) ∙ sym (pick-true _ _ _ b) ∙ demanded _ _ _ _ e .1))
 
 -- ---- lines that are cuts
 
@@ -179,8 +182,8 @@ linesAfter (suc k) n = linesAfter k ((n + 1) % 2 ^ 64)
 
 -- Lines that are cuts: a run of calls over the job's own cells. All else is as it was, but for the number of lines.
 record CutsMade (st : State) (ls : List (List ℕ)) (m : State) : Type 0 where
-  ran : Ran (st .run .job .spec) (ownOf st) (map lineCutter ls) (ownOf m)
-  job : m .run .job ≡ record { spec = st .run .job .spec; cells = st .run .job .cells; rings = st .run .job .rings; generation = ownOf m .generation }
+  ran : Ran (st .run .job .stock .spec) (st .run .job .stock .stamp .edition) (st .run .job .stock .rings) (ownOf st) (map lineCutter ls) (ownOf m)
+  job : m .run .job ≡ record { stock = stockWith (st .run .job .stock) (st .run .job .stock .rings) (ownOf m .generation); cells = st .run .job .cells }
   lines : m .run .lines ≡ linesAfter (length ls) (st .run .lines)
   refused : m .run .refused ≡ 0
   cells : drop (4 * st .run .job .cells) (m .cells) ≡ drop (4 * st .run .job .cells) (st .cells)
@@ -190,7 +193,7 @@ record CutsMade (st : State) (ls : List (List ℕ)) (m : State) : Type 0 where
 abbrev afterCut : State → Committed → State
 afterCut st k =
     run.state
-    (record { job = record { spec = st .run .job .spec; cells = st .run .job .cells; rings = st .run .job .rings; generation = k .generation }; lines = next (st .run); refused = 0 })
+    (record { job = record { stock = stockWith (st .run .job .stock) (st .run .job .stock .rings) (k .generation); cells = st .run .job .cells }; lines = next (st .run); refused = 0 })
     (over (k .cells) (st .cells))
     (st .rings)
 
@@ -200,10 +203,10 @@ unfolding linesAfter
 cut-more st m l ls s c w =
     let a = 4 * st .run .job .cells in
     let k = c .left in
-    let long = commit-long (st .run .job .spec) (ownOf st .cells) (ownOf st .generation) (c .changes) k (c .commit) in
+    let long = commit-long (st .run .job .stock .spec) (ownOf st .cells) (ownOf st .generation) (c .changes) k (c .commit) in
     let f : ownOf (afterCut st k) ≡ k = λ i. record { cells = front-is a (k .cells) (st .cells) long i; generation = k .generation } in
     record {
-      ran = rule-ran fullRoom (c .changes) k (c .preview) (c .commit) (subst (λ (x : Committed). Ran (st .run .job .spec) x (map lineCutter ls) (ownOf m)) f (w .ran));
+      ran = rule-ran fullRoom (c .changes) k (c .preview) (c .commit) (subst (λ (x : Committed). Ran (st .run .job .stock .spec) (st .run .job .stock .stamp .edition) (st .run .job .stock .rings) x (map lineCutter ls) (ownOf m)) f (w .ran));
       job = w .job;
       lines = w .lines;
       refused = w .refused;
@@ -222,16 +225,16 @@ cuts-made (l ∷ ls) st m g b cs e =
 
 -- ---- two orders
 
-module _ (st m m' : State) (ls ls' : List (List ℕ)) (d : List·Permᴰ ls ls') (hs : HeldSpec (st .run .job .spec)) (hc : HeldList (ownOf st .cells)) (σ : TurnSide) (os : ToolsOf (st .run .job .spec) σ (map lineCutter ls)) (c : CutsMade st ls m) (c' : CutsMade st ls' m') where
+module _ (st m m' : State) (ls ls' : List (List ℕ)) (d : List·Permᴰ ls ls') (hs : HeldSpec (st .run .job .stock .spec)) (hc : HeldList (ownOf st .cells)) (σ : TurnSide) (os : ToolsOf (st .run .job .stock .spec) σ (map lineCutter ls)) (c : CutsMade st ls m) (c' : CutsMade st ls' m') where
   -- the job's own cells stand first, and the rest is as it was
   cells-are : (x : State) (n : ℕ) → x .run .job .cells ≡ n → x .cells ≡ ownOf x .cells ++ drop (4 * n) (x .cells)
   cells-are x n e = sym (take-append-drop (4 * n) (x .cells)) ∙ ap (λ (k : ℕ). take (4 * k) (x .cells) ++ drop (4 * n) (x .cells)) (sym e)
 
-  same-states : (n : ℕ) → stockOf (st .run .job .spec) (ownOf st .cells) ≡ answers n → m ≡ m'
+  same-states : (n : ℕ) → stockOf (st .run .job .stock .spec) (ownOf st .cells) ≡ answers n → m ≡ m'
   same-states n e =
       let own = run-any-order hs hc e (lines-held ls) (c .ran) (Permᴰ·map lineCutter d) (c' .ran) σ os in
       let a = st .run .job .cells in
-      let job = c .job ∙ ap (λ (k : Committed). record { spec = st .run .job .spec; cells = a; rings = st .run .job .rings; generation = k .generation }) own ∙ sym (c' .job) in
+      let job = c .job ∙ ap (λ (k : Committed). record { stock = stockWith (st .run .job .stock) (st .run .job .stock .rings) (k .generation); cells = a }) own ∙ sym (c' .job) in
       let lines = c .lines ∙ ap (λ (k : ℕ). linesAfter k (st .run .lines)) (perm-length d) ∙ sym (c' .lines) in
       let refused = c .refused ∙ sym (c' .refused) in
       let cells =
@@ -246,15 +249,15 @@ no-lines [] e = refl
 no-lines (x ∷ l) e = absurd (omega arith)
 
 -- LINES THAT ARE CUTS OF ONE SIDE, IN ANY ORDER, all of them carried out, leave the same run: job, cells, rings and number of lines. The numbers in lent memory are values of f64.
-pub cuts-any-order : (st m m' : State) (ls ls' : List (List ℕ)) → List·Permᴰ ls ls' → st .run .refused ≡ 0 → HeldSpec (st .run .job .spec) → HeldList (ownOf st .cells) → Each IsCut ls
-    → (σ : TurnSide) → ToolsOf (st .run .job .spec) σ (map lineCutter ls) → linesOn st ls ≡ answers m → linesOn st ls' ≡ answers m' → m ≡ m'
+pub cuts-any-order : (st m m' : State) (ls ls' : List (List ℕ)) → List·Permᴰ ls ls' → st .run .refused ≡ 0 → HeldSpec (st .run .job .stock .spec) → HeldList (ownOf st .cells) → Each IsCut ls
+    → (σ : TurnSide) → ToolsOf (st .run .job .stock .spec) σ (map lineCutter ls) → linesOn st ls ≡ answers m → linesOn st ls' ≡ answers m' → m ≡ m'
 unfolding linesOn
 cuts-any-order st m m' [] ls' d g hs hc cs σ os e e' = same-answer (sym e ∙ ap (linesOn st) (sym (no-lines ls' (perm-length d))) ∙ e')
 cuts-any-order st m m' (l ∷ ls) ls' d g hs hc cs σ os e e' =
     let a = answered (lineIn st l) _ m e in
     let b = cut-later st l (a .value) (cs .0) (a .first) in
     let c = cut-made st l (a .value) (cs .0) b (a .first) in
-    let s = preview-is (st .run .job .spec) (lineCutter l) (ownOf st .cells) fullRoom (c .changes) (c .preview) in
+    let s = preview-is (st .run .job .stock .spec) (lineCutter l) (ownOf st .cells) fullRoom (c .changes) (c .preview) in
     same-states st m m' (l ∷ ls) ls' d hs hc σ os (cuts-made (l ∷ ls) st m g b cs e) (cuts-made ls' st m' g b (each-perm IsCut d cs) e') (s .0) (s .1)
 
 -- ---- a whole job
@@ -277,7 +280,7 @@ lines-behind ks bs st m end e f = sym (onward-answers m (λ x. linesOn x bs)) �
 -- THE DEMAND: two jobs that differ in the order of lines one after the other that are cuts of one side, neither of them refused, write the same bytes. `reached` is the run where those lines begin.
 module _ (st reached : State) (before ls ls' after : List (List ℕ)) (s s' : List ℕ) (end end' : State) (o : NoneOffends st (piecesOf s) end) (o' : NoneOffends st (piecesOf s') end')
     (e : o .lines ≡ before ++ (ls ++ after)) (e' : o' .lines ≡ before ++ (ls' ++ after)) (d : List·Permᴰ ls ls') (g : st .run .refused ≡ 0) (b : linesOn st before ≡ answers reached) where
-  pub job-any-order : reached .run .refused ≡ 0 → HeldSpec (reached .run .job .spec) → HeldList (ownOf reached .cells) → Each IsCut ls → (σ : TurnSide) → ToolsOf (reached .run .job .spec) σ (map lineCutter ls)
+  pub job-any-order : reached .run .refused ≡ 0 → HeldSpec (reached .run .job .stock .spec) → HeldList (ownOf reached .cells) → Each IsCut ls → (σ : TurnSide) → ToolsOf (reached .run .job .stock .spec) σ (map lineCutter ls)
       → outputOf (jobOf st s) ≡ outputOf (jobOf st s')
   job-any-order r hs hc cs σ os =
       let f = lines-behind before (ls ++ after) st reached end b (ap (linesOn st) (sym e) ∙ o .carried) in

@@ -14,6 +14,7 @@ use Rattle.refusals.specs.Lent.{over}
 use Rattle.refusals.specs.Paper.{Paper, Reason, answers, refuses, onward}
 use Rattle.stock.specs.declared.TurnStockSpec.{TurnStockSpec}
 use Rattle.stock.specs.declared.TurnStock.{TurnStock}
+use Rattle.stock.specs.declared.Stamp.{Stamp}
 use Rattle.stock.specs.declared.TurnChange.{TurnChange}
 use Rattle.stock.specs.declared.Counted.the-variants as counted
 use Rattle.stock.specs.declared.Made.the-variants as made
@@ -23,9 +24,9 @@ use Rattle.stock.proofs.Count.{no-answer}
 use Rattle.blocks.specs.Renew.{renewOf, blocksAfter, Renewed}
 use Rattle.changes.specs.declared.Previewed.{Previewed}
 use Rattle.changes.specs.declared.Previewed.the-variants as previewed
-use Rattle.changes.specs.Change.{previewedPaper, countOf, numbersOf, Proposed}
+use Rattle.changes.specs.Change.{previewedPaper, countOf, numbersOf, Proposed, stamped}
 use Rattle.changes.specs.declared.Applied.{Applied}
-use Rattle.changes.specs.Commit.{Committed, appliedPaper, generationOf, Applies}
+use Rattle.changes.specs.Commit.{Committed, appliedPaper, generationOf, Applies, stockAt}
 use Rattle.rings.specs.declared.Ring.{Ring}
 use Rattle.rings.specs.declared.StoredAs.{StoredAs}
 use Rattle.rings.specs.declared.Removed.{Removed}
@@ -51,48 +52,48 @@ use Rattle.demands.proofs.Asking.{refusalOf, placeless, same-number, ex
 -- ---- previews and the difference: the two lists that changes are written to
 
 -- refused exactly as the rule is
-pub preview-call : {p : Paper (List TurnChange)} {r : Previewed} {is is' : List ℕ} {xs xs' : List Float} {l : List Asked} → Proposed p r is is' xs xs' → Exactly p l → Exactly (previewedPaper r) l
+pub preview-call : {st : Stamp} {p : Paper (List TurnChange)} {r : Previewed} {is is' : List ℕ} {xs xs' : List Float} {l : List Asked} → Proposed st p r is is' xs xs' → Exactly p l → Exactly (previewedPaper r) l
 unfolding refusalOf
-preview-call {p} {r} h x = exactly-as (previewedPaper r) (ap refusalOf (h .answer) ∙ same p) x
+preview-call {st} {p} {r} h x = exactly-as (previewedPaper r) (ap refusalOf (h .answer) ∙ same p) x
   where
-    same : (p : Paper (List TurnChange)) → refusalOf (countOf p) ≡ refusalOf p
+    same : (p : Paper (List TurnChange)) → refusalOf (stamped st (countOf p)) ≡ refusalOf p
     same (answers l) = refl
     same (refuses n) = refl
 
 -- and then both lists are as they were
-pub preview-left : (p : Paper (List TurnChange)) (c : Refusal) (is is' : List ℕ) (xs xs' : List Float) → Proposed p (previewed.Refused c) is is' xs xs' → (p ≡ refuses (reasonOf c)) × (is' ≡ is) × (xs' ≡ xs)
+pub preview-left : (st : Stamp) (p : Paper (List TurnChange)) (c : Refusal) (is is' : List ℕ) (xs xs' : List Float) → Proposed st p (previewed.Refused c) is is' xs xs' → (p ≡ refuses (reasonOf c)) × (is' ≡ is) × (xs' ≡ xs)
 unfolding over numbersOf
-preview-left (answers l) c is is' xs xs' h = absurd (no-answer (reasonOf c) (length l) (h .answer))
-preview-left (refuses n) c is is' xs xs' h = (same-number (h .answer), h .indices, h .numbers)
+preview-left st (answers l) c is is' xs xs' h = absurd (no-answer (reasonOf c) _ (h .answer))
+preview-left st (refuses n) c is is' xs xs' h = (same-number (h .answer), h .indices, h .numbers)
 
 -- ---- a tool's changes into records: the records
 
-pub records-call : {p : Paper (List TurnChange)} {r : Previewed} {rs rs' : List TurnChange} {l : List Asked} → Written p r rs rs' → Exactly p l → Exactly (previewedPaper r) l
+pub records-call : {st : Stamp} {p : Paper (List TurnChange)} {r : Previewed} {rs rs' : List TurnChange} {l : List Asked} → Written st p r rs rs' → Exactly p l → Exactly (previewedPaper r) l
 unfolding refusalOf
-records-call {p} {r} h x = exactly-as (previewedPaper r) (ap refusalOf (h .answer) ∙ same p) x
+records-call {st} {p} {r} h x = exactly-as (previewedPaper r) (ap refusalOf (h .answer) ∙ same p) x
   where
-    same : (p : Paper (List TurnChange)) → refusalOf (countOf p) ≡ refusalOf p
+    same : (p : Paper (List TurnChange)) → refusalOf (stamped st (countOf p)) ≡ refusalOf p
     same (answers l) = refl
     same (refuses n) = refl
 
-pub records-left : (p : Paper (List TurnChange)) (c : Refusal) (rs rs' : List TurnChange) → Written p (previewed.Refused c) rs rs' → (p ≡ refuses (reasonOf c)) × (rs' ≡ rs)
+pub records-left : (st : Stamp) (p : Paper (List TurnChange)) (c : Refusal) (rs rs' : List TurnChange) → Written st p (previewed.Refused c) rs rs' → (p ≡ refuses (reasonOf c)) × (rs' ≡ rs)
 unfolding over
-records-left (answers l) c rs rs' h = absurd (no-answer (reasonOf c) (length l) (h .answer))
-records-left (refuses n) c rs rs' h = (same-number (h .answer), h .records)
+records-left st (answers l) c rs rs' h = absurd (no-answer (reasonOf c) _ (h .answer))
+records-left st (refuses n) c rs rs' h = (same-number (h .answer), h .records)
 
 -- ---- a commit, over flat lists or over records, and `commit_unasked`: the cells
 
-pub commit-call : {p : Paper Committed} {r : Applied} {cs cs' : List Float} {l : List Asked} → Applies p r cs cs' → Exactly p l → Exactly (appliedPaper r) l
+pub commit-call : {k : TurnStock} {p : Paper Committed} {r : Applied} {cs cs' : List Float} {l : List Asked} → Applies k p r cs cs' → Exactly p l → Exactly (appliedPaper r) l
 unfolding refusalOf
-commit-call {p} {r} h x = exactly-as (appliedPaper r) (ap refusalOf (h .answer) ∙ same p) x
+commit-call {k} {p} {r} h x = exactly-as (appliedPaper r) (ap refusalOf (h .answer) ∙ same p) x
   where
-    same : (p : Paper Committed) → refusalOf (generationOf p) ≡ refusalOf p
-    same (answers k) = refl
+    same : (p : Paper Committed) → refusalOf (stockAt k (generationOf p)) ≡ refusalOf p
+    same (answers m) = refl
     same (refuses n) = refl
 
-pub commit-left : (p : Paper Committed) (r : Applied) (n : Reason) (cs cs' : List Float) → appliedPaper r ≡ refuses n → Applies p r cs cs' → (p ≡ refuses n) × (cs' ≡ cs)
-commit-left (answers k) r n cs cs' e h = absurd (no-answer n (k .generation) (sym e ∙ h .answer))
-commit-left (refuses m) r n cs cs' e h = (same-number (sym e ∙ h .answer), h .cells)
+pub commit-left : (k : TurnStock) (p : Paper Committed) (r : Applied) (n : Reason) (cs cs' : List Float) → appliedPaper r ≡ refuses n → Applies k p r cs cs' → (p ≡ refuses n) × (cs' ≡ cs)
+commit-left k (answers m) r n cs cs' e h = absurd (no-answer n _ (sym e ∙ h .answer))
+commit-left k (refuses m) r n cs cs' e h = (same-number (sym e ∙ h .answer), h .cells)
 
 -- ---- one ring: the rings
 
@@ -126,18 +127,18 @@ rings-left (refuses m) r n xs ys e h = (same-number (sym e ∙ h .answer), h .st
 
 -- ---- parts: the rings
 
-pub parts-call : {spec : TurnStockSpec} {p : Paper (List Ring)} {r : Rebuilt} {xs ys : List Float} {l : List Asked} → Rebuilds spec xs p r ys → Exactly p l → Exactly (rebuiltPaper r) l
+pub parts-call : {spec : TurnStockSpec} {edition : ℕ} {p : Paper (List Ring)} {r : Rebuilt} {xs ys : List Float} {l : List Asked} → Rebuilds spec edition xs p r ys → Exactly p l → Exactly (rebuiltPaper r) l
 unfolding refusalOf rings.countOf onward
-parts-call {spec} {p} {r} h x = exactly-as (rebuiltPaper r) (ap refusalOf (h .answer) ∙ same p) x
+parts-call {spec} {edition} {p} {r} h x = exactly-as (rebuiltPaper r) (ap refusalOf (h .answer) ∙ same p) x
   where
-    same : (p : Paper (List Ring)) → refusalOf (stockStored spec (rings.countOf p)) ≡ refusalOf p
+    same : (p : Paper (List Ring)) → refusalOf (stockStored spec edition (rings.countOf p)) ≡ refusalOf p
     same (answers k) = refl
     same (refuses n) = refl
 
-pub parts-left : (spec : TurnStockSpec) (p : Paper (List Ring)) (r : Rebuilt) (n : Reason) (xs ys : List Float) → rebuiltPaper r ≡ refuses n → Rebuilds spec xs p r ys → (p ≡ refuses n) × (ys ≡ xs)
+pub parts-left : (spec : TurnStockSpec) (edition : ℕ) (p : Paper (List Ring)) (r : Rebuilt) (n : Reason) (xs ys : List Float) → rebuiltPaper r ≡ refuses n → Rebuilds spec edition xs p r ys → (p ≡ refuses n) × (ys ≡ xs)
 unfolding rings.countOf onward
-parts-left spec (answers k) r n xs ys e h = absurd (no-answer n _ (sym e ∙ h .answer))
-parts-left spec (refuses m) r n xs ys e h = (same-number (sym e ∙ h .answer), h .store)
+parts-left spec edition (answers k) r n xs ys e h = absurd (no-answer n _ (sym e ∙ h .answer))
+parts-left spec edition (refuses m) r n xs ys e h = (same-number (sym e ∙ h .answer), h .store)
 
 -- ---- a move: the cells and the rings, nothing of either written before all is decided
 
@@ -174,10 +175,10 @@ line-left (refuses n) c cs cs' xs xs' h = (n, refl, ap numberIn (sym (h .answer)
 
 -- ---- a new stock: the numbers that it is to fill
 
-pub fill-left : (spec : TurnStockSpec) (c : Refusal) (cs cs' : List Float) → Filled spec (made.Refused c) cs cs' → (newOf spec (length cs) ≡ refuses (reasonOf c)) × (cs' ≡ cs)
-fill-left spec c cs cs' h = go (newOf spec (length cs)) refl (h .answer) (h .cells)
+pub fill-left : (spec : TurnStockSpec) (edition : ℕ) (c : Refusal) (cs cs' : List Float) → Filled spec edition (made.Refused c) cs cs' → (newOf spec (length cs) ≡ refuses (reasonOf c)) × (cs' ≡ cs)
+fill-left spec edition c cs cs' h = go (newOf spec (length cs)) refl (h .answer) (h .cells)
   where
-    go : (p : Paper ℕ) → newOf spec (length cs) ≡ p → refuses (reasonOf c) ≡ stockMade spec p → cs' ≡ newCells spec p cs → (newOf spec (length cs) ≡ refuses (reasonOf c)) × (cs' ≡ cs)
+    go : (p : Paper ℕ) → newOf spec (length cs) ≡ p → refuses (reasonOf c) ≡ stockMade spec edition p → cs' ≡ newCells spec p cs → (newOf spec (length cs) ≡ refuses (reasonOf c)) × (cs' ≡ cs)
     go (answers n) e b d = absurd (no-answer (reasonOf c) _ b)
     go (refuses n) e b d = (e ∙ same-number b, d)
 

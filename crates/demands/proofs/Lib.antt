@@ -30,6 +30,7 @@ pub mod Inserts
 pub mod InsertFinite
 pub mod InsertExample
 pub mod Which
+pub mod Stale
 pub mod FileRings
 pub mod FileRoom
 pub mod Files

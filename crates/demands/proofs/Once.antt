@@ -6,7 +6,7 @@
 --   refusals  number
 --   floats    least, greatest, abs, clean, is_minus_zero, is_usable
 --   numbers   whole_part, lesser, greater
---   stock     clean_spec, bin_of, cell_at, put_cell, cell_fits, same_cell
+--   stock     clean_spec, bin_of, cell_at, put_cell, cell_fits, same_cell, same_stamp, stock_with
 --   reach     flip, cut_cell
 --   nose      segment_at, segments_good, track_of, alike
 --   polygon   polygon_good, index_range
@@ -15,7 +15,7 @@
 --   queries   bins_at
 --   blocks    blocks_in, matches, renew_all, clear, renew_block, renew_changed
 --   envelope  within, of the numbers of the part that is lent back; number_of
---   text      part, front, of the bytes that are lent back; part_count, same, read_whole, read_hex, float
+--   text      part, front, of the bytes that are lent back; part_count, same, read_whole, read_hex, read_eight, float
 --   job_words read_line, read_number
 --   job_run   fresh, resumed, finish
 --   stock_lines refuse
@@ -38,8 +38,8 @@
 -- a record of equations: the answer and each lent buffer
 --   stock     fill (filled-once)
 --   polygon   swept_in (swept-once)
---   cuts      preview_tool, preview_cut, preview, preview_polygon, thread_cut, thread_cut_inner, drill (Proposals.once of changes)
---   changes   list_change (listed-once), apply, commit_unasked (applied-once), changes_to (Proposals.once of changes)
+--   cuts      preview_tool, preview_cut, preview, preview_polygon, thread_cut, thread_cut_inner, drill (Proposals.proposed-once of changes)
+--   changes   list_change (listed-once), apply, commit_unasked (applied-once), changes_to (Proposals.proposed-once of changes); list_of (Proposals.same-previewed of changes)
 --   change_slices apply, read_changes, propose (Once of change_slices), apply_move (Once.moved-once of moves)
 --   rings     remove_ring (removed-once), remove_rings (Once.stored-once of moves), left_of (left-of-once)
 --   moves     apply_move (Once.moved-once of moves), from_parts (Once.rebuilt-once of moves)
@@ -47,7 +47,7 @@
 --   envelope  span_over (span-over-once), highest (highest-once)
 --   envelope  held::Envelope: new (new-once), order (order-once), within (within-once, of the numbers), radius_at (radius-at-once), radius_range (radius-range-once)
 --   profile   segments (Laws.segments-once of profile)
---   text      put, put_digits, put_decimal, put_hex, put_four (put-once), ring_line (wrote-once)
+--   text      put, put_digits, put_decimal, put_hex, put_four, put_eight (put-once), ring_line (wrote-once)
 --   job_answer cell_line, gen_line, refused_line, answer_line (wrote-once)
 --   job_run   carry_out (Carrying.once of job_run; its two lists by the equations of `ChangesOver`), take_part (taken-once), output_line (wrote-once)
 --   stock_lines take_line (Readings.line-once of stock_lines), stock_line, kept_cell_line, end_line (wrote-once)
@@ -115,7 +115,7 @@ use Rattle.reach.specs.declared.Reach.the-variants as reach-case
 use Rattle.reach.specs.declared.Swept.{Swept}
 use Rattle.reach.specs.Low.{lowPaper, Found, sweptPaper}
 use Rattle.reach.specs.Reach.{reachPaper}
-use Rattle.changes.specs.Change.{Listed}
+use Rattle.changes.specs.Change.{ListedOne}
 use Rattle.queries.specs.declared.Seen.{Seen}
 use Rattle.queries.proofs.Outcomes.{same-seen}
 use Rattle.blocks.specs.Way.{RangeKept}
@@ -265,12 +265,12 @@ same-deciding r r' h =
     λ i. record { s = h i .spec; n = h i .n; stock = stock i; any = h i .any; last = h i .last; rises = h i .rises; count = h i .count; fall = h i .fall; found = found i }
 
 pub same-applied : (r r' : Applied) → appliedPaper r ≡ appliedPaper r' → r ≡ r'
-same-applied (applied.Generation g) (applied.Generation k) h = ap applied.Generation (same-answer h)
-same-applied (applied.Generation g) (applied.Refused d) h = absurd (no-answer _ _ (sym h))
-same-applied (applied.Refused c) (applied.Generation k) h = absurd (no-answer _ _ h)
+same-applied (applied.Stock g) (applied.Stock k) h = ap applied.Stock (same-answer h)
+same-applied (applied.Stock g) (applied.Refused d) h = absurd (no-answer _ _ (sym h))
+same-applied (applied.Refused c) (applied.Stock k) h = absurd (no-answer _ _ h)
 same-applied (applied.Refused c) (applied.Refused d) h = ap applied.Refused (same-refusal c d h)
-same-applied (applied.Generation g) (applied.RefusedAt d k) h = absurd (no-answer _ _ (sym h))
-same-applied (applied.RefusedAt c j) (applied.Generation g) h = absurd (no-answer _ _ h)
+same-applied (applied.Stock g) (applied.RefusedAt d k) h = absurd (no-answer _ _ (sym h))
+same-applied (applied.RefusedAt c j) (applied.Stock g) h = absurd (no-answer _ _ h)
 same-applied (applied.Refused c) (applied.RefusedAt d k) h = absurd (no-place c d k (same-number h))
 same-applied (applied.RefusedAt c j) (applied.Refused d) h = absurd (no-place d c j (same-number (sym h)))
 same-applied (applied.RefusedAt c j) (applied.RefusedAt d k) h = let e = one-place c d j k (same-number h) in ap₂ applied.RefusedAt (e .0) (e .1)
@@ -363,8 +363,8 @@ same-radius-range (radius-range.Refused c) (radius-range.Refused d) h = ap radiu
 
 -- ---- promises with lent buffers
 
-pub filled-once : (spec : TurnStockSpec) (r r' : Made) (cs cs₁ cs₂ : List Float) → Filled spec r cs cs₁ → Filled spec r' cs cs₂ → (r ≡ r') × (cs₁ ≡ cs₂)
-filled-once spec r r' cs cs₁ cs₂ a b = (same-made r r' (a .answer ∙ sym (b .answer)), a .cells ∙ sym (b .cells))
+pub filled-once : (spec : TurnStockSpec) (edition : ℕ) (r r' : Made) (cs cs₁ cs₂ : List Float) → Filled spec edition r cs cs₁ → Filled spec edition r' cs cs₂ → (r ≡ r') × (cs₁ ≡ cs₂)
+filled-once spec edition r r' cs cs₁ cs₂ a b = (same-made r r' (a .answer ∙ sym (b .answer)), a .cells ∙ sym (b .cells))
 
 pub renewed-once : (spec : TurnStockSpec) (cs : List Float) (r r' : Counted) (bs bs₁ bs₂ : List Float) → Renewed spec cs r bs bs₁ → Renewed spec cs r' bs bs₂ → (r ≡ r') × (bs₁ ≡ bs₂)
 renewed-once spec cs r r' bs bs₁ bs₂ a b = (same-counted r r' (a .answer ∙ sym (b .answer)), a .numbers ∙ sym (b .numbers))
@@ -375,15 +375,15 @@ left-once s n cs o i r r' bs₁ bs₂ a b = (a .block ∙ sym (b .block), a .num
 pub kept-once : (spec : TurnStockSpec) (n : ℕ) (cs bs : List Float) (lo hi : Float) (r r' : Seen) → RangeKept spec n cs bs lo hi r → RangeKept spec n cs bs lo hi r' → r ≡ r'
 kept-once spec n cs bs lo hi r r' a b = same-seen r r' (a .found ∙ sym (b .found))
 
-pub listed-once : (k k₁ k₂ : ℕ) (c : TurnChange) (is is₁ is₂ : List ℕ) (xs xs₁ xs₂ : List Float) → Listed k k₁ c is is₁ xs xs₁ → Listed k k₂ c is is₂ xs xs₂ → (k₁ ≡ k₂) × (is₁ ≡ is₂) × (xs₁ ≡ xs₂)
+pub listed-once : (k k₁ k₂ : ℕ) (c : TurnChange) (is is₁ is₂ : List ℕ) (xs xs₁ xs₂ : List Float) → ListedOne k k₁ c is is₁ xs xs₁ → ListedOne k k₂ c is is₂ xs xs₂ → (k₁ ≡ k₂) × (is₁ ≡ is₂) × (xs₁ ≡ xs₂)
 listed-once k k₁ k₂ c is is₁ is₂ xs xs₁ xs₂ a b = (a .count ∙ sym (b .count), a .indices ∙ sym (b .indices), a .numbers ∙ sym (b .numbers))
 
 pub swept-once : (ps : List Float) (side : TurnSide) (excess : Float) (b : ZRange) (lo hi : Float) (start end : Low) (r r' : Swept) → Sweeps ps side excess b lo hi start end r → Sweeps ps side excess b lo hi start end r' → r ≡ r'
 swept-once ps side excess b lo hi start end r r' m n =
     ap₂ (λ (x y : Low). record { low = x; high = y }) (same-low (r .low) (r' .low) (m .low ∙ sym (n .low))) (same-low (r .high) (r' .high) (m .high ∙ sym (n .high)))
 
-pub applied-once : (p : Paper Committed) (r r' : Applied) (cs cs₁ cs₂ : List Float) → Applies p r cs cs₁ → Applies p r' cs cs₂ → (r ≡ r') × (cs₁ ≡ cs₂)
-applied-once p r r' cs cs₁ cs₂ a b = (same-applied r r' (a .answer ∙ sym (b .answer)), a .cells ∙ sym (b .cells))
+pub applied-once : (k : TurnStock) (p : Paper Committed) (r r' : Applied) (cs cs₁ cs₂ : List Float) → Applies k p r cs cs₁ → Applies k p r' cs cs₂ → (r ≡ r') × (cs₁ ≡ cs₂)
+applied-once k p r r' cs cs₁ cs₂ a b = (same-applied r r' (a .answer ∙ sym (b .answer)), a .cells ∙ sym (b .cells))
 
 pub removed-once : (k : TurnStock) (xs : List Float) (p : Paper RingStore) (r r' : Removed) (xs₁ xs₂ : List Float) → Removes k xs p r xs₁ → Removes k xs p r' xs₂ → (r ≡ r') × (xs₁ ≡ xs₂)
 removed-once k xs p r r' xs₁ xs₂ a b = (same-removed r r' (a .answer ∙ sym (b .answer)), a .store ∙ sym (b .store))

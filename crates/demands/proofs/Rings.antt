@@ -12,7 +12,8 @@ use Rattle.refusals.specs.Paper.{Paper, answers, refuses, onward}
 use Rattle.floats.specs.Pick.{pick}
 use Rattle.stock.specs.declared.TurnStockSpec.{TurnStockSpec}
 use Rattle.stock.specs.declared.TurnStock.{TurnStock}
-use Rattle.stock.specs.Stock.{stockFrom}
+use Rattle.stock.specs.Stock.{stampOf, stockFrom, stockWith}
+use Rattle.changes.specs.declared.ChangeList.{ChangeList}
 use Rattle.stock.specs.Spec.{cleanSpec, specGood}
 use Rattle.stock.proofs.Count.{no-answer, same-answer}
 use Rattle.rings.specs.declared.Ring.{Ring}
@@ -33,7 +34,7 @@ use Rattle.moves.specs.Move as moves
 use Rattle.moves.specs.Move.{Left, generationAfter, moveOf, partsOf, Moves, stockStored, Rebuilds}
 use Rattle.moves.proofs.Accepted.{taken, passed-disjoint, raised-turns, move-disjoint, move-covers, either-cells, either-generation, either-covers}
 use Rattle.moves.proofs.FromParts.{parts-disjoint, parts-cover, parts-either-order}
-use Rattle.demands.specs.Run.{Store, RanRings, done, ring, Held, Move, ringsIn, RanMoves, no-moves, made-move}
+use Rattle.demands.specs.Run.{Store, RanRings, done, ring, Held, Move, ringsIn, RanMoves, no-moves, made-move, moveList}
 use Rattle.demands.proofs.Third.{perm-length}
 
 -- a ring as it is clipped to the stock
@@ -51,14 +52,14 @@ record Took (spec : TurnStockSpec) (xs : List Float) (n g : ℕ) (q : Ring) (m h
   numbers : ys ≡ storeAs xs (store .rings)
   generation : h ≡ store .generation
 
-took : {spec : TurnStockSpec} {xs : List Float} {n g : ℕ} {q : Ring} {m h : ℕ} {ys : List Float} → Removes (stockFrom spec n g) xs (removeRing spec xs n g q) (Stock (stockFrom spec m h)) ys → Took spec xs n g q m h ys
+took : {spec : TurnStockSpec} {edition : ℕ} {xs : List Float} {n g : ℕ} {q : Ring} {m h : ℕ} {ys : List Float} → Removes (stockFrom spec edition n g) xs (removeRing spec xs n g q) (Stock (stockFrom spec edition m h)) ys → Took spec xs n g q m h ys
 unfolding countsOf ringsAfter onward
-took {spec} {xs} {n} {g} {q} {m} {h} {ys} a = go (removeRing spec xs n g q) refl (a .answer) (a .store)
+took {spec} {edition} {xs} {n} {g} {q} {m} {h} {ys} a = go (removeRing spec xs n g q) refl (a .answer) (a .store)
   where
-    go : (p : Paper RingStore) → removeRing spec xs n g q ≡ p → answers (stockFrom spec m h) ≡ stockAfter (stockFrom spec n g) (countsOf p) → ys ≡ ringsAfter xs p → Took spec xs n g q m h ys
+    go : (p : Paper RingStore) → removeRing spec xs n g q ≡ p → answers (stockFrom spec edition m h) ≡ stockAfter (stockFrom spec edition n g) (countsOf p) → ys ≡ ringsAfter xs p → Took spec xs n g q m h ys
     go (refuses r) e b c = absurd (no-answer r _ (sym b))
     go (answers s) e b c =
-        let k : stockFrom spec m h ≡ stockFrom spec (length (s .rings)) (s .generation) = same-answer b in
+        let k : stockFrom spec edition m h ≡ stockFrom spec edition (length (s .rings)) (s .generation) = same-answer b in
         record {
           store = s;
           rule = e;
@@ -84,34 +85,44 @@ list-by {xs} {ys} {p} {m} a = go p (a .answer) (a .store)
     go (refuses r) b c = absurd (no-answer r m (sym b))
     go (answers l) b c = record { rings = l; rule = refl; held = ap₂ ringsOf (same-answer b) c ∙ rings-stored xs l }
 
-pub rebuilt-by : {spec : TurnStockSpec} {xs ys : List Float} {p : Paper (List Ring)} {a : TurnStock} → Rebuilds spec xs p (rebuilt.Stock a) ys → ListBy p (a .rings) ys
+pub rebuilt-by : {spec : TurnStockSpec} {edition : ℕ} {xs ys : List Float} {p : Paper (List Ring)} {a : TurnStock} → Rebuilds spec edition xs p (rebuilt.Stock a) ys → ListBy p (a .rings) ys
 unfolding rings.countOf onward
-rebuilt-by {spec} {xs} {ys} {p} {a} h = go p (h .answer) (h .store)
+rebuilt-by {spec} {edition} {xs} {ys} {p} {a} h = go p (h .answer) (h .store)
   where
-    go : (p : Paper (List Ring)) → answers a ≡ stockStored spec (rings.countOf p) → ys ≡ rings.storeAfter xs p → ListBy p (a .rings) ys
+    go : (p : Paper (List Ring)) → answers a ≡ stockStored spec edition (rings.countOf p) → ys ≡ rings.storeAfter xs p → ListBy p (a .rings) ys
     go (refuses r) b c = absurd (no-answer r a (sym b))
     go (answers l) b c = record { rings = l; rule = refl; held = ap₂ ringsOf (ap (λ (x : TurnStock). x .rings) (same-answer b)) c ∙ rings-stored xs l }
 
-pub record LeftBy (p : Paper Left) (m h : ℕ) (cs' ys : List Float) : Type 0 where
+pub record LeftBy (k k' : TurnStock) (p : Paper Left) (cs' ys : List Float) : Type 0 where
   pub left : Left
   pub rule : p ≡ answers left
   pub cells : cs' ≡ left .cells
-  pub rings : ringsOf m ys ≡ left .rings
-  pub generation : h ≡ left .generation
+  pub rings : ringsOf (k' .rings) ys ≡ left .rings
+  pub generation : k' .stamp .generation ≡ left .generation
+  -- the stock's spec and its edition stay
+  pub stock : k' ≡ stockWith k (k' .rings) (left .generation)
 
-pub left-by : {spec : TurnStockSpec} {n g : ℕ} {cs cs' xs ys : List Float} {p : Paper Left} {m h : ℕ} → Moves (stockFrom spec n g) p (moved.Stock (stockFrom spec m h)) cs cs' xs ys → LeftBy p m h cs' ys
-left-by {spec} {n} {g} {cs} {cs'} {xs} {ys} {p} {m} {h} a = go p (a .answer) (a .cells) (a .rings)
+pub left-by : {k k' : TurnStock} {cs cs' xs ys : List Float} {p : Paper Left} → Moves k p (moved.Stock k') cs cs' xs ys → LeftBy k k' p cs' ys
+left-by {k} {k'} {cs} {cs'} {xs} {ys} {p} a = go p (a .answer) (a .cells) (a .rings)
   where
-    go : (p : Paper Left) → answers (stockFrom spec m h) ≡ stockAfter (stockFrom spec n g) (moves.countsOf p) → cs' ≡ moves.movedCells p cs → ys ≡ moves.movedRings p xs → LeftBy p m h cs' ys
+    go : (p : Paper Left) → answers k' ≡ stockAfter k (moves.countsOf p) → cs' ≡ moves.movedCells p cs → ys ≡ moves.movedRings p xs → LeftBy k k' p cs' ys
     go (refuses r) b c d = absurd (no-answer r _ (sym b))
     go (answers l) b c d =
-        let k : stockFrom spec m h ≡ stockFrom spec (length (l .rings)) (l .generation) = same-answer b in
-        record { left = l; rule = refl; cells = c; rings = ap₂ ringsOf (ap (λ (x : TurnStock). x .rings) k) d ∙ rings-stored xs (l .rings); generation = ap (λ (x : TurnStock). x .stamp .generation) k }
+        let e : k' ≡ stockWith k (length (l .rings)) (l .generation) = same-answer b in
+        let m : k' .rings ≡ length (l .rings) = ap (λ (x : TurnStock). x .rings) e in
+        record {
+          left = l;
+          rule = refl;
+          cells = c;
+          rings = ap₂ ringsOf m d ∙ rings-stored xs (l .rings);
+          generation = ap (λ (x : TurnStock). x .stamp .generation) e;
+          stock = e ∙ ap (λ (j : ℕ). stockWith k j (l .generation)) (sym m);
+        }
 
 -- ---- single rings, one call after the other
 
 -- What the store covers at the end: what it covered at the start and what the clipped rings cover, and nothing else.
-pub run-covers : {spec : TurnStockSpec} {s t : Store} {qs : List Ring} → RanRings spec s qs t → (z r : Float) → covered (ringsOf (t .count) (t .numbers)) z r ≡ (covered (ringsOf (s .count) (s .numbers)) z r || covered (map (clipped spec) qs) z r)
+pub run-covers : {spec : TurnStockSpec} {edition : ℕ} {s t : Store} {qs : List Ring} → RanRings spec edition s qs t → (z r : Float) → covered (ringsOf (t .count) (t .numbers)) z r ≡ (covered (ringsOf (s .count) (s .numbers)) z r || covered (map (clipped spec) qs) z r)
 unfolding covered
 run-covers {s = s} done z r = sym (or-false (covered (ringsOf (s .count) (s .numbers)) z r))
 run-covers {spec} (ring {q} {qs} {xs} {ys} {n} {g} {m} {h} a b) z r =
@@ -121,18 +132,18 @@ run-covers {spec} (ring {q} {qs} {xs} {ys} {n} {g} {m} {h} a b) z r =
     ∙ or-assoc (covered (ringsOf n xs) z r) (covers (clipped spec q) z r) (covered (map (clipped spec) qs) z r)
 
 -- The store passes refusal 4's test at the end, if it did at the start.
-pub run-passes : {spec : TurnStockSpec} {s t : Store} {qs : List Ring} → RanRings spec s qs t → countFits (barRing (cleanSpec spec)) (s .numbers) (s .count) ≡ true → countFits (barRing (cleanSpec spec)) (t .numbers) (t .count) ≡ true
+pub run-passes : {spec : TurnStockSpec} {edition : ℕ} {s t : Store} {qs : List Ring} → RanRings spec edition s qs t → countFits (barRing (cleanSpec spec)) (s .numbers) (s .count) ≡ true → countFits (barRing (cleanSpec spec)) (t .numbers) (t .count) ≡ true
 run-passes done f = f
 run-passes {spec} (ring {q} {qs} {xs} {ys} {n} {g} {m} {h} a b) f =
     let w = took a in
     run-passes b (ap₂ (λ (y : List Float) (k : ℕ). countFits (barRing (cleanSpec spec)) y k) (w .numbers) (w .count) ∙ ring-passes spec xs n g q (w .store) (w .rule))
 
 -- NO TWO STORED RINGS SHARE A POINT, so none is counted twice in the volume.
-pub run-disjoint : {spec : TurnStockSpec} {s t : Store} {qs : List Ring} → RanRings spec s qs t → countFits (barRing (cleanSpec spec)) (s .numbers) (s .count) ≡ true → Disjoint (ringsOf (t .count) (t .numbers))
+pub run-disjoint : {spec : TurnStockSpec} {edition : ℕ} {s t : Store} {qs : List Ring} → RanRings spec edition s qs t → countFits (barRing (cleanSpec spec)) (s .numbers) (s .count) ≡ true → Disjoint (ringsOf (t .count) (t .numbers))
 run-disjoint {spec} {s} {t} a f = store-disjoint (barRing (cleanSpec spec)) (ringsOf (t .count) (t .numbers)) (rings-pass (barRing (cleanSpec spec)) (t .numbers) (t .count) (run-passes a f))
 
 -- The generation rises by one for each ring that is not empty after clipping, covered or not.
-pub run-rises : {spec : TurnStockSpec} {s t : Store} {qs : List Ring} → RanRings spec s qs t → t .generation ≡ s .generation + raisedBy (barRing (cleanSpec spec)) qs
+pub run-rises : {spec : TurnStockSpec} {edition : ℕ} {s t : Store} {qs : List Ring} → RanRings spec edition s qs t → t .generation ≡ s .generation + raisedBy (barRing (cleanSpec spec)) qs
 unfolding raisedBy pick
 run-rises {s = s} done = sym (add-zero (s .generation))
 run-rises {spec} (ring {q} {qs} {xs} {ys} {n} {g} {m} {h} a b) =
@@ -144,7 +155,7 @@ run-rises {spec} (ring {q} {qs} {xs} {ys} {n} {g} {m} {h} a b) =
     one false k = omega arith
 
 -- EITHER ORDER: two runs of the same rings, in any order, cover the same points and come to the same generation.
-module _ {spec : TurnStockSpec} {s t t' : Store} {qs qs' : List Ring} (turn : List·Permᴰ qs qs') (a : RanRings spec s qs t) (b : RanRings spec s qs' t') where
+module _ {spec : TurnStockSpec} {edition : ℕ} {s t t' : Store} {qs qs' : List Ring} (turn : List·Permᴰ qs qs') (a : RanRings spec edition s qs t) (b : RanRings spec edition s qs' t') where
   pub run-either-order : (z r : Float) → covered (ringsOf (t .count) (t .numbers)) z r ≡ covered (ringsOf (t' .count) (t' .numbers)) z r
   run-either-order z r = run-covers a z r ∙ ap (λ (x : Bool). covered (ringsOf (s .count) (s .numbers)) z r || x) (covered-turns (clipped spec) z r turn) ∙ sym (run-covers b z r)
 
@@ -184,58 +195,58 @@ module _ (spec : TurnStockSpec) (xs : List Float) (n : ℕ) (f : countFits (barR
 
 -- ---- a move
 
-module _ (spec : TurnStockSpec) (cs xs : List Float) (count g : ℕ) (is : List ℕ) (ys : List Float) (k : ℕ) where
+module _ (k : TurnStock) (cs xs : List Float) (list : ChangeList) (is : List ℕ) (ys : List Float) where
   -- the rings that an accepted move leaves cover what was covered and what its clipped rings cover, and nothing else: every ring of it, not the first alone
-  pub moved-covers : (removed : List Float) (a : Left) → moveOf spec cs xs count g is ys k removed ≡ answers a → (z r : Float)
-      → covered (a .rings) z r ≡ (covered (ringsOf count xs) z r || covered (map (clipped spec) (ringsOf (length removed / 4) removed)) z r)
-  moved-covers removed a h = move-covers spec cs xs count g is ys k removed a h
+  pub moved-covers : (removed : List Float) (a : Left) → moveOf k cs xs list is ys removed ≡ answers a → (z r : Float)
+      → covered (a .rings) z r ≡ (covered (ringsOf (k .rings) xs) z r || covered (map (clipped (k .spec)) (ringsOf (length removed / 4) removed)) z r)
+  moved-covers removed a h = move-covers k cs xs list is ys removed a h
 
   -- no two of them share a point
-  pub moved-disjoint : (removed : List Float) (a : Left) → moveOf spec cs xs count g is ys k removed ≡ answers a → Disjoint (a .rings)
-  moved-disjoint removed a h = move-disjoint spec cs xs count g is ys k removed a h
+  pub moved-disjoint : (removed : List Float) (a : Left) → moveOf k cs xs list is ys removed ≡ answers a → Disjoint (a .rings)
+  moved-disjoint removed a h = move-disjoint k cs xs list is ys removed a h
 
   -- either order of its rings: the same cells, the same generation, the same points covered
-  module _ (removed removed' : List Float) (a a' : Left) (turn : List·Permᴰ (ringsOf (length removed / 4) removed) (ringsOf (length removed' / 4) removed')) (h : moveOf spec cs xs count g is ys k removed ≡ answers a) (h' : moveOf spec cs xs count g is ys k removed' ≡ answers a') where
+  module _ (removed removed' : List Float) (a a' : Left) (turn : List·Permᴰ (ringsOf (length removed / 4) removed) (ringsOf (length removed' / 4) removed')) (h : moveOf k cs xs list is ys removed ≡ answers a) (h' : moveOf k cs xs list is ys removed' ≡ answers a') where
     pub moved-either-cells : a .cells ≡ a' .cells
-    moved-either-cells = either-cells spec cs xs count g is ys k removed removed' a a' turn h h'
+    moved-either-cells = either-cells k cs xs list is ys removed removed' a a' turn h h'
 
     pub moved-either-generation : a .generation ≡ a' .generation
-    moved-either-generation = either-generation spec cs xs count g is ys k removed removed' a a' turn h h'
+    moved-either-generation = either-generation k cs xs list is ys removed removed' a a' turn h h'
 
     pub moved-either-order : (z r : Float) → covered (a .rings) z r ≡ covered (a' .rings) z r
-    moved-either-order = either-covers spec cs xs count g is ys k removed removed' a a' turn h h'
+    moved-either-order = either-covers k cs xs list is ys removed removed' a a' turn h h'
 
   -- the same of the lent numbers that the call leaves
-  pub moved-call-covers : (removed : List Float) (m h : ℕ) (cs' xs' : List Float) → Moves (stockFrom spec count g) (moveOf spec cs xs count g is ys k removed) (moved.Stock (stockFrom spec m h)) cs cs' xs xs' → (z r : Float)
-      → covered (ringsOf m xs') z r ≡ (covered (ringsOf count xs) z r || covered (map (clipped spec) (ringsOf (length removed / 4) removed)) z r)
-  moved-call-covers removed m h cs' xs' a z r = let w = left-by a in ap (λ (l : List Ring). covered l z r) (w .rings) ∙ moved-covers removed (w .left) (w .rule) z r
+  pub moved-call-covers : (removed : List Float) (k' : TurnStock) (cs' xs' : List Float) → Moves k (moveOf k cs xs list is ys removed) (moved.Stock k') cs cs' xs xs' → (z r : Float)
+      → covered (ringsOf (k' .rings) xs') z r ≡ (covered (ringsOf (k .rings) xs) z r || covered (map (clipped (k .spec)) (ringsOf (length removed / 4) removed)) z r)
+  moved-call-covers removed k' cs' xs' a z r = let w = left-by a in ap (λ (l : List Ring). covered l z r) (w .rings) ∙ moved-covers removed (w .left) (w .rule) z r
 
-  pub moved-call-disjoint : (removed : List Float) (m h : ℕ) (cs' xs' : List Float) → Moves (stockFrom spec count g) (moveOf spec cs xs count g is ys k removed) (moved.Stock (stockFrom spec m h)) cs cs' xs xs' → Disjoint (ringsOf m xs')
-  moved-call-disjoint removed m h cs' xs' a = let w = left-by a in subst Disjoint (sym (w .rings)) (moved-disjoint removed (w .left) (w .rule))
+  pub moved-call-disjoint : (removed : List Float) (k' : TurnStock) (cs' xs' : List Float) → Moves k (moveOf k cs xs list is ys removed) (moved.Stock k') cs cs' xs xs' → Disjoint (ringsOf (k' .rings) xs')
+  moved-call-disjoint removed k' cs' xs' a = let w = left-by a in subst Disjoint (sym (w .rings)) (moved-disjoint removed (w .left) (w .rule))
 
   -- either order of its rings leaves the same cells and the same generation, and the same points covered
-  pub moved-call-either-order : (removed removed' : List Float) (m m' h h' : ℕ) (cs' cs'' xs' xs'' : List Float) → List·Permᴰ (ringsOf (length removed / 4) removed) (ringsOf (length removed' / 4) removed')
-      → Moves (stockFrom spec count g) (moveOf spec cs xs count g is ys k removed) (moved.Stock (stockFrom spec m h)) cs cs' xs xs' → Moves (stockFrom spec count g) (moveOf spec cs xs count g is ys k removed') (moved.Stock (stockFrom spec m' h')) cs cs'' xs xs''
-      → (cs' ≡ cs'') × (h ≡ h') × ((z r : Float) → covered (ringsOf m xs') z r ≡ covered (ringsOf m' xs'') z r)
-  moved-call-either-order removed removed' m m' h h' cs' cs'' xs' xs'' d a a' =
+  pub moved-call-either-order : (removed removed' : List Float) (k' k'' : TurnStock) (cs' cs'' xs' xs'' : List Float) → List·Permᴰ (ringsOf (length removed / 4) removed) (ringsOf (length removed' / 4) removed')
+      → Moves k (moveOf k cs xs list is ys removed) (moved.Stock k') cs cs' xs xs' → Moves k (moveOf k cs xs list is ys removed') (moved.Stock k'') cs cs'' xs xs''
+      → (cs' ≡ cs'') × (k' .stamp ≡ k'' .stamp) × ((z r : Float) → covered (ringsOf (k' .rings) xs') z r ≡ covered (ringsOf (k'' .rings) xs'') z r)
+  moved-call-either-order removed removed' k' k'' cs' cs'' xs' xs'' d a a' =
       let w = left-by a in
       let w' = left-by a' in (
         w .cells ∙ moved-either-cells removed removed' (w .left) (w' .left) d (w .rule) (w' .rule) ∙ sym (w' .cells),
-        w .generation ∙ moved-either-generation removed removed' (w .left) (w' .left) d (w .rule) (w' .rule) ∙ sym (w' .generation),
+        ap (λ (x : TurnStock). x .stamp) (w .stock) ∙ ap (stampOf (k .stamp .edition)) (moved-either-generation removed removed' (w .left) (w' .left) d (w .rule) (w' .rule)) ∙ sym (ap (λ (x : TurnStock). x .stamp) (w' .stock)),
         λ z r. ap (λ (l : List Ring). covered l z r) (w .rings) ∙ moved-either-order removed removed' (w .left) (w' .left) d (w .rule) (w' .rule) z r ∙ ap (λ (l : List Ring). covered l z r) (sym (w' .rings)),
       )
 
 -- ---- several moves, one call after the other
 
 -- What the store covers at the end: what it covered at the start and what the clipped rings of all moves cover, and nothing else.
-pub moves-cover : {spec : TurnStockSpec} {s t : Held} {vs : List Move} → RanMoves spec s vs t → (z r : Float)
+pub moves-cover : {spec : TurnStockSpec} {edition : ℕ} {s t : Held} {vs : List Move} → RanMoves spec edition s vs t → (z r : Float)
     → covered (ringsOf (t .store .count) (t .store .numbers)) z r ≡ (covered (ringsOf (s .store .count) (s .store .numbers)) z r || covered (map (clipped spec) (ringsIn vs)) z r)
 unfolding covered ringsIn
 moves-cover {s = s} no-moves z r = sym (or-false (covered (ringsOf (s .store .count) (s .store .numbers)) z r))
-moves-cover {spec} (made-move {v} {vs} {cs} {cs'} {xs} {ys} {n} {g} {m} {h} a b) z r =
+moves-cover {spec} {edition} (made-move {v} {vs} {cs} {cs'} {xs} {ys} {n} {g} {m} {h} a b) z r =
     let qs = ringsOf (length (v .removed) / 4) (v .removed) in
     moves-cover b z r
-    ∙ ap (λ (x : Bool). x || covered (map (clipped spec) (ringsIn vs)) z r) (moved-call-covers spec cs xs n g (v .indices) (v .numbers) (v .count) (v .removed) m h cs' ys a z r)
+    ∙ ap (λ (x : Bool). x || covered (map (clipped spec) (ringsIn vs)) z r) (moved-call-covers (stockFrom spec edition n g) cs xs (moveList edition g v) (v .indices) (v .numbers) (v .removed) (stockFrom spec edition m h) cs' ys a z r)
     ∙ or-assoc (covered (ringsOf n xs) z r) (covered (map (clipped spec) qs) z r) (covered (map (clipped spec) (ringsIn vs)) z r)
     ∙ ap (λ (x : Bool). covered (ringsOf n xs) z r || x) (sym (covers-append qs (ringsIn vs)))
   where
@@ -244,19 +255,19 @@ moves-cover {spec} (made-move {v} {vs} {cs} {cs'} {xs} {ys} {n} {g} {m} {h} a b)
     covers-append (q ∷ qs) ps = ap (λ (x : Bool). covers (clipped spec q) z r || x) (covers-append qs ps) ∙ sym (or-assoc (covers (clipped spec q) z r) (covered (map (clipped spec) qs) z r) (covered (map (clipped spec) ps) z r))
 
 -- No two stored rings share a point, if none did at the start.
-pub moves-disjoint : {spec : TurnStockSpec} {s t : Held} {vs : List Move} → RanMoves spec s vs t → Disjoint (ringsOf (s .store .count) (s .store .numbers)) → Disjoint (ringsOf (t .store .count) (t .store .numbers))
+pub moves-disjoint : {spec : TurnStockSpec} {edition : ℕ} {s t : Held} {vs : List Move} → RanMoves spec edition s vs t → Disjoint (ringsOf (s .store .count) (s .store .numbers)) → Disjoint (ringsOf (t .store .count) (t .store .numbers))
 moves-disjoint no-moves d = d
-moves-disjoint {spec} (made-move {v} {vs} {cs} {cs'} {xs} {ys} {n} {g} {m} {h} a b) d = moves-disjoint b (moved-call-disjoint spec cs xs n g (v .indices) (v .numbers) (v .count) (v .removed) m h cs' ys a)
+moves-disjoint {spec} {edition} (made-move {v} {vs} {cs} {cs'} {xs} {ys} {n} {g} {m} {h} a b) d = moves-disjoint b (moved-call-disjoint (stockFrom spec edition n g) cs xs (moveList edition g v) (v .indices) (v .numbers) (v .removed) (stockFrom spec edition m h) cs' ys a)
 
 -- The generation rises by one for each move, and by one for each ring that is not empty after clipping.
-pub moves-rise : {spec : TurnStockSpec} {s t : Held} {vs : List Move} → RanMoves spec s vs t → t .store .generation ≡ s .store .generation + length vs + raisedBy (barRing (cleanSpec spec)) (ringsIn vs)
+pub moves-rise : {spec : TurnStockSpec} {edition : ℕ} {s t : Held} {vs : List Move} → RanMoves spec edition s vs t → t .store .generation ≡ s .store .generation + length vs + raisedBy (barRing (cleanSpec spec)) (ringsIn vs)
 unfolding ringsIn raisedBy generationAfter
 moves-rise {s = s} no-moves = let g = s .store .generation in omega arith
-moves-rise {spec} (made-move {v} {vs} {cs} {cs'} {xs} {ys} {n} {g} {m} {h} a b) =
+moves-rise {spec} {edition} (made-move {v} {vs} {cs} {cs'} {xs} {ys} {n} {g} {m} {h} a b) =
     let e = barRing (cleanSpec spec) in
     let qs = ringsOf (length (v .removed) / 4) (v .removed) in
     let w = left-by a in
-    let x : h ≡ g + 1 + raisedBy e qs = w .generation ∙ taken spec cs xs n g (v .indices) (v .numbers) (v .count) (v .removed) (w .left) (w .rule) .rises in
+    let x : h ≡ g + 1 + raisedBy e qs = w .generation ∙ taken (stockFrom spec edition n g) cs xs (moveList edition g v) (v .indices) (v .numbers) (v .removed) (w .left) (w .rule) .rises in
     moves-rise b ∙ ap (λ (j : ℕ). j + length vs + raisedBy e (ringsIn vs)) x ∙ one g (raisedBy e qs) (length vs) (raisedBy e (ringsIn vs)) ∙ ap (λ (j : ℕ). g + suc (length vs) + j) (sym (raised-append e qs (ringsIn vs)))
   where
     one : (g a n b : ℕ) → g + 1 + a + n + b ≡ g + suc n + (a + b)
@@ -289,7 +300,7 @@ rings-turn (List·Permᴰ·swap {a = a} {b = b} {a′ = a′} {b′ = b′} {l =
 rings-turn (List·Permᴰ·trans d d′) = List·Permᴰ·trans (rings-turn d) (rings-turn d′)
 
 -- EITHER ORDER OF MOVES: two runs of the same moves, in any order, both accepted, cover the same points and come to the same generation.
-module _ {spec : TurnStockSpec} {s t t' : Held} {vs vs' : List Move} (turn : List·Permᴰ vs vs') (a : RanMoves spec s vs t) (b : RanMoves spec s vs' t') where
+module _ {spec : TurnStockSpec} {edition : ℕ} {s t t' : Held} {vs vs' : List Move} (turn : List·Permᴰ vs vs') (a : RanMoves spec edition s vs t) (b : RanMoves spec edition s vs' t') where
   pub moves-either-order : (z r : Float) → covered (ringsOf (t .store .count) (t .store .numbers)) z r ≡ covered (ringsOf (t' .store .count) (t' .store .numbers)) z r
   moves-either-order z r = moves-cover a z r ∙ ap (λ (x : Bool). covered (ringsOf (s .store .count) (s .store .numbers)) z r || x) (covered-turns (clipped spec) z r (rings-turn turn)) ∙ sym (moves-cover b z r)
 
@@ -314,15 +325,15 @@ module _ (spec : TurnStockSpec) (cs xs : List Float) where
   rebuilt-either-order given given' l l' d h h' = parts-either-order spec cs xs given given' l l' d h h'
 
   -- the same of the lent numbers that the call leaves
-  pub rebuilt-call-covers : (given : List Float) (b : TurnStock) (ys : List Float) → Rebuilds spec xs (partsOf spec cs given xs) (rebuilt.Stock b) ys → (z r : Float) → covered (ringsOf (b .rings) ys) z r ≡ covered (map (clipped spec) (ringsOf (length given / 4) given)) z r
-  rebuilt-call-covers given b ys a z r = let w = rebuilt-by a in ap (λ (l : List Ring). covered l z r) (w .held) ∙ rebuilt-covers given (w .rings) (w .rule) z r
+  pub rebuilt-call-covers : (edition : ℕ) (given : List Float) (b : TurnStock) (ys : List Float) → Rebuilds spec edition xs (partsOf spec cs given xs) (rebuilt.Stock b) ys → (z r : Float) → covered (ringsOf (b .rings) ys) z r ≡ covered (map (clipped spec) (ringsOf (length given / 4) given)) z r
+  rebuilt-call-covers edition given b ys a z r = let w = rebuilt-by a in ap (λ (l : List Ring). covered l z r) (w .held) ∙ rebuilt-covers given (w .rings) (w .rule) z r
 
-  pub rebuilt-call-disjoint : (given : List Float) (b : TurnStock) (ys : List Float) → Rebuilds spec xs (partsOf spec cs given xs) (rebuilt.Stock b) ys → Disjoint (ringsOf (b .rings) ys)
-  rebuilt-call-disjoint given b ys a = let w = rebuilt-by a in subst Disjoint (sym (w .held)) (rebuilt-disjoint given (w .rings) (w .rule))
+  pub rebuilt-call-disjoint : (edition : ℕ) (given : List Float) (b : TurnStock) (ys : List Float) → Rebuilds spec edition xs (partsOf spec cs given xs) (rebuilt.Stock b) ys → Disjoint (ringsOf (b .rings) ys)
+  rebuilt-call-disjoint edition given b ys a = let w = rebuilt-by a in subst Disjoint (sym (w .held)) (rebuilt-disjoint given (w .rings) (w .rule))
 
-  pub rebuilt-call-either-order : (given given' : List Float) (b b' : TurnStock) (ys ys' : List Float) → List·Permᴰ (ringsOf (length given / 4) given) (ringsOf (length given' / 4) given') → Rebuilds spec xs (partsOf spec cs given xs) (rebuilt.Stock b) ys
-      → Rebuilds spec xs (partsOf spec cs given' xs) (rebuilt.Stock b') ys' → (z r : Float) → covered (ringsOf (b .rings) ys) z r ≡ covered (ringsOf (b' .rings) ys') z r
-  rebuilt-call-either-order given given' b b' ys ys' d a a' z r =
+  pub rebuilt-call-either-order : (edition : ℕ) (given given' : List Float) (b b' : TurnStock) (ys ys' : List Float) → List·Permᴰ (ringsOf (length given / 4) given) (ringsOf (length given' / 4) given') → Rebuilds spec edition xs (partsOf spec cs given xs) (rebuilt.Stock b) ys
+      → Rebuilds spec edition xs (partsOf spec cs given' xs) (rebuilt.Stock b') ys' → (z r : Float) → covered (ringsOf (b .rings) ys) z r ≡ covered (ringsOf (b' .rings) ys') z r
+  rebuilt-call-either-order edition given given' b b' ys ys' d a a' z r =
       let w = rebuilt-by a in
       let w' = rebuilt-by a' in
       ap (λ (l : List Ring). covered l z r) (w .held) ∙ rebuilt-either-order given given' (w .rings) (w' .rings) d (w .rule) (w' .rule) z r ∙ ap (λ (l : List Ring). covered l z r) (sym (w' .held))

@@ -18,28 +18,35 @@ use Rattle.floats.proofs.Folds.{each-perm}
 use Rattle.stock.specs.declared.TurnStockSpec.{TurnStockSpec}
 use Rattle.stock.specs.declared.TurnChange.{TurnChange}
 use Rattle.stock.specs.declared.TurnSide.{TurnSide}
-use Rattle.stock.specs.Spec.{cellsOf}
 use Rattle.stock.specs.Cell.{cellAt, stockOf}
 use Rattle.stock.proofs.Count.{no-answer, same-answer, stocked}
 use Rattle.stock.proofs.Bins.{HeldSpec, HeldList}
 use Rattle.reach.specs.Reach.{actCell}
 use Rattle.changes.specs.declared.Previewed.{Previewed}
-use Rattle.changes.specs.declared.Previewed.the-variants.{Changes}
-use Rattle.changes.specs.Change.{changesTo, roomOf, settled, previewedPaper, countOf, writtenOf, indicesOf, numbersOf, Proposed}
-use Rattle.changes.proofs.Proposals.{written, same-proposal}
+use Rattle.stock.specs.declared.TurnStock.{TurnStock}
+use Rattle.stock.specs.declared.Stamp.{Stamp}
+use Rattle.stock.specs.Spec.{cleanSpec, cellsOf}
+use Rattle.changes.specs.Decide.{stampedStock}
+use Rattle.stock.specs.Stock.{stampOf, stockFrom, stockWith}
+use Rattle.changes.specs.declared.ChangeList.{ChangeList}
+use Rattle.changes.specs.declared.Previewed.the-variants.{Listed}
+use Rattle.changes.specs.Change.{changesTo, roomOf, settled, previewedPaper, stamped, countOf, writtenOf, indicesOf, numbersOf, Proposed}
+use Rattle.changes.proofs.Proposals.{listed, of-stock, same-listing}
 use Rattle.changes.specs.declared.Applied.{Applied}
-use Rattle.changes.specs.declared.Applied.the-variants.{Generation}
+use Rattle.changes.specs.declared.Applied.the-variants.{Stock}
 use Rattle.changes.proofs.Accepted.{commit-accepts, put-good}
-use Rattle.changes.specs.Commit.{Committed, putAll, commitOf, commitHeld, applyOf, appliedPaper, generationOf, cellsAfter, Applies}
+use Rattle.changes.specs.Commit.{Committed, putAll, commitOf, ownCommit, commitHeld, applyOf, appliedPaper, generationOf, stockAt, cellsAfter, Applies}
+use Rattle.changes.proofs.Stamped.{own-commit}
 use Rattle.cuts.specs.Preview.{proposed}
 use Rattle.changes.proofs.Proposal.{wrote, room-kept, lent-is, lent-accepts, act-cuts}
-use Rattle.changes.proofs.Written.{apply-is, same-outcome}
+use Rattle.changes.proofs.Written.{stamped-is, apply-is, same-outcome}
+use Rattle.stock.proofs.Stamps.{own-stamp}
 use Rattle.changes.proofs.Stocks.{Good, stock-good, good-stock}
 use Rattle.change_slices.specs.Proposal.{Written}
 use Rattle.demands.specs.Tool.{Cutter, cutterAct, cutterPreview, cutterGood, HeldCutter, ToolsOf, ToolsJob}
 use Rattle.demands.specs.Run.{Ran, start, cut, RanRecords, no-records, records-cut, RanUnasked, none-asked, unasked-cut, Tried, all-made, not-previewed, not-committed, made}
 use Rattle.demands.proofs.Tools.{tool-rule, accepted-good, good-accepted, tool-sound}
-use Rattle.demands.proofs.Calls.{called, run-any-order}
+use Rattle.demands.proofs.Calls.{answered, called, run-any-order}
 use Rattle.demands.proofs.Third.{perm-length}
 use Rattle.demands.proofs.Second.{preview-is}
 
@@ -62,52 +69,62 @@ numbers room = replicate (8 * room) zero64
 room-is : (room : ℕ) → roomOf (length (indices room)) (length (numbers room)) ≡ room
 room-is room = let a = length-replicate {A = ℕ} room 0 in let b = length-replicate {A = Float} (8 * room) zero64 in omega arith
 
-applied-as : (p : Paper Committed) (k : Committed) (cs : List Float) → p ≡ answers k → Applies p (Generation (k .generation)) cs (k .cells)
-applied-as p k cs e = record { answer = ap generationOf (sym e); cells = ap (λ (q : Paper Committed). cellsAfter q cs) (sym e) }
+module _ (spec : TurnStockSpec) (edition rings : ℕ) where
+  -- the stock at a generation, and a list of so many changes of it
+  abbrev stock : ℕ → TurnStock
+  stock gen = stockFrom spec edition rings gen
+
+  abbrev listAt : ℕ → ℕ → ChangeList
+  listAt gen c = record { count = c; stamp = stampOf edition gen }
+
+  applied-as : (p : Paper Committed) (gen : ℕ) (k : Committed) (cs : List Float) → p ≡ answers k → Applies (stock gen) p (Stock (stock (k .generation))) cs (k .cells)
+  applied-as p gen k cs e = record { answer = ap (λ (q : Paper Committed). stockAt (stock gen) (generationOf q)) (sym e); cells = ap (λ (q : Paper Committed). cellsAfter q cs) (sym e) }
+
+  -- a commit that answered
+  applied-is : (p : Paper Committed) (gen g : ℕ) (cs cs' : List Float) → Applies (stock gen) p (Stock (stock g)) cs cs' → p ≡ answers (record { cells = cs'; generation = g })
+  applied-is (answers k) gen g cs cs' a = λ i. answers (record { cells = sym (a .cells) i; generation = sym (ap (λ (x : TurnStock). x .stamp .generation) (same-answer (a .answer))) i })
+  applied-is (refuses n) gen g cs cs' a = absurd (no-answer n (stock g) (sym (a .answer)))
 
 -- a preview and a commit through lent lists with room for so many changes, which leave k
-record TwoCalls (spec : TurnStockSpec) (t : Cutter) (cs : List Float) (gen room : ℕ) (k : Committed) : Type 0 where
-  count : ℕ
+record TwoCalls (spec : TurnStockSpec) (edition rings : ℕ) (t : Cutter) (cs : List Float) (gen room : ℕ) (k : Committed) : Type 0 where
+  list : ChangeList
   first : List ℕ
   firstLeft : List ℕ
   second : List Float
   secondLeft : List Float
   space : roomOf (length first) (length second) ≡ room
-  previewed : Proposed (cutterPreview spec t cs (roomOf (length first) (length second))) (Changes count) first firstLeft second secondLeft
-  committed : Applies (applyOf spec cs gen firstLeft secondLeft count) (Generation (k .generation)) cs (k .cells)
+  previewed : Proposed (stampOf edition gen) (cutterPreview spec t cs (roomOf (length first) (length second))) (Listed list) first firstLeft second secondLeft
+  committed : Applies (stockFrom spec edition rings gen) (applyOf (stockFrom spec edition rings gen) cs list firstLeft secondLeft) (Stock (stockFrom spec edition rings (k .generation))) cs (k .cells)
 
-two-calls : (spec : TurnStockSpec) (t : Cutter) (cs : List Float) (gen room : ℕ) (changes : List TurnChange) (k : Committed) → cutterPreview spec t cs room ≡ answers changes → commitOf spec cs gen changes ≡ answers k → TwoCalls spec t cs gen room k
-two-calls spec t cs gen room changes k e f =
+two-calls : (spec : TurnStockSpec) (edition rings : ℕ) (t : Cutter) (cs : List Float) (gen room : ℕ) (changes : List TurnChange) (k : Committed) → cutterPreview spec t cs room ≡ answers changes → ownCommit spec cs gen changes ≡ answers k → TwoCalls spec edition rings t cs gen room k
+two-calls spec edition rings t cs gen room changes k e f =
     let is = indices room in
     let xs = numbers room in
     let is' = over (indicesOf changes) is in
     let xs' = over (numbersOf changes) xs in
+    let st = stampOf edition gen in
+    let list = listAt spec edition rings gen (length changes) in
     let e' = ap (cutterPreview spec t cs) (room-is room) ∙ e in
-    let q = written (settled (roomOf (length is) (length xs)) changes) changes (length changes) is is' xs xs' (ap (λ (n : ℕ). settled n changes) (room-is room) ∙ preview-settled spec t cs room changes e) refl refl refl in
+    let q = listed st (settled (roomOf (length is) (length xs)) changes) changes is is' xs xs' (ap (λ (n : ℕ). settled n changes) (room-is room) ∙ preview-settled spec t cs room changes e) refl refl in
     record {
-      count = length changes;
+      list = list;
       first = is;
       firstLeft = is';
       second = xs;
       secondLeft = xs';
       space = room-is room;
-      previewed = written (cutterPreview spec t cs (roomOf (length is) (length xs))) changes (length changes) is is' xs xs' e' refl refl refl;
-      committed = applied-as (applyOf spec cs gen is' xs' (length changes)) k cs (lent-is spec cs gen (length changes) changes is is' xs xs' q ∙ f);
+      previewed = listed st (cutterPreview spec t cs (roomOf (length is) (length xs))) changes is is' xs xs' e' refl refl;
+      committed = applied-as spec edition rings (applyOf (stockFrom spec edition rings gen) cs list is' xs') gen k cs (lent-is (stockFrom spec edition rings gen) cs list changes is is' xs xs' q ∙ f);
     }
 
 -- one cut more, previewed with room for so many changes and committed, by the rules
-pub rule-ran : {spec : TurnStockSpec} {t : Cutter} {l : List Cutter} {cs : List Float} {gen : ℕ} {m : Committed} (room : ℕ) (changes : List TurnChange) (k : Committed) → cutterPreview spec t cs room ≡ answers changes → commitOf spec cs gen changes ≡ answers k
-    → Ran spec k l m → Ran spec (record { cells = cs; generation = gen }) (t ∷ l) m
-rule-ran {spec} {t} {l} {cs} {gen} {m} room changes k e f r =
-    let w = two-calls spec t cs gen room changes k e f in
-    cut {t = t} {cs = cs} {cs' = k .cells} {gen = gen} {g = k .generation} {c = w .count} {is = w .first} {is' = w .firstLeft} {xs = w .second} {xs' = w .secondLeft} (w .previewed) (w .committed) r
+pub rule-ran : {spec : TurnStockSpec} {edition rings : ℕ} {t : Cutter} {l : List Cutter} {cs : List Float} {gen : ℕ} {m : Committed} (room : ℕ) (changes : List TurnChange) (k : Committed) → cutterPreview spec t cs room ≡ answers changes
+    → ownCommit spec cs gen changes ≡ answers k → Ran spec edition rings k l m → Ran spec edition rings (record { cells = cs; generation = gen }) (t ∷ l) m
+rule-ran {spec} {edition} {rings} {t} {l} {cs} {gen} {m} room changes k e f r =
+    let w = two-calls spec edition rings t cs gen room changes k e f in
+    cut {t = t} {cs = cs} {cs' = k .cells} {gen = gen} {g = k .generation} {list = w .list} {is = w .first} {is' = w .firstLeft} {xs = w .second} {xs' = w .secondLeft} (w .previewed) (w .committed) r
 
 -- ---- over records
-
--- a commit that answered
-applied-is : (p : Paper Committed) (g : ℕ) (cs cs' : List Float) → Applies p (Generation g) cs cs' → p ≡ answers (record { cells = cs'; generation = g })
-applied-is (answers k) g cs cs' a = λ i. answers (record { cells = sym (a .cells) i; generation = sym (same-answer (a .answer)) i })
-applied-is (refuses n) g cs cs' a = absurd (no-answer n g (sym (a .answer)))
 
 take-front : {A : Type 0} (xs ys : List A) → take (length xs) (xs ++ ys) ≡ xs
 take-front [] ys = refl
@@ -117,132 +134,154 @@ take-over : {A : Type 0} (xs b : List A) → take (length xs) (over xs b) ≡ xs
 unfolding over
 take-over xs b = take-front xs (drop (length xs) b)
 
--- what was proposed: the changes, and the records that hold them
-record Holds (p : Paper (List TurnChange)) (c : ℕ) (rs rs' : List TurnChange) : Type 0 where
+-- what was proposed: the changes, and the records that hold them; the list has the stamp of its stock
+record Holds (st : Stamp) (p : Paper (List TurnChange)) (list : ChangeList) (rs rs' : List TurnChange) : Type 0 where
   changes : List TurnChange
   answer : p ≡ answers changes
-  records : take c rs' ≡ changes
+  stamp : list .stamp ≡ st
+  records : take (list .count) rs' ≡ changes
 
-holds : (p : Paper (List TurnChange)) (c : ℕ) (rs rs' : List TurnChange) → Written p (Changes c) rs rs' → Holds p c rs rs'
-holds (refuses n) c rs rs' w = absurd (no-answer n c (sym (w .answer)))
-holds (answers l) c rs rs' w = record { changes = l; answer = refl; records = ap₂ (λ (n : ℕ) (x : List TurnChange). take n x) (same-answer (w .answer)) (w .records) ∙ take-over l rs }
+holds : (st : Stamp) (p : Paper (List TurnChange)) (list : ChangeList) (rs rs' : List TurnChange) → Written st p (Listed list) rs rs' → Holds st p list rs rs'
+holds st (refuses n) list rs rs' w = absurd (no-answer n list (sym (w .answer)))
+holds st (answers l) list rs rs' w =
+    let e : list ≡ record { count = length l; stamp = st } = same-answer (w .answer) in
+    record { changes = l; answer = refl; stamp = ap (λ (x : ChangeList). x .stamp) e; records = ap₂ (λ (x : ChangeList) (y : List TurnChange). take (x .count) y) e (w .records) ∙ take-over l rs }
 
 -- A RUN OVER RECORDS is a run of calls through lent lists: what is said of the one holds of the other.
-pub records-ran : {spec : TurnStockSpec} {k m : Committed} {l : List Cutter} → RanRecords spec k l m → Ran spec k l m
+pub records-ran : {spec : TurnStockSpec} {edition rings : ℕ} {k m : Committed} {l : List Cutter} → RanRecords spec edition rings k l m → Ran spec edition rings k l m
 records-ran no-records = start
-records-ran {spec} (records-cut {t} {l} {cs} {cs'} {gen} {g} {c} {rs} {rs'} w a r) =
-    let h = holds (cutterPreview spec t cs (length rs)) c rs rs' w in
-    rule-ran (length rs) (h .changes) (record { cells = cs'; generation = g }) (h .answer) (ap (commitOf spec cs gen) (sym (h .records)) ∙ applied-is (commitOf spec cs gen (take c rs')) g cs cs' a) (records-ran r)
+records-ran {spec} {edition} {rings} (records-cut {t} {l} {cs} {cs'} {gen} {g} {list} {rs} {rs'} w a r) =
+    let s = stockFrom spec edition rings gen in
+    let h = holds (stampOf edition gen) (cutterPreview spec t cs (length rs)) list rs rs' w in
+    rule-ran (length rs) (h .changes) (record { cells = cs'; generation = g }) (h .answer)
+    (sym (own-commit s cs (h .changes))
+    ∙ ap₂ (commitOf s cs) (sym (h .stamp)) (sym (h .records))
+    ∙ applied-is spec edition rings (commitOf s cs (list .stamp) (take (list .count) rs')) gen g cs cs' a)
+    (records-ran r)
 
 -- ---- where each commit is `commit_unasked`
 
--- a preview that answered with a count: of how many cells, and that the lists hold as many changes
-record Asked (spec : TurnStockSpec) (cs : List Float) (c : ℕ) (is' : List ℕ) (xs' : List Float) : Type 0 where
+-- a preview that answered with a list: of how many cells, and that the lists hold as many changes
+record Asked (spec : TurnStockSpec) (st : Stamp) (cs : List Float) (list : ChangeList) (is' : List ℕ) (xs' : List Float) : Type 0 where
   bins : ℕ
-  stock : stockOf spec cs ≡ answers bins
-  room : c ≤ roomOf (length is') (length xs')
+  counted : stockOf spec cs ≡ answers bins
+  stamp : list .stamp ≡ st
+  room : list .count ≤ roomOf (length is') (length xs')
 
-answered : (p : Paper (List TurnChange)) (c : ℕ) → answers c ≡ countOf p → (l : List TurnChange) × (p ≡ answers l)
-answered (answers l) c e = (l, refl)
-answered (refuses r) c e = absurd (no-answer r c (sym e))
-
-asked : (spec : TurnStockSpec) (t : Cutter) (cs : List Float) (c : ℕ) (is is' : List ℕ) (xs xs' : List Float) → Proposed (cutterPreview spec t cs (roomOf (length is) (length xs))) (Changes c) is is' xs xs' → Asked spec cs c is' xs'
-asked spec t cs c is is' xs xs' p =
+asked : (spec : TurnStockSpec) (st : Stamp) (t : Cutter) (cs : List Float) (list : ChangeList) (is is' : List ℕ) (xs xs' : List Float) → Proposed st (cutterPreview spec t cs (roomOf (length is) (length xs))) (Listed list) is is' xs xs' → Asked spec st cs list is' xs'
+asked spec st t cs list is is' xs xs' p =
     let room = roomOf (length is) (length xs) in
-    let y = answered (cutterPreview spec t cs room) c (p .answer) in
+    let y = answered st (cutterPreview spec t cs room) list (p .answer) in
     let q = preview-is spec t cs room (y .0) (y .1) in
-    let w = wrote (y .0) c is is' xs xs' (same-proposal (settled room (y .0)) (cutterPreview spec t cs room) (Changes c) is is' xs xs' (preview-settled spec t cs room (y .0) (y .1) ∙ sym (y .1)) p) in
-    record { bins = q .0; stock = q .1; room = rw (w .count, w .indices, w .numbers) (room-kept (y .0) is xs (w .room)) }
+    let o = of-stock st (settled room (y .0)) list is is' xs xs' (same-listing st (settled room (y .0)) (cutterPreview spec t cs room) (Listed list) is is' xs xs' (preview-settled spec t cs room (y .0) (y .1) ∙ sym (y .1)) p) in
+    let w = wrote (y .0) (list .count) is is' xs xs' (o .tally) in
+    record { bins = q .0; counted = q .1; stamp = o .stamp; room = rw (w .count, w .indices, w .numbers) (room-kept (y .0) is xs (w .room)) }
+
+-- the rule of the whole commit of such a list is that of the commit that asks nothing again
+unasked-is : (spec : TurnStockSpec) (edition rings gen n : ℕ) (cs : List Float) (list : ChangeList) (is' : List ℕ) (xs' : List Float) → stockOf spec cs ≡ answers n → list .stamp ≡ stampOf edition gen → list .count ≤ roomOf (length is') (length xs')
+    → applyOf (stockFrom spec edition rings gen) cs list is' xs' ≡ commitHeld (cleanSpec spec) n cs gen is' xs' (list .count)
+unasked-is spec edition rings gen n cs list is' xs' e f h =
+    let s = stockFrom spec edition rings gen in
+    apply-is s cs list is' xs' n (ap (stampedStock s cs) f ∙ stamped-is s cs (stampOf edition gen) n e (own-stamp (stampOf edition gen))) h
 
 -- A RUN OF COMMITS THAT ASK NOTHING AGAIN, on the n cells of the spec, is a run of calls.
-pub unasked-ran : {spec : TurnStockSpec} {n : ℕ} {k m : Committed} {l : List Cutter} → cellsOf spec ≡ answers n → RanUnasked spec n k l m → Ran spec k l m
+pub unasked-ran : {spec : TurnStockSpec} {edition rings n : ℕ} {k m : Committed} {l : List Cutter} → cellsOf spec ≡ answers n → RanUnasked spec edition rings n k l m → Ran spec edition rings k l m
 unasked-ran e none-asked = start
-unasked-ran {spec} {n} e (unasked-cut {t} {l} {cs} {cs'} {gen} {g} {c} {is} {is'} {xs} {xs'} p a r) =
-    let w = asked spec t cs c is is' xs xs' p in
-    let s : w .bins ≡ n = same-answer (sym (stocked spec cs (w .bins) (w .stock) .count) ∙ e) in
-    let f = apply-is spec cs gen is' xs' c n (w .stock ∙ ap answers s) (w .room) in
-    cut p (same-outcome (applyOf spec cs gen is' xs' c) (commitHeld _ n cs gen is' xs' c) (Generation g) cs cs' f a) (unasked-ran e r)
+unasked-ran {spec} {edition} {rings} {n} e (unasked-cut {t} {l} {cs} {cs'} {gen} {g} {list} {is} {is'} {xs} {xs'} p a r) =
+    let w = asked spec (stampOf edition gen) t cs list is is' xs xs' p in
+    let s : w .bins ≡ n = same-answer (sym (stocked spec cs (w .bins) (w .counted) .count) ∙ e) in
+    let stock = stockFrom spec edition rings gen in
+    let f = unasked-is spec edition rings gen n cs list is' xs' (w .counted ∙ ap answers s) (w .stamp) (w .room) in
+    cut p (same-outcome stock (applyOf stock cs list is' xs') (commitHeld (cleanSpec spec) n cs gen is' xs' (list .count)) (Stock (stockFrom spec edition rings g)) cs cs' f a) (unasked-ran e r)
 
 -- ---- calls whose answers are not known beforehand: none is refused
 
 -- A PREVIEW IS ACCEPTED: whatever meets its promise, with room for every cell and the cut in its domain.
-pub preview-call-accepted : (spec : TurnStockSpec) (n : ℕ) (t : Cutter) (cs : List Float) (r : Previewed) (is is' : List ℕ) (xs xs' : List Float) → stockOf spec cs ≡ answers n → n ≤ roomOf (length is) (length xs) → cutterGood t ≡ true
-    → Proposed (cutterPreview spec t cs (roomOf (length is) (length xs))) r is is' xs xs' → previewedPaper r ≡ answers (length (changesTo (actCell (cutterAct spec t)) cs n))
-preview-call-accepted spec n t cs r is is' xs xs' e h g p = p .answer ∙ ap countOf (good-accepted spec n t cs (roomOf (length is) (length xs)) e h g)
+pub preview-call-accepted : (st : Stamp) (spec : TurnStockSpec) (n : ℕ) (t : Cutter) (cs : List Float) (r : Previewed) (is is' : List ℕ) (xs xs' : List Float) → stockOf spec cs ≡ answers n → n ≤ roomOf (length is) (length xs) → cutterGood t ≡ true
+    → Proposed st (cutterPreview spec t cs (roomOf (length is) (length xs))) r is is' xs xs' → previewedPaper r ≡ answers (record { count = length (changesTo (actCell (cutterAct spec t)) cs n); stamp = st })
+preview-call-accepted st spec n t cs r is is' xs xs' e h g p = p .answer ∙ ap (λ (q : Paper (List TurnChange)). stamped st (countOf q)) (good-accepted spec n t cs (roomOf (length is) (length xs)) e h g)
 
--- A COMMIT IS ACCEPTED: whatever meets its promise, of what a preview left in the lists, while generations last.
-pub commit-call-accepted : (spec : TurnStockSpec) (n : ℕ) (t : Cutter) → HeldSpec spec → HeldCutter t → (cs cs' : List Float) → Good spec n cs → (gen c : ℕ) (r : Applied) (is is' : List ℕ) (xs xs' : List Float) → gen < lastGeneration
-    → Proposed (cutterPreview spec t cs (roomOf (length is) (length xs))) (Changes c) is is' xs xs' → Applies (applyOf spec cs gen is' xs' c) r cs cs' → appliedPaper r ≡ answers (gen + 1)
-commit-call-accepted spec n t hs ht cs cs' b gen c r is is' xs xs' h p a =
+-- A COMMIT IS ACCEPTED: whatever meets its promise, of what a preview of the same stock left in the lists, while generations last.
+pub commit-call-accepted : (k : TurnStock) (n : ℕ) (t : Cutter) → HeldSpec (k .spec) → HeldCutter t → (cs cs' : List Float) → Good (k .spec) n cs → (list : ChangeList) (r : Applied) (is is' : List ℕ) (xs xs' : List Float) → k .stamp .generation < lastGeneration
+    → Proposed (k .stamp) (cutterPreview (k .spec) t cs (roomOf (length is) (length xs))) (Listed list) is is' xs xs' → Applies k (applyOf k cs list is' xs') r cs cs' → appliedPaper r ≡ answers (stockWith k (k .rings) (k .stamp .generation + 1))
+commit-call-accepted k n t hs ht cs cs' b list r is is' xs xs' h p a =
+    let spec = k .spec in
     let room = roomOf (length is) (length xs) in
-    let y = answered (cutterPreview spec t cs room) c (p .answer) in
+    let y = answered (k .stamp) (cutterPreview spec t cs room) list (p .answer) in
     let s = tool-sound spec n hs (b .count) t ht (accepted-good spec t cs room (y .0) (y .1)) in
     let act = cutterAct spec t in
-    let q = same-proposal (proposed act cs room n) (cutterPreview spec t cs room) (Changes c) is is' xs xs' (sym (s .rule cs room (good-stock b))) p in
-    a .answer ∙ ap generationOf (lent-accepts b (actCell act) (act-cuts b act (s .plain)) gen c is is' xs xs' h q)
+    let q = same-listing (k .stamp) (proposed act cs room n) (cutterPreview spec t cs room) (Listed list) is is' xs xs' (sym (s .rule cs room (good-stock b))) p in
+    a .answer ∙ ap (λ (x : Paper Committed). stockAt k (generationOf x)) (lent-accepts k b (actCell act) (act-cuts b act (s .plain)) list is is' xs xs' h q)
 
 -- WHATEVER IS CALLED IS ACCEPTED, cut after cut: on a stock that is not refused, with cuts in their domain, room for every cell and generations to spare. So it is a run.
-pub tried-accepted : {spec : TurnStockSpec} {n : ℕ} {k : Committed} {l : List Cutter} {p : Paper Committed} → HeldSpec spec → Good spec n (k .cells) → Each HeldCutter l → Each (λ (t : Cutter). cutterGood t ≡ true) l
-    → k .generation + length l ≤ lastGeneration → Tried spec n k l p → (m : Committed) × (p ≡ answers m) × Ran spec k l m
+pub tried-accepted : {spec : TurnStockSpec} {edition rings n : ℕ} {k : Committed} {l : List Cutter} {p : Paper Committed} → HeldSpec spec → Good spec n (k .cells) → Each HeldCutter l → Each (λ (t : Cutter). cutterGood t ≡ true) l
+    → k .generation + length l ≤ lastGeneration → Tried spec edition rings n k l p → (m : Committed) × (p ≡ answers m) × Ran spec edition rings k l m
 tried-accepted {k = k} hs b ht gs h all-made = (k, refl, start)
-tried-accepted {spec} {n} hs b ht gs h (not-previewed {t} {l} {cs} {gen} {r} {is} {is'} {xs} {xs'} room p) =
-    absurd (no-answer _ _ (preview-call-accepted spec n t cs _ is is' xs xs' (good-stock b) room (gs .0) p))
-tried-accepted {spec} {n} hs b ht gs h (not-committed {t} {l} {cs} {cs'} {gen} {c} {a} {r} {is} {is'} {xs} {xs'} room p w e) =
-    absurd (no-answer _ _ (sym e ∙ commit-call-accepted spec n t hs (ht .0) cs cs' b gen c a is is' xs xs' (omega arith) p w))
-tried-accepted {spec} {n} hs b ht gs h (made {t} {l} {cs} {cs'} {gen} {g} {c} {is} {is'} {xs} {xs'} room p a r) =
-    let w = called hs t (ht .0) b gen g c is is' xs xs' p a in
+tried-accepted {spec} {edition} {rings} {n} hs b ht gs h (not-previewed {t} {l} {cs} {gen} {r} {is} {is'} {xs} {xs'} room p) =
+    absurd (no-answer _ _ (preview-call-accepted (stampOf edition gen) spec n t cs _ is is' xs xs' (good-stock b) room (gs .0) p))
+tried-accepted {spec} {edition} {rings} {n} hs b ht gs h (not-committed {t} {l} {cs} {cs'} {gen} {list} {a} {r} {is} {is'} {xs} {xs'} room p w e) =
+    absurd (no-answer _ _ (sym e ∙ commit-call-accepted (stockFrom spec edition rings gen) n t hs (ht .0) cs cs' b list a is is' xs xs' (omega arith) p w))
+tried-accepted {spec} {edition} {rings} {n} hs b ht gs h (made {t} {l} {cs} {cs'} {gen} {g} {list} {is} {is'} {xs} {xs'} room p a r) =
+    let w = called hs t (ht .0) b gen g list is is' xs xs' p a in
     let e = w .generation in
     let v = tried-accepted hs (w .good) (ht .1) (gs .1) (omega arith) r in
     (v .0, v .1, cut p a (v .2))
 
 -- ANY ORDER, of cuts of one side: called in whatever order, all are accepted, and they leave the same cells and the same generation.
-pub tried-any-order : {spec : TurnStockSpec} {n : ℕ} {k : Committed} {l l' : List Cutter} {p p' : Paper Committed} → HeldSpec spec → HeldList (k .cells) → stockOf spec (k .cells) ≡ answers n → Each HeldCutter l → Each (λ (t : Cutter). cutterGood t ≡ true) l
-    → k .generation + length l ≤ lastGeneration → (σ : TurnSide) → ToolsOf spec σ l → List·Permᴰ l l' → Tried spec n k l p → Tried spec n k l' p' → (m : Committed) × (p ≡ answers m) × (p' ≡ answers m)
-tried-any-order {spec} {n} {k} {l} {l'} hs hc e ht gs h σ os d r r' =
+pub tried-any-order : {spec : TurnStockSpec} {edition rings n : ℕ} {k : Committed} {l l' : List Cutter} {p p' : Paper Committed} → HeldSpec spec → HeldList (k .cells) → stockOf spec (k .cells) ≡ answers n → Each HeldCutter l → Each (λ (t : Cutter). cutterGood t ≡ true) l
+    → k .generation + length l ≤ lastGeneration → (σ : TurnSide) → ToolsOf spec σ l → List·Permᴰ l l' → Tried spec edition rings n k l p → Tried spec edition rings n k l' p' → (m : Committed) × (p ≡ answers m) × (p' ≡ answers m)
+tried-any-order {spec} {edition} {rings} {n} {k} {l} {l'} hs hc e ht gs h σ os d r r' =
     let b = stock-good hs hc e in
     let v = tried-accepted hs b ht gs h r in
     let v' = tried-accepted hs b (each-perm HeldCutter d ht) (each-perm (λ (t : Cutter). cutterGood t ≡ true) d gs) (subst (λ (j : ℕ). k .generation + j ≤ lastGeneration) (perm-length d) h) r' in
     (v .0, v .1, v' .1 ∙ ap answers (sym (run-any-order hs hc e ht (v .2) d (v' .2) σ os)))
 
--- ---- there are such runs: every job that the demand is about has one of each kind
+-- ---- there are such runs: every job that the demand is about has one of each kind, whatever the edition and the rings of its stock
 
-pub record Runs (spec : TurnStockSpec) (n : ℕ) (k : Committed) (l : List Cutter) : Type 0 where
+pub record Runs (spec : TurnStockSpec) (edition rings n : ℕ) (k : Committed) (l : List Cutter) : Type 0 where
   pub left : Committed
-  pub ran : Ran spec k l left
-  pub tried : Tried spec n k l (answers left)
-  pub unasked : RanUnasked spec n k l left
-  pub records : RanRecords spec k l left
+  pub ran : Ran spec edition rings k l left
+  pub tried : Tried spec edition rings n k l (answers left)
+  pub unasked : RanUnasked spec edition rings n k l left
+  pub records : RanRecords spec edition rings k l left
 
 -- one cut more
-more-runs : (spec : TurnStockSpec) (n room : ℕ) (t : Cutter) (l : List Cutter) (cs : List Float) (gen : ℕ) (changes : List TurnChange) (k : Committed) → stockOf spec cs ≡ answers n → n ≤ room → cutterPreview spec t cs room ≡ answers changes
-    → commitOf spec cs gen changes ≡ answers k → Runs spec n k l → Runs spec n (record { cells = cs; generation = gen }) (t ∷ l)
-more-runs spec n room t l cs gen changes k s h e f r =
-    let w = two-calls spec t cs gen room changes k e f in
+more-runs : (spec : TurnStockSpec) (edition rings n room : ℕ) (t : Cutter) (l : List Cutter) (cs : List Float) (gen : ℕ) (changes : List TurnChange) (k : Committed) → stockOf spec cs ≡ answers n → n ≤ room → cutterPreview spec t cs room ≡ answers changes
+    → ownCommit spec cs gen changes ≡ answers k → Runs spec edition rings n k l → Runs spec edition rings n (record { cells = cs; generation = gen }) (t ∷ l)
+more-runs spec edition rings n room t l cs gen changes k s h e f r =
+    let w = two-calls spec edition rings t cs gen room changes k e f in
+    let stock = stockFrom spec edition rings gen in
+    let list = listAt spec edition rings gen (length changes) in
     let is' = w .firstLeft in
     let xs' = w .secondLeft in
-    let q = asked spec t cs (w .count) (w .first) is' (w .second) xs' (w .previewed) in
+    let q = asked spec (stampOf edition gen) t cs (w .list) (w .first) is' (w .second) xs' (w .previewed) in
     let rs : List TurnChange = replicate {A = TurnChange} room (record { index = 0; before = cellAt cs 0; after = cellAt cs 0 }) in
     let e' = ap (cutterPreview spec t cs) (length-replicate {A = TurnChange} room _) ∙ e in
     record {
       left = r .left;
       ran = cut (w .previewed) (w .committed) (r .ran);
       tried = made (subst (λ (x : ℕ). n ≤ x) (sym (w .space)) h) (w .previewed) (w .committed) (r .tried);
-      unasked = unasked-cut (w .previewed) (same-outcome (commitHeld _ n cs gen is' xs' (w .count)) (applyOf spec cs gen is' xs' (w .count)) (Generation (k .generation)) cs (k .cells) (sym (apply-is spec cs gen is' xs' (w .count) n s (q .room))) (w .committed)) (r .unasked);
-      records = records-cut {rs = rs} {rs' = over changes rs} (record { answer = ap countOf (sym e'); records = ap (λ (p : Paper (List TurnChange)). over (writtenOf p) rs) (sym e') })
-          (applied-as (commitOf spec cs gen (take (length changes) (over changes rs))) k cs (ap (commitOf spec cs gen) (take-over changes rs) ∙ f)) (r .records);
+      unasked = unasked-cut (w .previewed)
+          (same-outcome stock (commitHeld (cleanSpec spec) n cs gen is' xs' (w .list .count)) (applyOf stock cs (w .list) is' xs') (Stock (stockFrom spec edition rings (k .generation))) cs (k .cells)
+          (sym (unasked-is spec edition rings gen n cs (w .list) is' xs' s (q .stamp) (q .room))) (w .committed))
+          (r .unasked);
+      records = records-cut {list = list} {rs = rs} {rs' = over changes rs}
+          (record { answer = ap (λ (p : Paper (List TurnChange)). stamped (stampOf edition gen) (countOf p)) (sym e'); records = ap (λ (p : Paper (List TurnChange)). over (writtenOf p) rs) (sym e') })
+          (applied-as spec edition rings (commitOf stock cs (stampOf edition gen) (take (length changes) (over changes rs))) gen k cs (own-commit stock cs (take (length changes) (over changes rs)) ∙ ap (ownCommit spec cs gen) (take-over changes rs) ∙ f))
+          (r .records);
     }
 
-runs-from : (spec : TurnStockSpec) (n room : ℕ) → HeldSpec spec → n ≤ room → (l : List Cutter) → Each HeldCutter l → Each (λ (t : Cutter). cutterGood t ≡ true) l → (k : Committed) → Good spec n (k .cells) → k .generation + length l ≤ lastGeneration → Runs spec n k l
-runs-from spec n room hs h [] ht gs k b g = record { left = k; ran = start; tried = all-made; unasked = none-asked; records = no-records }
-runs-from spec n room hs h (t ∷ l) ht gs k b g =
+runs-from : (spec : TurnStockSpec) (edition rings n room : ℕ) → HeldSpec spec → n ≤ room → (l : List Cutter) → Each HeldCutter l → Each (λ (t : Cutter). cutterGood t ≡ true) l → (k : Committed) → Good spec n (k .cells) → k .generation + length l ≤ lastGeneration → Runs spec edition rings n k l
+runs-from spec edition rings n room hs h [] ht gs k b g = record { left = k; ran = start; tried = all-made; unasked = none-asked; records = no-records }
+runs-from spec edition rings n room hs h (t ∷ l) ht gs k b g =
     let act = cutterAct spec t in
     let cs = k .cells in
     let changes : List TurnChange = changesTo (actCell act) cs n in
     let s = tool-sound spec n hs (b .count) t (ht .0) (gs .0) in
     let cuts = act-cuts b act (s .plain) in
     let next : Committed = record { cells = putAll cs changes; generation = k .generation + 1 } in
-    more-runs spec n room t l cs (k .generation) changes next (good-stock b) h (good-accepted spec n t cs room (good-stock b) h (gs .0)) (commit-accepts b (actCell act) cuts (k .generation) (omega arith))
-    (runs-from spec n room hs h l (ht .1) (gs .1) next (put-good b (actCell act) cuts) (omega arith))
+    more-runs spec edition rings n room t l cs (k .generation) changes next (good-stock b) h (good-accepted spec n t cs room (good-stock b) h (gs .0)) (commit-accepts b (actCell act) cuts (k .generation) (omega arith))
+    (runs-from spec edition rings n room hs h l (ht .1) (gs .1) next (put-good b (actCell act) cuts) (omega arith))
 
-pub job-runs : {spec : TurnStockSpec} {room n : ℕ} {k : Committed} {l : List Cutter} → ToolsJob spec room n k l → Runs spec n k l
-job-runs {spec} {room} {n} {k} {l} j = runs-from spec n room (j .spec-held) (j .space) l (j .tools-held) (j .good) k (stock-good (j .spec-held) (j .cells-held) (j .stock)) (j .spare)
+pub job-runs : {spec : TurnStockSpec} {edition rings room n : ℕ} {k : Committed} {l : List Cutter} → ToolsJob spec room n k l → Runs spec edition rings n k l
+job-runs {spec} {edition} {rings} {room} {n} {k} {l} j = runs-from spec edition rings n room (j .spec-held) (j .space) l (j .tools-held) (j .good) k (stock-good (j .spec-held) (j .cells-held) (j .stock)) (j .spare)

@@ -30,16 +30,20 @@ use Rattle.stock.specs.declared.TurnStockSpec.{TurnStockSpec}
 use Rattle.stock.specs.declared.TurnChange.{TurnChange}
 use Rattle.stock.specs.Spec.{cleanSpec}
 use Rattle.stock.specs.Cell.{cellAt, stockOf}
-use Rattle.stock.specs.Stock.{stockFrom}
+use Rattle.stock.specs.declared.TurnStock.{TurnStock}
+use Rattle.stock.specs.declared.Stamp.{Stamp}
+use Rattle.stock.specs.Stock.{sameStamp, stockWith}
+use Rattle.changes.specs.declared.ChangeList.{ChangeList}
 use Rattle.stock.proofs.Count.{demanded, no-answer, same-answer, stocked}
 use Rattle.stock.proofs.Bins.{HeldSpec, HeldList}
+use Rattle.stock.proofs.Stamps.{stamps-agree}
 use Rattle.reach.specs.Reach.{actCell}
-use Rattle.changes.specs.declared.Previewed.the-variants.{Changes}
-use Rattle.changes.specs.Change.{changesTo, changesFrom, indicesOf, numbersOf, roomOf, Proposed}
+use Rattle.changes.specs.declared.Previewed.the-variants.{Listed}
+use Rattle.changes.specs.Change.{changesTo, changesFrom, indicesOf, numbersOf, roomOf, stamped, countOf, Proposed}
 use Rattle.changes.proofs.ReadBack.{read-back}
 use Rattle.cuts.specs.Preview.{previewOf, previewCut}
-use Rattle.changes.specs.declared.Applied.the-variants.{Generation}
-use Rattle.changes.specs.Commit.{Committed, putAll, commitIn, applyOf, generationOf, cellsAfter, Applies}
+use Rattle.changes.specs.declared.Applied.the-variants as commit
+use Rattle.changes.specs.Commit.{Committed, putAll, commitIn, applyOf, generationOf, stockAt, cellsAfter, Applies}
 use Rattle.changes.specs.Difference.{otherCell, differenceOf}
 use Rattle.changes.proofs.Stocks.{stock-good}
 use Rattle.changes.proofs.Accepted.{good-bins}
@@ -97,30 +101,33 @@ preview-lists spec t cs room l e =
     let p = preview-is spec t cs room l e in
     (p .0, p .1, subst (Lists (actCell (cutterAct spec t)) cs (p .0)) (sym (p .2)) (changes-list (actCell (cutterAct spec t)) cs (p .0)))
 
--- a proposal that answered with a count: its changes are that many, and they read back from the first records
-record Read (p : Paper (List TurnChange)) (k : ℕ) (is is' : List ℕ) (xs xs' : List Float) : Type 0 where
+-- a proposal that answered with a list: it has the stock's stamp, its changes are as many as it counts, and they read back from the first records
+record Read (st : Stamp) (p : Paper (List TurnChange)) (list : ChangeList) (is is' : List ℕ) (xs xs' : List Float) : Type 0 where
   changes : List TurnChange
   answer : p ≡ answers changes
-  count : k ≡ length changes
-  records : changesFrom is' xs' k ≡ changes
+  stamp : list .stamp ≡ st
+  count : list .count ≡ length changes
+  records : changesFrom is' xs' (list .count) ≡ changes
   indices : is' ≡ over (indicesOf changes) is
   numbers : xs' ≡ over (numbersOf changes) xs
 
-read : {k : ℕ} {is is' : List ℕ} {xs xs' : List Float} (p : Paper (List TurnChange)) → Proposed p (Changes k) is is' xs xs' → Read p k is is' xs xs'
-read {k} (refuses n) h = absurd (no-answer n k (sym (h .answer)))
-read {k} {is} {is'} {xs} {xs'} (answers l) h =
-    let e : k ≡ length l = same-answer (h .answer) in
+read : {st : Stamp} {list : ChangeList} {is is' : List ℕ} {xs xs' : List Float} (p : Paper (List TurnChange)) → Proposed st p (Listed list) is is' xs xs' → Read st p list is is' xs xs'
+read {st} {list} (refuses n) h = absurd (no-answer n list (sym (h .answer)))
+read {st} {list} {is} {is'} {xs} {xs'} (answers l) h =
+    let v : list ≡ record { count = length l; stamp = st } = same-answer (h .answer) in
+    let e : list .count ≡ length l = ap (λ (x : ChangeList). x .count) v in
     let i : is' ≡ over (indicesOf l) is = h .indices in
     let x : xs' ≡ over (numbersOf l) xs = h .numbers in
-    record { changes = l; answer = refl; count = e; records = (λ j. changesFrom (i j) (x j) (e j)) ∙ read-back l is xs; indices = i; numbers = x }
+    record { changes = l; answer = refl; stamp = ap (λ (y : ChangeList). y .stamp) v; count = e; records = (λ j. changesFrom (i j) (x j) (e j)) ∙ read-back l is xs; indices = i; numbers = x }
 
--- WHAT IT WRITES: a preview that answers `Changes k` leaves k records, and those are the changes of the cut; the rest of the lists is as it was.
-pub preview-writes : (spec : TurnStockSpec) (t : Cutter) (cs : List Float) (k : ℕ) (is is' : List ℕ) (xs xs' : List Float) → Proposed (cutterPreview spec t cs (roomOf (length is) (length xs))) (Changes k) is is' xs xs' → Previews spec t cs k is is' xs xs'
-preview-writes spec t cs k is is' xs xs' h =
+-- WHAT IT WRITES: a preview that answers a list leaves as many records as it counts, and those are the changes of the cut; the rest of the lists is as it was. The list has the stamp of the stock that was previewed.
+pub preview-writes : (k : TurnStock) (t : Cutter) (cs : List Float) (list : ChangeList) (is is' : List ℕ) (xs xs' : List Float) → Proposed (k .stamp) (cutterPreview (k .spec) t cs (roomOf (length is) (length xs))) (Listed list) is is' xs xs'
+    → Previews (k .spec) t cs (list .count) is is' xs xs' × (list .stamp ≡ k .stamp)
+preview-writes k t cs list is is' xs xs' h =
     let room = roomOf (length is) (length xs) in
-    let w = read (cutterPreview spec t cs room) h in
-    let p = preview-lists spec t cs room (w .changes) (w .answer) in
-    record { bins = p .0; stock = p .1; changes = w .changes; lists = p .2; count = w .count; records = w .records; indices = w .indices; numbers = w .numbers }
+    let w = read (cutterPreview (k .spec) t cs room) h in
+    let p = preview-lists (k .spec) t cs room (w .changes) (w .answer) in
+    (record { bins = p .0; stock = p .1; changes = w .changes; lists = p .2; count = w .count; records = w .records; indices = w .indices; numbers = w .numbers }, w .stamp)
 
 -- ---- the difference
 
@@ -136,51 +143,64 @@ difference-lists spec cs ds room l e =
 
 -- ---- commits
 
--- WHAT A COMMIT WRITES: each of the k changes of the lent lists, and no other bin; the generation rises by 1, also with no changes.
-pub commit-writes : (spec : TurnStockSpec) (cs : List Float) (gen : ℕ) (is : List ℕ) (xs : List Float) (k : ℕ) (m : Committed) → applyOf spec cs gen is xs k ≡ answers m → Writes (changesFrom is xs k) cs (m .cells) × (m .generation ≡ gen + 1)
+-- WHAT A COMMIT WRITES: each change of the list, and no other bin; the generation rises by 1, also with no changes. The list has the stock's stamp: its edition and its generation.
+pub commit-writes : (k : TurnStock) (cs : List Float) (list : ChangeList) (is : List ℕ) (xs : List Float) (m : Committed) → applyOf k cs list is xs ≡ answers m
+    → Writes (changesFrom is xs (list .count)) cs (m .cells) × (m .generation ≡ k .stamp .generation + 1) × (list .stamp ≡ k .stamp)
 unfolding applyOf commitIn
-commit-writes spec cs gen is xs k m h =
-    let s = answered (stockOf spec cs) _ m h in
-    let d6 = demanded _ _ _ _ (s .then) in
+commit-writes k cs list is xs m h =
+    let l = changesFrom is xs (list .count) in
+    let s = answered (stockOf (k .spec) cs) _ m h in
+    let d19 = demanded _ _ _ _ (s .then) in
+    let d6 = demanded _ _ _ _ (d19 .1) in
     let p = answered _ _ _ (d6 .1) in
     let d12 = demanded _ _ _ _ (p .then) in
-    let v : _≡_ {A = Committed} (record { cells = putAll cs (changesFrom is xs k); generation = gen + 1 }) m = same-answer (d12 .1) in
-    (subst (λ (y : Committed). Writes (changesFrom is xs k) cs (y .cells)) v (changes-written spec cs (s .value) (changesFrom is xs k) (s .first) (p .first)), sym (ap (λ (y : Committed). y .generation) v))
+    let v : _≡_ {A = Committed} (record { cells = putAll cs l; generation = k .stamp .generation + 1 }) m = same-answer (d12 .1) in (
+      subst (λ (y : Committed). Writes l cs (y .cells)) v (changes-written (k .spec) cs (s .value) l (s .first) (p .first)),
+      sym (ap (λ (y : Committed). y .generation) v),
+      stamps-agree (list .stamp) (k .stamp) (d19 .0),
+    )
 
--- the same of the call: what it leaves in the lent cells
-pub commit-call-writes : (spec : TurnStockSpec) (cs cs' : List Float) (gen g : ℕ) (is : List ℕ) (xs : List Float) (k : ℕ) → Applies (applyOf spec cs gen is xs k) (Generation g) cs cs' → Writes (changesFrom is xs k) cs cs' × (g ≡ gen + 1)
-commit-call-writes spec cs cs' gen g is xs k a = go (applyOf spec cs gen is xs k) refl (a .answer) (a .cells)
+-- the same of the call: what it leaves in the lent cells, and the stock that it answers, whose edition and rings are as they were
+pub commit-call-writes : (k k' : TurnStock) (cs cs' : List Float) (list : ChangeList) (is : List ℕ) (xs : List Float) → Applies k (applyOf k cs list is xs) (commit.Stock k') cs cs'
+    → Writes (changesFrom is xs (list .count)) cs cs' × (k' ≡ stockWith k (k .rings) (k .stamp .generation + 1)) × (list .stamp ≡ k .stamp)
+commit-call-writes k k' cs cs' list is xs a = go (applyOf k cs list is xs) refl (a .answer) (a .cells)
   where
-    go : (p : Paper Committed) → applyOf spec cs gen is xs k ≡ p → answers g ≡ generationOf p → cs' ≡ cellsAfter p cs → Writes (changesFrom is xs k) cs cs' × (g ≡ gen + 1)
-    go (refuses n) e b c = absurd (no-answer n g (sym b))
-    go (answers m) e b c = let w = commit-writes spec cs gen is xs k m e in (subst (Writes (changesFrom is xs k) cs) (sym c) (w .0), same-answer b ∙ w .1)
+    go : (p : Paper Committed) → applyOf k cs list is xs ≡ p → answers k' ≡ stockAt k (generationOf p) → cs' ≡ cellsAfter p cs
+        → Writes (changesFrom is xs (list .count)) cs cs' × (k' ≡ stockWith k (k .rings) (k .stamp .generation + 1)) × (list .stamp ≡ k .stamp)
+    go (refuses n) e b c = absurd (no-answer n k' (sym b))
+    go (answers m) e b c =
+        let w = commit-writes k cs list is xs m e in
+        (subst (Writes (changesFrom is xs (list .count)) cs) (sym c) (w .0), same-answer b ∙ ap (stockWith k (k .rings)) (w .1), w .2)
 
--- PREVIEWS ALWAYS COMMIT: what a preview left in the lists, a commit on the same stock accepts while generations last; each cell is then what the cut makes of it.
-pub previews-commit : (spec : TurnStockSpec) (n : ℕ) (t : Cutter) → HeldSpec spec → HeldCutter t → (cs : List Float) → HeldList cs → stockOf spec cs ≡ answers n
-    → (gen k : ℕ) (is is' : List ℕ) (xs xs' : List Float) → gen < lastGeneration → Proposed (cutterPreview spec t cs (roomOf (length is) (length xs))) (Changes k) is is' xs xs'
-    → (m : Committed) × (applyOf spec cs gen is' xs' k ≡ answers m) × (m .generation ≡ gen + 1) × ((i : ℕ) → i < n → cellAt (m .cells) i ≡ actCell (cutterAct spec t) i (cellAt cs i))
-previews-commit spec n t hs ht cs hc e gen k is is' xs xs' h p =
+-- PREVIEWS ALWAYS COMMIT: what a preview left in the lists, a commit of its list to the same stock accepts while generations last; each cell is then what the cut makes of it.
+pub previews-commit : (k : TurnStock) (n : ℕ) (t : Cutter) → HeldSpec (k .spec) → HeldCutter t → (cs : List Float) → HeldList cs → stockOf (k .spec) cs ≡ answers n
+    → (list : ChangeList) (is is' : List ℕ) (xs xs' : List Float) → k .stamp .generation < lastGeneration → Proposed (k .stamp) (cutterPreview (k .spec) t cs (roomOf (length is) (length xs))) (Listed list) is is' xs xs'
+    → (m : Committed) × (applyOf k cs list is' xs' ≡ answers m) × (m .generation ≡ k .stamp .generation + 1) × ((i : ℕ) → i < n → cellAt (m .cells) i ≡ actCell (cutterAct (k .spec) t) i (cellAt cs i))
+previews-commit k n t hs ht cs hc e list is is' xs xs' h p =
+    let spec = k .spec in
     let room = roomOf (length is) (length xs) in
     let w = read (cutterPreview spec t cs room) p in
     let s = tool-sound spec n hs (stocked spec cs n e .count) t ht (accepted-good spec t cs room (w .changes) (w .answer)) in
     let g = stock-good hs hc e in
     let f = actCell (cutterAct spec t) in
-    (record { cells = putAll cs (changesTo f cs n); generation = gen + 1 }, lent-commits s hs cs hc e gen k is is' xs xs' h p, refl, good-bins g f (act-cuts g (cutterAct spec t) (s .plain)))
+    (record { cells = putAll cs (changesTo f cs n); generation = k .stamp .generation + 1 }, lent-commits k s hs cs hc e list is is' xs xs' h p, refl, good-bins g f (act-cuts g (cutterAct spec t) (s .plain)))
 
 -- ---- moves
 
 -- WHAT A MOVE LEAVES: each change in its bin and no other bin touched; every point that was covered or that one of its rings covers, clipped to the stock; the generation
 -- raised by 1 for the commit and by 1 for each ring that is not empty after clipping.
-pub move-writes : (spec : TurnStockSpec) (cs xs : List Float) (count g : ℕ) (is : List ℕ) (ys : List Float) (k : ℕ) (removed : List Float) (a : Left) → moveOf spec cs xs count g is ys k removed ≡ answers a
-    → Writes (changesFrom is ys k) cs (a .cells) × ((z r : Float) → covered (a .rings) z r ≡ (covered (ringsOf count xs) z r || covered (map (clip (barRing (cleanSpec spec))) (ringsOf (length removed / 4) removed)) z r)) × (a .generation ≡ generationAfter spec g removed)
-move-writes spec cs xs count g is ys k removed a h =
-    let t = taken spec cs xs count g is ys k removed a h in
-    (subst (Writes (changesFrom is ys k) cs) (sym (t .cells)) (changes-written spec cs (t .bins) (changesFrom is ys k) (t .stock) (t .pass)), moved-covers spec cs xs count g is ys k removed a h, t .rises)
+pub move-writes : (k : TurnStock) (cs xs : List Float) (list : ChangeList) (is : List ℕ) (ys : List Float) (removed : List Float) (a : Left) → moveOf k cs xs list is ys removed ≡ answers a
+    → Writes (changesFrom is ys (list .count)) cs (a .cells) × ((z r : Float) → covered (a .rings) z r ≡ (covered (ringsOf (k .rings) xs) z r || covered (map (clip (barRing (cleanSpec (k .spec)))) (ringsOf (length removed / 4) removed)) z r))
+    × (a .generation ≡ generationAfter (k .spec) (k .stamp .generation) removed)
+move-writes k cs xs list is ys removed a h =
+    let t = taken k cs xs list is ys removed a h in
+    (subst (Writes (changesFrom is ys (list .count)) cs) (sym (t .cells)) (changes-written (k .spec) cs (t .bins) (changesFrom is ys (list .count)) (t .counted) (t .pass)), moved-covers k cs xs list is ys removed a h, t .rises)
 
--- the same of the call: what it leaves in the lent cells and rings
-pub move-call-writes : (spec : TurnStockSpec) (cs cs' xs xs' : List Float) (count g : ℕ) (is : List ℕ) (ys : List Float) (k : ℕ) (removed : List Float) (n h : ℕ) → Moves (stockFrom spec count g) (moveOf spec cs xs count g is ys k removed) (Stock (stockFrom spec n h)) cs cs' xs xs'
-    → Writes (changesFrom is ys k) cs cs' × ((z r : Float) → covered (ringsOf n xs') z r ≡ (covered (ringsOf count xs) z r || covered (map (clip (barRing (cleanSpec spec))) (ringsOf (length removed / 4) removed)) z r)) × (h ≡ generationAfter spec g removed)
-move-call-writes spec cs cs' xs xs' count g is ys k removed n h m =
+-- the same of the call: what it leaves in the lent cells and rings, and the stock that it answers, whose edition is as it was
+pub move-call-writes : (k k' : TurnStock) (cs cs' xs xs' : List Float) (list : ChangeList) (is : List ℕ) (ys : List Float) (removed : List Float) → Moves k (moveOf k cs xs list is ys removed) (Stock k') cs cs' xs xs'
+    → Writes (changesFrom is ys (list .count)) cs cs' × ((z r : Float) → covered (ringsOf (k' .rings) xs') z r ≡ (covered (ringsOf (k .rings) xs) z r || covered (map (clip (barRing (cleanSpec (k .spec)))) (ringsOf (length removed / 4) removed)) z r))
+    × (k' ≡ stockWith k (k' .rings) (generationAfter (k .spec) (k .stamp .generation) removed))
+move-call-writes k k' cs cs' xs xs' list is ys removed m =
     let t = left-by m in
-    let w = move-writes spec cs xs count g is ys k removed (t .left) (t .rule) in
-    (subst (Writes (changesFrom is ys k) cs) (sym (t .cells)) (w .0), λ z r. ap (λ (l : List Ring). covered l z r) (t .rings) ∙ w .1 z r, t .generation ∙ w .2)
+    let w = move-writes k cs xs list is ys removed (t .left) (t .rule) in
+    (subst (Writes (changesFrom is ys (list .count)) cs) (sym (t .cells)) (w .0), λ z r. ap (λ (l : List Ring). covered l z r) (t .rings) ∙ w .1 z r, t .stock ∙ ap (stockWith k (k' .rings)) (w .2))

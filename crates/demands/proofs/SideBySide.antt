@@ -84,14 +84,14 @@ compared-bin-turned cs ds i = bin-turned cs ds i
 pub compared-hand-turned : (a b : Side) → bothInHand b a ≡ bothInHand a b
 compared-hand-turned a b = written.in-hand-turned a b
 
--- THE ORDER of two files: the first's refusal, whatever the second is; then the second's; then 24 and 11 (`compare-exactly`, proofs/First)
+-- THE ORDER of two files, of whatever forms and editions: the first's refusal, whatever the second is; then the second's; then 24 and 11 (`compare-exactly`, proofs/First)
 pub first-refused : (f g : Told) (r : Reason) → f .tells ≡ refuses r → filesText f g ≡ fileRefused 1 (refuses r)
 first-refused f g r e = ap (λ (p : Paper Stocked). firstText p f g) e
 
 pub second-refused : (f g : Told) (k : Stocked) (r : Reason) → f .tells ≡ answers k → g .tells ≡ refuses r → filesText f g ≡ fileRefused 2 (refuses r)
 second-refused f g k r e h = ap (λ (p : Paper Stocked). firstText p f g) e ∙ ap (λ (p : Paper Stocked). secondText k f p g) h
 
-pub both-told : (f g : Told) (k j : Stocked) → f .tells ≡ answers k → g .tells ≡ answers j → filesText f g ≡ comparedText (comparedOf (k .spec) (sideOf k f) (j .spec) (sideOf j g))
+pub both-told : (f g : Told) (k j : Stocked) → f .tells ≡ answers k → g .tells ≡ answers j → filesText f g ≡ comparedText (comparedOf (k .stock .spec) (sideOf k f) (j .stock .spec) (sideOf j g))
 both-told f g k j e h = ap (λ (p : Paper Stocked). firstText p f g) e ∙ ap (λ (p : Paper Stocked). secondText k f p g) h
 
 told-same : {p q : Paper Stocked} {a b c d : List Float} → p ≡ q → a ≡ b → c ≡ d → _≡_ {A = Told} (record { tells = p; cells = a; rings = c }) (record { tells = q; cells = b; rings = d })

@@ -17,7 +17,7 @@ use Rattle.reach.specs.Reach.{Act}
 use Rattle.reach.specs.Kinds.{PlainAct, OnlyAt}
 use Rattle.reach.specs.Closed.{closed, ownsAt}
 use Rattle.cuts.specs.Preview.{proposed, previewOf}
-use Rattle.changes.specs.Commit.{Committed, commitOf}
+use Rattle.changes.specs.Commit.{Committed, ownCommit}
 
 -- ---- cuts in turn
 
@@ -26,9 +26,9 @@ pub record Step : Type 0 where
   pub act : Act
   pub preview : List Float → ℕ → Paper (List TurnChange)
 
--- the cut previewed, with room for so many changes, and what that proposes committed; a refusal of either is the answer
+-- the cut previewed, with room for so many changes, and what that proposes committed, as a list of the stock itself, so that 19 does not arise (`turned-asks`, proofs/InTurn); a refusal of either is the answer
 unfoldable pub turned : TurnStockSpec → ℕ → Step → Committed → Paper Committed
-turned spec room u k = onward (u .preview (k .cells) room) (λ l. commitOf spec (k .cells) (k .generation) l)
+turned spec room u k = onward (u .preview (k .cells) room) (λ l. ownCommit spec (k .cells) (k .generation) l)
 
 -- cuts in turn, from the cells and the generation k; the first refusal ends it and is the answer
 unfoldable pub turnedAll : TurnStockSpec → ℕ → Committed → List Step → Paper Committed

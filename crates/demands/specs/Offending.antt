@@ -72,4 +72,4 @@ lineCutter l = single (cutIn (lineOf l))
 
 -- the job's own cells and generation
 abbrev pub ownOf : State → Committed
-ownOf st = record { cells = cellsOfJob (st .run .job) (st .cells); generation = st .run .job .generation }
+ownOf st = record { cells = cellsOfJob (st .run .job) (st .cells); generation = st .run .job .stock .stamp .generation }

@@ -15,6 +15,10 @@ use Rattle.floats.specs.Pick.{pick}
 use Rattle.floats.specs.Numbers.{_+₆₄_, _*₆₄_, zero64, usable}
 use Rattle.numbers.specs.Whole.{wholeUp}
 use Rattle.stock.specs.declared.TurnStockSpec.{TurnStockSpec}
+use Rattle.stock.specs.declared.Stamp.{Stamp}
+use Rattle.stock.specs.declared.TurnStock.{TurnStock}
+use Rattle.stock.specs.Stock.{sameStamp}
+use Rattle.changes.specs.declared.ChangeList.{ChangeList}
 use Rattle.stock.specs.declared.TurnCell.{TurnCell}
 use Rattle.stock.specs.declared.TurnChange.{TurnChange}
 use Rattle.stock.specs.declared.TurnSide.{TurnSide}
@@ -193,14 +197,18 @@ passAsks s p cs l = askNone (firstFall l) 7 ∷ eachAsks s p cs 0 l
 abbrev pub commitInAsks : TurnStockSpec → Paper ℕ → List Float → ℕ → List TurnChange → List Asked
 commitInAsks s p cs gen l = passAsks s p cs l ++ (ask (ltb gen lastGeneration) 12 ∷ [])
 
--- 1, 2, 3, 7, then 8, 21, 22, 23 change by change, 12
-abbrev pub commitAsks : TurnStockSpec → List Float → ℕ → List TurnChange → List Asked
-commitAsks spec cs gen l = stockAsks spec cs ++ commitInAsks (cleanSpec spec) (stockOf spec cs) cs gen l
+-- 1, 2, 3, 19, 7, then 8, 21, 22, 23 change by change, 12: a list with its stamp
+abbrev pub commitAsks : TurnStock → List Float → Stamp → List TurnChange → List Asked
+commitAsks k cs st l =
+    stockAsks (k .spec) cs ++ (ask (sameStamp st (k .stamp)) 19 ∷ commitInAsks (cleanSpec (k .spec)) (stockOf (k .spec) cs) cs (k .stamp .generation) l)
 
--- 1, 2, 3, 6, 7, then 8, 21, 22, 23 change by change, 12: k changes of the lent lists
-abbrev pub applyAsks : TurnStockSpec → List Float → ℕ → List ℕ → List Float → ℕ → List Asked
-applyAsks spec cs gen is xs k =
-    stockAsks spec cs ++ (ask (leb k (change.roomOf (length is) (length xs))) 6 ∷ commitInAsks (cleanSpec spec) (stockOf spec cs) cs gen (changesFrom is xs k))
+-- 1, 2, 3, 19, 6, 7, then 8, 21, 22, 23 change by change, 12: a change list from the lent lists
+abbrev pub applyAsks : TurnStock → List Float → ChangeList → List ℕ → List Float → List Asked
+applyAsks k cs list is xs =
+    stockAsks (k .spec) cs
+    ++ (ask (sameStamp (list .stamp) (k .stamp)) 19
+    ∷ ask (leb (list .count) (change.roomOf (length is) (length xs))) 6
+    ∷ commitInAsks (cleanSpec (k .spec)) (stockOf (k .spec) cs) cs (k .stamp .generation) (changesFrom is xs (list .count)))
 
 -- 1, 2, 3 of the first list and of the second, 6
 abbrev pub differenceAsks : TurnStockSpec → List Float → List Float → ℕ → List Asked
@@ -240,21 +248,23 @@ leftAsks ks q = ask (inHand pieceLimit (kept q) ks) 11 ∷ []
 abbrev pub partsAsks : TurnStockSpec → List Float → List Float → List Float → List Asked
 partsAsks spec cs given xs = stockAsks spec cs ++ (askNone (badRing given) 10 ∷ ask (allStored spec xs 0 given) 11 ∷ [])
 
--- 4, 10, 7, then 8, 21, 22, 23 change by change, 12, 11; behind the tests of a stock
-abbrev pub moveInAsks : TurnStockSpec → List Float → List Float → ℕ → ℕ → List TurnChange → List Float → List Asked
-moveInAsks spec cs xs count g l removed =
-    ask (countFits (barRing (cleanSpec spec)) xs count) 4
+-- 4, 19, 10, 7, then 8, 21, 22, 23 change by change, 12, 11; behind the tests of a stock
+abbrev pub moveInAsks : TurnStock → List Float → List Float → Stamp → List TurnChange → List Float → List Asked
+moveInAsks k cs xs st l removed =
+    ask (countFits (barRing (cleanSpec (k .spec))) xs (k .rings)) 4
+    ∷ ask (sameStamp st (k .stamp)) 19
     ∷ askNone (badRing removed) 10
-    ∷ passAsks (cleanSpec spec) (stockOf spec cs) cs l
-    ++ (ask (leb (generationAfter spec g removed) lastGeneration) 12 ∷ ask (allStored spec xs count removed) 11 ∷ [])
+    ∷ passAsks (cleanSpec (k .spec)) (stockOf (k .spec) cs) cs l
+    ++ (ask (leb (generationAfter (k .spec) (k .stamp .generation) removed) lastGeneration) 12 ∷ ask (allStored (k .spec) xs (k .rings) removed) 11 ∷ [])
 
--- 1, 2, 3, 4, 10, 7, then 8, 21, 22, 23 change by change, 12, 11: a list of changes, 01's order with Req 04's three in the place of 9
-abbrev pub moveListAsks : TurnStockSpec → List Float → List Float → ℕ → ℕ → List TurnChange → List Float → List Asked
-moveListAsks spec cs xs count g l removed = stockAsks spec cs ++ moveInAsks spec cs xs count g l removed
+-- 1, 2, 3, 4, 19, 10, 7, then 8, 21, 22, 23 change by change, 12, 11: a list of changes with its stamp, 01's order with Req 08's 19 and with Req 04's three in the place of 9
+abbrev pub moveListAsks : TurnStock → List Float → List Float → Stamp → List TurnChange → List Float → List Asked
+moveListAsks k cs xs st l removed = stockAsks (k .spec) cs ++ moveInAsks k cs xs st l removed
 
--- 1, 2, 3, 6, 4, 10, 7, then 8, 21, 22, 23 change by change, 12, 11: k changes of the lent lists
-abbrev pub moveAsks : TurnStockSpec → List Float → List Float → ℕ → ℕ → List ℕ → List Float → ℕ → List Float → List Asked
-moveAsks spec cs xs count g is ys k removed = stockAsks spec cs ++ (ask (leb k (change.roomOf (length is) (length ys))) 6 ∷ moveInAsks spec cs xs count g (changesFrom is ys k) removed)
+-- 1, 2, 3, 6, 4, 19, 10, 7, then 8, 21, 22, 23 change by change, 12, 11: a change list from the lent lists
+abbrev pub moveAsks : TurnStock → List Float → List Float → ChangeList → List ℕ → List Float → List Float → List Asked
+moveAsks k cs xs list is ys removed =
+    stockAsks (k .spec) cs ++ (ask (leb (list .count) (change.roomOf (length is) (length ys))) 6 ∷ moveInAsks k cs xs (list .stamp) (changesFrom is ys (list .count)) removed)
 
 -- ---- a stock file
 
@@ -308,7 +318,7 @@ barAsks spec cs = specAsks spec ++ (ask (ofAnswer (cellsOf spec) (λ n. leb (4 *
 abbrev pub cutLineAsks : Job → Cut → ℕ → List Float → List Asked
 cutLineAsks j cut room cs =
     let own = cellsOfJob j cs in
-    previewCutAsks (j .spec) own cut room ++ commitAsks (j .spec) own (j .generation) (writtenOf (previewCut (j .spec) own cut room))
+    previewCutAsks (j .stock .spec) own cut room ++ commitAsks (j .stock) own (j .stock .stamp) (writtenOf (previewCut (j .stock .spec) own cut room))
 
 -- anything but a bar before it is 15
 unfoldable pub firstLineAsks : Line → List Float → List Asked
@@ -322,7 +332,7 @@ firstLineAsks Bad cs = ask false 15 ∷ []
 unfoldable pub laterLineAsks : Job → Line → ℕ → List Float → List Float → List Asked
 laterLineAsks j (Bar spec) room cs rs = ask false 15 ∷ []
 laterLineAsks j (Cutting cut) room cs rs = cutLineAsks j cut room cs
-laterLineAsks j (Removing q) room cs rs = removeAsks (j .spec) rs (j .rings) (j .generation) q
+laterLineAsks j (Removing q) room cs rs = removeAsks (j .stock .spec) rs (j .stock .rings) (j .stock .stamp .generation) q
 laterLineAsks j Arc room cs rs = ask false 13 ∷ []
 laterLineAsks j Bad room cs rs = ask false 15 ∷ []
 

@@ -17,6 +17,12 @@
 // another, accepted or refused with 22 at the first bin that differs. The difference of two stocks is,
 // on the first, accepted or refused with 23 at the first change that adds material.
 //
+// A list is of one stock at one generation (`proofs/Stale`, with `specs/History`): a list of another
+// edition or of another generation is refused, whatever its records are and whatever the stock holds,
+// with 19 where what is asked of the stock before holds, and changes nothing. Through any calls
+// generations only rise and the edition is kept, so that a list whose stock has gone on is refused ever
+// after, until a rebuild. A list out of a preview is of the stock that it was proposed for.
+//
 // Demand 2, what the answers are (`proofs/Second`, with `specs/Wrote`): the root is the nearest value;
 // a preview lists the change of each bin that the cut changes and no other, and its count is that of
 // the records written; a commit writes each change and touches no other bin; what a preview proposes

@@ -10,7 +10,7 @@ fn main() {
     let mut cells = [0.0f64; CELL_NUMBERS];
     let mut rings = [0.0f64; RING_NUMBERS];
     let mut line = [0u8; LINE_LIMIT];
-    let start = job_run::fresh();
+    let start = job_run::fresh(0);
     let ended = job_streams::read_job(
         0,
         job_streams::PART,

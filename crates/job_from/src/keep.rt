@@ -22,8 +22,8 @@ fn write_synced(
     rings: &[f64; RING_NUMBERS],
 ) -> bool {
     let job = run.job;
-    let spec = job.spec;
-    if !stock_streams::write_stock(fd, spec, first_fours(cells, job.cells), rings, job.rings) {
+    let stock = job.stock;
+    if !stock_streams::write_stock(fd, stock, first_fours(cells, job.cells), rings) {
         return false;
     }
     if libc::fsync(fd) < 0 {

@@ -17,7 +17,10 @@ fn write(fd: i32, bytes: &[u8]) {
 
 // Fewer than two arguments.
 pub fn usage() {
-    write(2, b"usage: job_from FROM TO, each a file or -\n");
+    write(
+        2,
+        b"usage: job_from FROM TO [EDITION], FROM and TO each a file or -, EDITION 8 digits, 0 to 9 and A to F\n",
+    );
 }
 
 // The second argument is empty, or too long for a name.
@@ -27,6 +30,12 @@ pub fn no_name() {
         return;
     }
     os::fail(b"TO");
+}
+
+// The third argument is no edition.
+pub fn no_edition() {
+    write(1, b"refused\tedition\n");
+    write(2, b"EDITION: 8 digits, 0 to 9 and A to F\n");
 }
 
 // The stock that a job leaves could not be kept.

@@ -19,11 +19,12 @@ use Rattle.stock.specs.declared.TurnStockSpec.{TurnStockSpec}
 use Rattle.stock.specs.declared.TurnStock.{TurnStock}
 use Rattle.stock.specs.declared.TurnChange.{TurnChange}
 use Rattle.stock.specs.declared.Made.{Made}
+use Rattle.stock.specs.declared.Made.the-variants as made
 use Rattle.stock.specs.declared.Counted.{Counted}
 use Rattle.stock.specs.declared.Counted.the-variants as counted
 use Rattle.stock.specs.Spec.{cleanSpec, cellsOf, countedPaper}
-use Rattle.stock.specs.Cell.{newCells, freshCell, cellsLike}
-use Rattle.stock.specs.Stock.{stockFrom, stockWith, Filled}
+use Rattle.stock.specs.Cell.{newOf, newCells, freshCell, cellsLike}
+use Rattle.stock.specs.Stock.{newStock, stockWith, madePaper, stockMade, Filled}
 use Rattle.stock.proofs.Cells.{length-like}
 use Rattle.stock.proofs.Count.{no-answer, same-answer}
 use Rattle.stock.proofs.Fresh.{new-is}
@@ -60,32 +61,44 @@ pub went : (p : Paper Stand) (j : Job) (cs cs' rs rs' : List Float) → p ≡ an
 went p j cs cs' rs rs' e = rw e (record { answer = refl; cells = refl; rings = refl })
 
 -- ---- a bar
-module _ (spec : TurnStockSpec) (cs : List Float) where
-  pub bar-refused : (c : Counted) (r : Refusal) → countedPaper c ≡ cellsOf spec → c ≡ counted.Refused r → CarriesCells (barLine spec cs) (carried.Refused r) cs cs
+module _ (edition : ℕ) (spec : TurnStockSpec) (cs : List Float) where
+  pub bar-refused : (c : Counted) (r : Refusal) → countedPaper c ≡ cellsOf spec → c ≡ counted.Refused r → CarriesCells (barLine edition spec cs) (carried.Refused r) cs cs
   unfolding barLine
   bar-refused c r e q rs =
       let k : cellsOf spec ≡ refuses (reasonOf r) = sym e ∙ ap countedPaper q in
       refused _ r cs rs (simp (papers, k))
 
-  pub bar-short : (c : Counted) (n : ℕ) → countedPaper c ≡ cellsOf spec → c ≡ counted.Cells n → length cs / 4 < n → CarriesCells (barLine spec cs) (carried.Refused CellsDoNotFit) cs cs
+  pub bar-short : (c : Counted) (n : ℕ) → countedPaper c ≡ cellsOf spec → c ≡ counted.Cells n → length cs / 4 < n → CarriesCells (barLine edition spec cs) (carried.Refused CellsDoNotFit) cs cs
   unfolding barLine
   bar-short c n e q h rs =
       let k : cellsOf spec ≡ answers n = sym e ∙ ap countedPaper q in
       refused _ CellsDoNotFit cs rs (simp (papers, k, lt-leb (4 * n) (length cs) (omega arith)))
 
-  -- the front, filled
-  filled : (n : ℕ) (f : Made) (part' : List Float) → cellsOf spec ≡ answers n → n ≤ length cs / 4 → Filled spec f (take (4 * n) cs) part' → part' ≡ cellsLike (freshCell (cleanSpec spec)) n
-  filled n f part' k h w =
-      let l : length (take (4 * n) cs) ≡ 4 * n = length-take-le (4 * n) cs (omega arith) in
-      w .cells ∙ ap (λ (p : Paper ℕ). newCells spec p (take (4 * n) cs)) (sym (new-is spec _ n k l))
+  -- the front of n cells, filled
+  module _ (c : Counted) (n : ℕ) (f : Made) (part' : List Float) (e : countedPaper c ≡ cellsOf spec) (q : c ≡ counted.Cells n) (h : n ≤ length cs / 4) (w : Filled spec edition f (take (4 * n) cs) part') where
+    cells-are : cellsOf spec ≡ answers n
+    cells-are = sym e ∙ ap countedPaper q
 
-  pub bar-made : (c : Counted) (n : ℕ) (f : Made) (part' : List Float) → countedPaper c ≡ cellsOf spec → c ≡ counted.Cells n → n ≤ length cs / 4
-      → Filled spec f (take (4 * n) cs) part' → CarriesCells (barLine spec cs) (carried.Onward (record { spec = spec; cells = n; rings = 0; generation = 0 })) cs (part' ++ drop (4 * n) cs)
-  unfolding barLine over
-  bar-made c n f part' e q h w rs =
-      let k : cellsOf spec ≡ answers n = sym e ∙ ap countedPaper q in
-      let z = length-like (freshCell (cleanSpec spec)) n in
-      went _ _ cs _ rs rs (rw (filled n f part' k h w) (simp (papers, k, le-leb (4 * n) (length cs) (omega arith), z)))
+    fits : answers n ≡ newOf spec (length (take (4 * n) cs))
+    fits = new-is spec (length (take (4 * n) cs)) n cells-are (length-take-le (4 * n) cs (omega arith))
+
+    filled : part' ≡ cellsLike (freshCell (cleanSpec spec)) n
+    filled = w .cells ∙ ap (λ (p : Paper ℕ). newCells spec p (take (4 * n) cs)) (sym fits)
+
+    -- it is not refused: the cells are counted, and as many are lent
+    pub bar-unrefused : (r : Refusal) → f ≡ made.Refused r → ⊥
+    bar-unrefused r m = no-answer (reasonOf r) (newStock spec edition) (sym (ap madePaper m) ∙ w .answer ∙ ap (stockMade spec edition) (sym fits))
+
+    pub bar-made : (k : TurnStock) → f ≡ made.Stock k → CarriesCells (barLine edition spec cs) (carried.Onward (record { stock = k; cells = n })) cs (part' ++ drop (4 * n) cs)
+    unfolding barLine over
+    bar-made k m rs =
+        let s : k ≡ newStock spec edition = same-answer (sym (ap madePaper m) ∙ w .answer ∙ ap (stockMade spec edition) (sym fits)) in
+        let z = length-like (freshCell (cleanSpec spec)) n in
+        went _ _ cs _ rs rs (rw (filled, s) (simp (papers, cells-are, le-leb (4 * n) (length cs) (omega arith), z)))
+
+-- where an answer goes on
+onward-is : {A B : Type 0} (p : Paper A) (a : A) (f : A → Paper B) → p ≡ answers a → onward p f ≡ f a
+onward-is p a f e = rw e (onward-answers a f)
 
 -- ---- a cut
 
@@ -104,39 +117,43 @@ pub same-number : {A : Type 0} {m n : Reason} → _≡_ {A = Paper A} (refuses m
 same-number h = cc
 
 -- what an answer of a commit says of its rule
-commit-refused : (p : Paper Committed) (a : Applied) (n : Reason) (cs cs' : List Float) → appliedPaper a ≡ refuses n → Applies p a cs cs' → (p ≡ refuses n) × (cs' ≡ cs)
-commit-refused (answers k) a n cs cs' e w = absurd (no-answer n (k .generation) (sym e ∙ w .answer))
-commit-refused (refuses m) a n cs cs' e w = (ap refuses (sym (same-number {A = ℕ} (sym e ∙ w .answer))), w .cells)
+commit-refused : (k : TurnStock) (p : Paper Committed) (a : Applied) (n : Reason) (cs cs' : List Float) → appliedPaper a ≡ refuses n → Applies k p a cs cs' → (p ≡ refuses n) × (cs' ≡ cs)
+commit-refused k (answers c) a n cs cs' e w = absurd (no-answer n _ (sym e ∙ w .answer))
+commit-refused k (refuses m) a n cs cs' e w = (ap refuses (sym (same-number {A = TurnStock} (sym e ∙ w .answer))), w .cells)
 
-commit-went : (p : Paper Committed) (g : ℕ) (cs cs' : List Float) → Applies p (applied.Generation g) cs cs' → p ≡ answers (record { cells = cs'; generation = g })
-commit-went (answers k) g cs cs' w =
-    ap (λ (h : ℕ). answers (record { cells = k .cells; generation = h })) (sym (same-answer (w .answer)))
-    ∙ ap (λ (xs : List Float). answers (record { cells = xs; generation = g })) (sym (w .cells))
-commit-went (refuses n) g cs cs' w = absurd (no-answer n g (sym (w .answer)))
+-- the cells and the generation that were left
+record CutLeft (k : TurnStock) (p : Paper Committed) (a : TurnStock) (cs' : List Float) : Type 0 where
+  generation : ℕ
+  rule : p ≡ answers (record { cells = cs'; generation = generation })
+  stock : a ≡ stockWith k (k .rings) generation
 
-module _ (j : Job) (cut : Cut) (room : ℕ) (cs : List Float) (e : ℕ) (b : e ≡ min (4 * j .cells) (length cs)) (a : Applied) (part' : List Float) (w : Applies (madeCut (j .spec) (take e cs) (j .generation) cut room) a (take e cs) part') where
-  of-job : Applies (madeCut (j .spec) (take (4 * j .cells) cs) (j .generation) cut room) a (take e cs) part'
-  of-job = subst (λ (xs : List Float). Applies (madeCut (j .spec) xs (j .generation) cut room) a (take e cs) part') (ap (λ (k : ℕ). take k cs) b ∙ front (j .cells) cs) w
+commit-went : (k : TurnStock) (p : Paper Committed) (a : TurnStock) (cs cs' : List Float) → Applies k p (applied.Stock a) cs cs' → CutLeft k p a cs'
+commit-went k (answers c) a cs cs' w = record { generation = c .generation; rule = ap (λ (xs : List Float). answers (record { cells = xs; generation = c .generation })) (sym (w .cells)); stock = same-answer (w .answer) }
+commit-went k (refuses n) a cs cs' w = absurd (no-answer n a (sym (w .answer)))
+
+module _ (j : Job) (cut : Cut) (room : ℕ) (cs : List Float) (e : ℕ) (b : e ≡ min (4 * j .cells) (length cs)) (a : Applied) (part' : List Float) (w : Applies (j .stock) (madeCut (j .stock) (take e cs) cut room) a (take e cs) part') where
+  of-job : Applies (j .stock) (madeCut (j .stock) (take (4 * j .cells) cs) cut room) a (take e cs) part'
+  of-job = subst (λ (xs : List Float). Applies (j .stock) (madeCut (j .stock) xs cut room) a (take e cs) part') (ap (λ (k : ℕ). take k cs) b ∙ front (j .cells) cs) w
 
   pub cut-refused : (r : Refusal) (n : Reason) → numberOf r ≡ n .number → appliedPaper a ≡ refuses n → CarriesCells (cutLine j cut room cs) (carried.Refused r) cs (part' ++ drop e cs)
   unfolding cutLine
   cut-refused r n t q rs =
-      let k = commit-refused _ a n _ _ q of-job in
+      let k = commit-refused _ _ a n _ _ q of-job in
       let s : part' ++ drop e cs ≡ cs = ap (λ (xs : List Float). xs ++ drop e cs) (k .1) ∙ take-append-drop e cs in
       rw s (refused-as _ r n cs rs t (simp (papers, k .0)))
 
-  pub cut-went : (g : ℕ) → a ≡ applied.Generation g → length part' ≡ length (take e cs)
-      → CarriesCells (cutLine j cut room cs) (carried.Onward (record { spec = j .spec; cells = j .cells; rings = j .rings; generation = g })) cs (part' ++ drop e cs)
+  pub cut-went : (after : TurnStock) → a ≡ applied.Stock after → length part' ≡ length (take e cs)
+      → CarriesCells (cutLine j cut room cs) (carried.Onward (record { stock = after; cells = j .cells })) cs (part' ++ drop e cs)
   unfolding cutLine over
-  cut-went g q l rs =
-      let k = commit-went _ g _ _ (subst (λ (x : Applied). Applies (madeCut (j .spec) (take (4 * j .cells) cs) (j .generation) cut room) x (take e cs) part') q of-job) in
+  cut-went after q l rs =
+      let k = commit-went _ _ after _ _ (subst (λ (x : Applied). Applies (j .stock) (madeCut (j .stock) (take (4 * j .cells) cs) cut room) x (take e cs) part') q of-job) in
       let z : length part' ≡ e = l ∙ length-take-le e cs (omega arith) in
-      went _ _ cs _ rs rs (simp (papers, k, z))
+      went _ _ cs _ rs rs (rw (k .stock) (onward-is _ _ _ (k .rule) ∙ simp z))
 
 -- the lists of the job's own cells
 pub lists-of : (j : Job) (cut : Cut) (room : ℕ) (cs : List Float) (e : ℕ) → e ≡ min (4 * j .cells) (length cs) → (is is' : List ℕ) (xs xs' : List Float)
-    → ChangesOver (writtenOf (previewCut (j .spec) (take e cs) cut room)) is is' xs xs' → ChangesOver (writtenOf (previewCut (j .spec) (take (4 * j .cells) cs) cut room)) is is' xs xs'
-lists-of j cut room cs e b is is' xs xs' w = subst (λ (ys : List Float). ChangesOver (writtenOf (previewCut (j .spec) ys cut room)) is is' xs xs') (ap (λ (k : ℕ). take k cs) b ∙ front (j .cells) cs) w
+    → ChangesOver (writtenOf (previewCut (j .stock .spec) (take e cs) cut room)) is is' xs xs' → ChangesOver (writtenOf (previewCut (j .stock .spec) (take (4 * j .cells) cs) cut room)) is is' xs xs'
+lists-of j cut room cs e b is is' xs xs' w = subst (λ (ys : List Float). ChangesOver (writtenOf (previewCut (j .stock .spec) ys cut room)) is is' xs xs') (ap (λ (k : ℕ). take k cs) b ∙ front (j .cells) cs) w
 
 -- no changes: the lists stay
 pub unlisted : (l : List TurnChange) (is : List ℕ) (xs : List Float) → l ≡ [] → ChangesOver l is is xs xs
@@ -151,42 +168,35 @@ unfolding countsOf ringsAfter onward
 ring-none k (answers s) d n rs rs' e w = absurd (no-answer n _ (sym e ∙ w .answer))
 ring-none k (refuses m) d n rs rs' e w = (ap refuses (sym (same-number {A = TurnStock} (sym e ∙ w .answer))), w .store)
 
--- where an answer goes on
-onward-is : {A B : Type 0} (p : Paper A) (a : A) (f : A → Paper B) → p ≡ answers a → onward p f ≡ f a
-onward-is p a f e = rw e (onward-answers a f)
-
 -- the store that was left
-pub record Left (p : Paper RingStore) (n g : ℕ) (rs rs' : List Float) : Type 0 where
+pub record Left (k : TurnStock) (p : Paper RingStore) (a : TurnStock) (rs rs' : List Float) : Type 0 where
   pub store : RingStore
   pub rule : p ≡ answers store
-  pub count : length (store .rings) ≡ n
-  pub generation : store .generation ≡ g
+  pub stock : a ≡ stockWith k (length (store .rings)) (store .generation)
   pub lent : rs' ≡ storeAs rs (store .rings)
 
-ring-left : (k : TurnStock) (p : Paper RingStore) (a : TurnStock) (rs rs' : List Float) → Removes k rs p (removed.Stock a) rs' → Left p (a .rings) (a .stamp .generation) rs rs'
+ring-left : (k : TurnStock) (p : Paper RingStore) (a : TurnStock) (rs rs' : List Float) → Removes k rs p (removed.Stock a) rs' → Left k p a rs rs'
 unfolding countsOf ringsAfter onward
-ring-left k (answers s) a rs rs' w =
-    let e : a ≡ stockWith k (length (s .rings)) (s .generation) = same-answer (w .answer) in
-    record { store = s; rule = refl; count = sym (ap (λ (c : TurnStock). c .rings) e); generation = sym (ap (λ (c : TurnStock). c .stamp .generation) e); lent = w .store }
+ring-left k (answers s) a rs rs' w = record { store = s; rule = refl; stock = same-answer (w .answer); lent = w .store }
 ring-left k (refuses m) a rs rs' w = absurd (no-answer m a (sym (w .answer)))
 
-module _ (j : Job) (q : Ring) (rs rs' : List Float) (d : Removed) (w : Removes (stockFrom (j .spec) (j .rings) (j .generation)) rs (removeRing (j .spec) rs (j .rings) (j .generation) q) d rs') where
+module _ (j : Job) (q : Ring) (rs rs' : List Float) (d : Removed) (w : Removes (j .stock) rs (removeRing (j .stock .spec) rs (j .stock .rings) (j .stock .stamp .generation) q) d rs') where
   pub ring-refused : (r : Refusal) (n : Reason) → numberOf r ≡ n .number → removedPaper d ≡ refuses n → CarriesRings (removingLine j q) (carried.Refused r) rs rs'
   unfolding removingLine
   ring-refused r n t e cs =
       let k = ring-none _ _ d n rs rs' e w in
       rw (k .1) (refused-as _ r n cs rs t (simp (papers, k .0)))
 
-  pub ring-went : (a : TurnStock) → d ≡ removed.Stock a → CarriesRings (removingLine j q) (carried.Onward (record { spec = j .spec; cells = j .cells; rings = a .rings; generation = a .stamp .generation })) rs rs'
+  pub ring-went : (a : TurnStock) → d ≡ removed.Stock a → CarriesRings (removingLine j q) (carried.Onward (record { stock = a; cells = j .cells })) rs rs'
   unfolding removingLine
   ring-went a e cs =
-      let k = ring-left _ _ a rs rs' (subst (λ (x : Removed). Removes (stockFrom (j .spec) (j .rings) (j .generation)) rs (removeRing (j .spec) rs (j .rings) (j .generation) q) x rs') e w) in
-      rw (k .lent) (went _ _ cs cs rs _ (onward-is _ _ _ (k .rule) ∙ simp (k .count, k .generation)))
+      let k = ring-left _ _ a rs rs' (subst (λ (x : Removed). Removes (j .stock) rs (removeRing (j .stock .spec) rs (j .stock .rings) (j .stock .stamp .generation) q) x rs') e w) in
+      rw (k .lent) (went _ _ cs cs rs _ (onward-is _ _ _ (k .rule) ∙ ap (λ (x : TurnStock). answers (stand (record { stock = x; cells = j .cells }) cs (storeAs rs (k .store .rings)))) (sym (k .stock))))
 
 -- ---- a line by its kind
-pub first-bar : (l : Line) (spec : TurnStockSpec) (cs cs' : List Float) (r : Carried) → l ≡ line.Bar spec → CarriesCells (barLine spec cs) r cs cs' → CarriesCells (firstLine l cs) r cs cs'
+pub first-bar : (edition : ℕ) (l : Line) (spec : TurnStockSpec) (cs cs' : List Float) (r : Carried) → l ≡ line.Bar spec → CarriesCells (barLine edition spec cs) r cs cs' → CarriesCells (firstLine edition l cs) r cs cs'
 unfolding firstLine
-first-bar l spec cs cs' r e w rs = rw e (w rs)
+first-bar edition l spec cs cs' r e w rs = rw e (w rs)
 
 pub later-cut : (j : Job) (l : Line) (cut : Cut) (room : ℕ) (cs cs' rs : List Float) (r : Carried) → l ≡ line.Cutting cut → CarriesCells (cutLine j cut room cs) r cs cs' → Carries (laterLine j l room cs rs) r cs cs' rs rs
 unfolding laterLine
@@ -197,7 +207,7 @@ unfolding laterLine
 later-ring j l q room cs rs rs' r e w = rw e (w cs)
 
 -- its changes
-pub later-lists : (j : Job) (l : Line) (cut : Cut) (room : ℕ) (cs : List Float) (is is' : List ℕ) (xs xs' : List Float) → l ≡ line.Cutting cut → ChangesOver (writtenOf (previewCut (j .spec) (take (4 * j .cells) cs) cut room)) is is' xs xs' → ChangesOver (lineChanges j l room cs) is is' xs xs'
+pub later-lists : (j : Job) (l : Line) (cut : Cut) (room : ℕ) (cs : List Float) (is is' : List ℕ) (xs xs' : List Float) → l ≡ line.Cutting cut → ChangesOver (writtenOf (previewCut (j .stock .spec) (take (4 * j .cells) cs) cut room)) is is' xs xs' → ChangesOver (lineChanges j l room cs) is is' xs xs'
 unfolding lineChanges
 later-lists j l cut room cs is is' xs xs' e w = rw e w
 
@@ -211,7 +221,7 @@ module _ (j : Job) (s : List ℕ) (room : ℕ) (cs rs : List Float) where
   unfolding jobLine
   line-long h = simp (papers, le-ltb (length s) lineLimit h)
 
-  pub line-first : (l : Line) → length s < lineLimit → l ≡ lineOf s → j .cells ≡ 0 → jobLine j s room cs rs ≡ firstLine l cs rs
+  pub line-first : (l : Line) → length s < lineLimit → l ≡ lineOf s → j .cells ≡ 0 → jobLine j s room cs rs ≡ firstLine (j .stock .stamp .edition) l cs rs
   unfolding jobLine
   line-first l h e z = rw e (simp (papers, picks, lt-ltb (length s) lineLimit h, eq-eqb (j .cells) 0 z))
 

@@ -5,3 +5,4 @@ pub mod Bytes
 pub mod WholeFile
 pub mod Room
 pub mod Streamed
+pub mod Editions

@@ -97,7 +97,7 @@ module _ (st : State) (l : List ℕ) (n b : ℕ) (l' : List ℕ) (put : l' ≡ s
   byte-over j k r e = rw (e, put) (simp (eq-eqb _ _ h, ne-eqb _ _ k, le-ltb n 127 r, no))
 
 -- ---- the output
-pub output-is : (r : Run) (cs rs xs ys : List Float) (k : ℕ) → xs ≡ take (4 * r .job .cells) cs → ys ≡ take (4 * r .job .rings) rs → getD (answerOf (r .refused) (r .lines) (r .job .generation) xs ys) k [] ≡ getD (outputOf (state r cs rs)) k []
+pub output-is : (r : Run) (cs rs xs ys : List Float) (k : ℕ) → xs ≡ take (4 * r .job .cells) cs → ys ≡ take (4 * r .job .stock .rings) rs → getD (answerOf (r .refused) (r .lines) (r .job .stock .stamp .generation) xs ys) k [] ≡ getD (outputOf (state r cs rs)) k []
 unfolding outputOf
 output-is r cs rs xs ys k ex ey = rw (ex, ey)
 
@@ -110,9 +110,9 @@ output-most r cs rs hc hr = by (eqb (r .refused) 0) refl
     xs = take (4 * r .job .cells) cs
 
     ys : List Float
-    ys = take (4 * r .job .rings) rs
+    ys = take (4 * r .job .stock .rings) rs
 
-    by : (t : Bool) → eqb (r .refused) 0 ≡ t → length (answerOf (r .refused) (r .lines) (r .job .generation) xs ys) ≤ mostLines
+    by : (t : Bool) → eqb (r .refused) 0 ≡ t → length (answerOf (r .refused) (r .lines) (r .job .stock .stamp .generation) xs ys) ≤ mostLines
     by true e =
         simp (e, yes)
         (omega (
@@ -120,9 +120,9 @@ output-most r cs rs hc hr = by (eqb (r .refused) 0) refl
           hc,
           hr,
           length-take (4 * r .job .cells) cs,
-          length-take (4 * r .job .rings) rs,
-          length-append (linesTo (cellLineAt xs) (length xs / 4)) (linesTo (ringLineAt ys) (length ys / 4) ++ (genLine (r .job .generation) ∷ [])),
-          length-append (linesTo (ringLineAt ys) (length ys / 4)) (genLine (r .job .generation) ∷ []),
+          length-take (4 * r .job .stock .rings) rs,
+          length-append (linesTo (cellLineAt xs) (length xs / 4)) (linesTo (ringLineAt ys) (length ys / 4) ++ (genLine (r .job .stock .stamp .generation) ∷ [])),
+          length-append (linesTo (ringLineAt ys) (length ys / 4)) (genLine (r .job .stock .stamp .generation) ∷ []),
           lines-length (cellLineAt xs) (length xs / 4),
           lines-length (ringLineAt ys) (length ys / 4),
         ))

@@ -1,4 +1,4 @@
--- What the lent room held before the first byte does not show: neither in the cells and rings of a job nor in its answer. Assumes nothing.
+-- What the lent room held before the first byte does not show, neither in the cells and rings of a job nor in its answer; nor does the edition of its stock. Assumes nothing.
 use mathlib.Core.Path.{_≡_, refl, sym, ap, ap₂, _∙_}
 use mathlib.Core.Bool.{Bool, true, false, not, _&&_}
 use mathlib.Core.List.{List, [], _∷_, _++_}
@@ -17,8 +17,9 @@ use Rattle.stock.specs.declared.TurnStockSpec.{TurnStockSpec}
 use Rattle.stock.specs.Spec.{cleanSpec, cellsOf}
 use Rattle.stock.specs.Cell.{freshCell, cellsLike}
 use Rattle.stock.proofs.Cells.{length-like}
-use Rattle.changes.specs.Commit.{Committed}
+use Rattle.changes.specs.Commit.{Committed, ownCommit}
 use Rattle.cuts.specs.declared.Cut.{Cut}
+use Rattle.cuts.specs.Preview.{previewCut}
 use Rattle.rings.specs.declared.Ring.{Ring}
 use Rattle.rings.specs.Store.{ringsOf, flatOf, storeAs, countFits}
 use Rattle.rings.specs.Remove.{RingStore, removeIn, removeRing}
@@ -30,6 +31,7 @@ use Rattle.job_words.specs.declared.Line.the-variants.{Bar, Cutting, Removing, 
 use Rattle.job_words.specs.Kind.{lineOf}
 use Rattle.job_run.specs.declared.line.Job.{Job}
 use Rattle.job_run.specs.Job.{fullRoom, Stand, barLine, madeCut, cutLine, removingLine, firstLine, laterLine, jobLine}
+use Rattle.job_run.proofs.Made.{made-own}
 use Rattle.job_run.specs.Run.{State, next, refusedWith, answered, onLine, onLong, onEnd, stopped, outputOf, jobOf}
 
 -- ---- lists with the same front
@@ -82,18 +84,18 @@ same-rings n xs ys e = rings-up-to (4 * n) n xs ys (omega arith) e
 
 -- ---- jobs alike
 
--- a job's own cells and rings are the same, and the rooms are as long; before its bar it has no spec
+-- a job's own cells and rings are the same, and the rooms are as long; before its bar it has no spec, and its edition plays no part
 pub record AlikeJobs (j k : Job) (cs ds rs ss : List Float) : Type 0 where
   pub count : j .cells ≡ k .cells
-  pub stored : j .rings ≡ k .rings
-  pub generation : j .generation ≡ k .generation
-  pub spec : (j .cells ≡ 0 → ⊥) → j .spec ≡ k .spec
+  pub stored : j .stock .rings ≡ k .stock .rings
+  pub generation : j .stock .stamp .generation ≡ k .stock .stamp .generation
+  pub spec : (j .cells ≡ 0 → ⊥) → j .stock .spec ≡ k .stock .spec
   pub cells : take (4 * j .cells) cs ≡ take (4 * j .cells) ds
-  pub rings : take (4 * j .rings) rs ≡ take (4 * j .rings) ss
+  pub rings : take (4 * j .stock .rings) rs ≡ take (4 * j .stock .rings) ss
   pub cells-long : length cs ≡ length ds
   pub rings-long : length rs ≡ length ss
 
--- two runs that differ at most in what the room holds behind the job's own numbers, and in the spec before the bar
+-- two runs that differ at most in what the room holds behind the job's own numbers, in the spec before the bar, and in the edition
 pub record Alike (a b : State) : Type 0 where
   pub lines : a .run .lines ≡ b .run .lines
   pub refused : a .run .refused ≡ b .run .refused
@@ -116,9 +118,9 @@ alike-onward (refuses n) q f g e h = rw (← e) neither
 
 -- ---- each kind of line
 
-alike-bar : (spec : TurnStockSpec) (cs ds rs ss : List Float) → length cs ≡ length ds → length rs ≡ length ss → AlikePapers (barLine spec cs rs) (barLine spec ds ss)
+alike-bar : (d e : ℕ) (spec : TurnStockSpec) (cs ds rs ss : List Float) → length cs ≡ length ds → length rs ≡ length ss → AlikePapers (barLine d spec cs rs) (barLine e spec ds ss)
 unfolding barLine
-alike-bar spec cs ds rs ss ec er = alike-onward (cellsOf spec) (cellsOf spec) _ _ refl (λ n. alike-demand _ _ 3 _ _ (ap (leb (4 * n)) ec) (both (record {
+alike-bar d e spec cs ds rs ss ec er = alike-onward (cellsOf spec) (cellsOf spec) _ _ refl (λ n. alike-demand _ _ 3 _ _ (ap (leb (4 * n)) ec) (both (record {
   count = refl;
   stored = refl;
   generation = refl;
@@ -135,12 +137,18 @@ alike-bar spec cs ds rs ss ec er = alike-onward (cellsOf spec) (cellsOf spec) _ 
     fronts : (n : ℕ) → take (4 * n) (over (new n) cs) ≡ take (4 * n) (over (new n) ds)
     fronts n = over-front (4 * n) (new n) cs (length-like (freshCell (cleanSpec spec)) n) ∙ sym (over-front (4 * n) (new n) ds (length-like (freshCell (cleanSpec spec)) n))
 
+-- a cut, whose list has the stock's stamp whatever that is
+abbrev own : TurnStockSpec → List Float → ℕ → Cut → ℕ → Paper Committed
+own spec cs gen cut room = onward (previewCut spec cs cut room) (λ l. ownCommit spec cs gen l)
+
 module _ (j k : Job) (cs ds rs ss : List Float) (h : AlikeJobs j k cs ds rs ss) (started : j .cells ≡ 0 → ⊥) where
-  same-cut : (cut : Cut) (room : ℕ) → madeCut (j .spec) (take (4 * j .cells) cs) (j .generation) cut room ≡ madeCut (k .spec) (take (4 * k .cells) ds) (k .generation) cut room
+  same-cut : (cut : Cut) (room : ℕ) → madeCut (j .stock) (take (4 * j .cells) cs) cut room ≡ madeCut (k .stock) (take (4 * k .cells) ds) cut room
   same-cut cut room =
-      ap (λ (x : TurnStockSpec). madeCut x (take (4 * j .cells) cs) (j .generation) cut room) (h .spec started)
-      ∙ ap (λ (x : List Float). madeCut (k .spec) x (j .generation) cut room) (h .cells ∙ ap (λ (n : ℕ). take (4 * n) ds) (h .count))
-      ∙ ap (λ (g : ℕ). madeCut (k .spec) (take (4 * k .cells) ds) g cut room) (h .generation)
+      made-own (j .stock) (take (4 * j .cells) cs) cut room
+      ∙ ap (λ (x : TurnStockSpec). own x (take (4 * j .cells) cs) (j .stock .stamp .generation) cut room) (h .spec started)
+      ∙ ap (λ (x : List Float). own (k .stock .spec) x (j .stock .stamp .generation) cut room) (h .cells ∙ ap (λ (n : ℕ). take (4 * n) ds) (h .count))
+      ∙ ap (λ (g : ℕ). own (k .stock .spec) (take (4 * k .cells) ds) g cut room) (h .generation)
+      ∙ sym (made-own (k .stock) (take (4 * k .cells) ds) cut room)
 
   alike-cut : (cut : Cut) (room : ℕ) → AlikePapers (cutLine j cut room cs rs) (cutLine k cut room ds ss)
   unfolding cutLine over
@@ -155,9 +163,9 @@ module _ (j k : Job) (cs ds rs ss : List Float) (h : AlikeJobs j k cs ds rs ss) 
     rings-long = h .rings-long;
   }))
 
-  same-removal : (q : Ring) → removeRing (j .spec) rs (j .rings) (j .generation) q ≡ removeRing (k .spec) ss (k .rings) (k .generation) q
+  same-removal : (q : Ring) → removeRing (j .stock .spec) rs (j .stock .rings) (j .stock .stamp .generation) q ≡ removeRing (k .stock .spec) ss (k .stock .rings) (k .stock .stamp .generation) q
   unfolding removeRing removeIn countFits
-  same-removal q = rw (← h .spec started, ← h .stored, ← h .generation, h .rings-long, same-rings (j .rings) rs ss (h .rings))
+  same-removal q = rw (← h .spec started, ← h .stored, ← h .generation, h .rings-long, same-rings (j .stock .rings) rs ss (h .rings))
 
   alike-ring : (q : Ring) → AlikePapers (removingLine j q cs rs) (removingLine k q ds ss)
   unfolding removingLine storeAs
@@ -180,21 +188,21 @@ module _ (j k : Job) (cs ds rs ss : List Float) (h : AlikeJobs j k cs ds rs ss) 
   alike-later Arc room = neither
   alike-later Bad room = neither
 
-alike-first : (l : Line) (cs ds rs ss : List Float) → length cs ≡ length ds → length rs ≡ length ss → AlikePapers (firstLine l cs rs) (firstLine l ds ss)
+alike-first : (d e : ℕ) (l : Line) (cs ds rs ss : List Float) → length cs ≡ length ds → length rs ≡ length ss → AlikePapers (firstLine d l cs rs) (firstLine e l ds ss)
 unfolding firstLine
-alike-first (Bar spec) cs ds rs ss ec er = alike-bar spec cs ds rs ss ec er
-alike-first (Cutting cut) cs ds rs ss ec er = neither
-alike-first (Removing q) cs ds rs ss ec er = neither
-alike-first Arc cs ds rs ss ec er = neither
-alike-first Bad cs ds rs ss ec er = neither
+alike-first d e (Bar spec) cs ds rs ss ec er = alike-bar d e spec cs ds rs ss ec er
+alike-first d e (Cutting cut) cs ds rs ss ec er = neither
+alike-first d e (Removing q) cs ds rs ss ec er = neither
+alike-first d e Arc cs ds rs ss ec er = neither
+alike-first d e Bad cs ds rs ss ec er = neither
 
 alike-line : (j k : Job) (cs ds rs ss : List Float) (s : List ℕ) (room : ℕ) → AlikeJobs j k cs ds rs ss → AlikePapers (jobLine j s room cs rs) (jobLine k s room ds ss)
 unfolding jobLine
 alike-line j k cs ds rs ss s room h = alike-demand _ _ 15 _ _ refl (by (eqb (j .cells) 0) refl (ap (λ (n : ℕ). eqb n 0) (sym (h .count))))
   where
     by : (t : Bool) → eqb (j .cells) 0 ≡ t → eqb (k .cells) 0 ≡ eqb (j .cells) 0
-        → AlikePapers (pick (eqb (j .cells) 0) (firstLine (lineOf s) cs rs) (laterLine j (lineOf s) room cs rs)) (pick (eqb (k .cells) 0) (firstLine (lineOf s) ds ss) (laterLine k (lineOf s) room ds ss))
-    by true e f = simp (f, e, yes) (alike-first (lineOf s) cs ds rs ss (h .cells-long) (h .rings-long))
+        → AlikePapers (pick (eqb (j .cells) 0) (firstLine (j .stock .stamp .edition) (lineOf s) cs rs) (laterLine j (lineOf s) room cs rs)) (pick (eqb (k .cells) 0) (firstLine (k .stock .stamp .edition) (lineOf s) ds ss) (laterLine k (lineOf s) room ds ss))
+    by true e f = simp (f, e, yes) (alike-first (j .stock .stamp .edition) (k .stock .stamp .edition) (lineOf s) cs ds rs ss (h .cells-long) (h .rings-long))
     by false e f = simp (f, e, no) (alike-later j k cs ds rs ss h (eqb-false _ _ e) (lineOf s) room)
 
 -- ---- a run of lines
@@ -225,8 +233,8 @@ unfolding outputOf
 alike-output a b h = rw (h .refused, h .lines, h .jobs .generation, h .jobs .cells, h .jobs .rings, h .jobs .count, h .jobs .stored)
 
 -- two runs before their bar, in rooms that are as long
-pub alike-fresh : (a b : State) → a .run .lines ≡ b .run .lines → a .run .refused ≡ b .run .refused → a .run .job .cells ≡ 0 → b .run .job .cells ≡ 0 → a .run .job .rings ≡ 0 → b .run .job .rings ≡ 0
-    → a .run .job .generation ≡ b .run .job .generation → length (a .cells) ≡ length (b .cells) → length (a .rings) ≡ length (b .rings) → Alike a b
+pub alike-fresh : (a b : State) → a .run .lines ≡ b .run .lines → a .run .refused ≡ b .run .refused → a .run .job .cells ≡ 0 → b .run .job .cells ≡ 0 → a .run .job .stock .rings ≡ 0 → b .run .job .stock .rings ≡ 0
+    → a .run .job .stock .stamp .generation ≡ b .run .job .stock .stamp .generation → length (a .cells) ≡ length (b .cells) → length (a .rings) ≡ length (b .rings) → Alike a b
 alike-fresh a b el er ca cb ra rb eg lc lr = record {
   lines = el;
   refused = er;

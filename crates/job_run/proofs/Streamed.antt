@@ -105,14 +105,14 @@ full-output st = by (eqb (st .run .refused) 0) refl
     xs = take (4 * st .run .job .cells) (st .cells)
 
     ys : List Float
-    ys = take (4 * st .run .job .rings) (st .rings)
+    ys = take (4 * st .run .job .stock .rings) (st .rings)
 
-    by : (t : Bool) → eqb (st .run .refused) 0 ≡ t → Full (answerOf (st .run .refused) (st .run .lines) (st .run .job .generation) xs ys)
+    by : (t : Bool) → eqb (st .run .refused) 0 ≡ t → Full (answerOf (st .run .refused) (st .run .lines) (st .run .job .stock .stamp .generation) xs ys)
     by true e =
         simp (e, yes)
-        (full-append (linesTo (cellLineAt xs) (length xs / 4)) (linesTo (ringLineAt ys) (length ys / 4) ++ (genLine (st .run .job .generation) ∷ []))
+        (full-append (linesTo (cellLineAt xs) (length xs / 4)) (linesTo (ringLineAt ys) (length ys / 4) ++ (genLine (st .run .job .stock .stamp .generation) ∷ []))
         (full-lines (cellLineAt xs) (λ i. omega arith) (length xs / 4))
-        (full-append (linesTo (ringLineAt ys) (length ys / 4)) (genLine (st .run .job .generation) ∷ []) (full-lines (ringLineAt ys) (λ i. omega arith) (length ys / 4)) (full-one (genLine (st .run .job .generation)) (omega arith))))
+        (full-append (linesTo (ringLineAt ys) (length ys / 4)) (genLine (st .run .job .stock .stamp .generation) ∷ []) (full-lines (ringLineAt ys) (λ i. omega arith) (length ys / 4)) (full-one (genLine (st .run .job .stock .stamp .generation)) (omega arith))))
     by false e = simp (e, no) (full-one (refusedLine (st .run .lines) (st .run .refused)) (omega arith))
 
 -- the bytes from a line on
@@ -139,23 +139,26 @@ told-all {st} (line {k = k} {j = j} {m = m} h w p r) =
 -- ---- however the bytes are cut
 
 -- HOWEVER A FILE IS CUT INTO PARTS, also with nothing in some, with none at all or inside a number: the run at the end is the job of the whole file, and the bytes that are put are those of its answer.
-pub calls-however-cut : {ps : List (List ℕ)} {s : List ℕ} (a : Answered ps s) → (state (a .end) (a .left .state .cells) (a .left .state .rings) ≡ jobOf (state freshRun (a .cells) (a .rings)) (joined ps))
-    × (s ≡ joined (outputOf (jobOf (state freshRun (a .cells) (a .rings)) (joined ps))))
-calls-however-cut {ps} {s} a =
-    let e : state (a .end) (a .left .state .cells) (a .left .state .rings) ≡ jobOf (state freshRun (a .cells) (a .rings)) (joined ps) =
+pub calls-however-cut : {edition : ℕ} {ps : List (List ℕ)} {s : List ℕ} (a : Answered edition ps s) → (state (a .end) (a .left .state .cells) (a .left .state .rings) ≡ jobOf (state (freshRun edition) (a .cells) (a .rings)) (joined ps))
+    × (s ≡ joined (outputOf (jobOf (state (freshRun edition) (a .cells) (a .rings)) (joined ps))))
+calls-however-cut {edition} {ps} {s} a =
+    let e : state (a .end) (a .left .state .cells) (a .left .state .rings) ≡ jobOf (state (freshRun edition) (a .cells) (a .rings)) (joined ps) =
     ap (λ (r : Run). state r (a .left .state .cells) (a .left .state .rings)) (a .finished)
     ∙ ap endOf (took-parts (a .took))
-    ∙ however-cut (state freshRun (a .cells) (a .rings)) (a .held) ps (omega (arith, a .room .line)) in
+    ∙ however-cut (state (freshRun edition) (a .cells) (a .rings)) (a .held) ps (omega (arith, a .room .line)) in
     (e, told-all (a .told) ∙ ap (λ (x : State). joined (outputOf x)) e)
 
--- WHAT THE ROOM HELD BEFORE THE FIRST BYTE DOES NOT SHOW: a file has one answer, whatever the lent cells and rings held.
-pub fresh-room : (cs ds rs ss : List Float) (s : List ℕ) → length cs ≡ length ds → length rs ≡ length ss → outputOf (jobOf (state freshRun cs rs) s) ≡ outputOf (jobOf (state freshRun ds ss) s)
-fresh-room cs ds rs ss s ec er = alike-output _ _ (alike-job s (state freshRun cs rs) (state freshRun ds ss) (alike-fresh (state freshRun cs rs) (state freshRun ds ss) refl refl refl refl refl refl refl ec er))
+-- WHAT THE ROOM HELD BEFORE THE FIRST BYTE DOES NOT SHOW, AND NO EDITION DOES: a file has one answer, whatever the lent cells and rings held and whatever edition its stock has.
+pub fresh-room : (d e : ℕ) (cs ds rs ss : List Float) (s : List ℕ) → length cs ≡ length ds → length rs ≡ length ss → outputOf (jobOf (state (freshRun d) cs rs) s) ≡ outputOf (jobOf (state (freshRun e) ds ss) s)
+fresh-room d e cs ds rs ss s ec er =
+    let a = state (freshRun d) cs rs in
+    let b = state (freshRun e) ds ss in
+    alike-output _ _ (alike-job s a b (alike-fresh a b refl refl refl refl refl refl refl ec er))
 
 -- THE SAME BYTES, CUT IN TWO WAYS and taken in two rooms, are answered with the same bytes.
-pub same-file-same-answer : {ps qs : List (List ℕ)} {s t : List ℕ} → Answered ps s → Answered qs t → joined ps ≡ joined qs → s ≡ t
-same-file-same-answer {ps} {qs} {s} {t} a b e =
+pub same-file-same-answer : {d e : ℕ} {ps qs : List (List ℕ)} {s t : List ℕ} → Answered d ps s → Answered e qs t → joined ps ≡ joined qs → s ≡ t
+same-file-same-answer {d} {e} {ps} {qs} {s} {t} a b same =
     calls-however-cut a .1
-    ∙ ap joined (fresh-room (a .cells) (b .cells) (a .rings) (b .rings) (joined ps) (a .room .cells ∙ sym (b .room .cells)) (a .room .rings ∙ sym (b .room .rings)))
-    ∙ ap (λ (x : List ℕ). joined (outputOf (jobOf (state freshRun (b .cells) (b .rings)) x))) e
+    ∙ ap joined (fresh-room d e (a .cells) (b .cells) (a .rings) (b .rings) (joined ps) (a .room .cells ∙ sym (b .room .cells)) (a .room .rings ∙ sym (b .room .rings)))
+    ∙ ap (λ (x : List ℕ). joined (outputOf (jobOf (state (freshRun e) (b .cells) (b .rings)) x))) same
     ∙ sym (calls-however-cut b .1)

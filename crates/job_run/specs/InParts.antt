@@ -22,13 +22,13 @@ pub data Told (st : State) : ℕ → List ℕ → Type 0 where
   line : {k j : ℕ} {l m s : List ℕ} → length l ≡ lineRoom → WroteLine l (getD (outputOf st) k []) m j → 0 < j → Told st (suc k) s → Told st k (take j m ++ s)
 
 -- From before the first byte, in a job's room with anything in it: parts taken one after the other, `finish`, and the lines from the first on, which are the bytes s.
-pub record Answered (ps : List (List ℕ)) (s : List ℕ) : Type 0 where
+pub record Answered (edition : ℕ) (ps : List (List ℕ)) (s : List ℕ) : Type 0 where
   pub cells : List Float
   pub rings : List Float
   pub held : List ℕ
   pub room : JobRoom cells rings held
   pub left : Hold
-  pub took : Took (hold (state freshRun cells rings) held 0) ps left
+  pub took : Took (hold (state (freshRun edition) cells rings) held 0) ps left
   pub end : Run
   pub finished : end ≡ finishOf (left .state .run) (left .len)
   pub told : Told (state end (left .state .cells) (left .state .rings)) 0 s

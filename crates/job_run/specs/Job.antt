@@ -12,8 +12,10 @@ use Rattle.refusals.specs.Lent.{Lent, over}
 use Rattle.floats.specs.Pick.{pick}
 use Rattle.stock.specs.declared.TurnStockSpec.{TurnStockSpec}
 use Rattle.stock.specs.declared.TurnChange.{TurnChange}
+use Rattle.stock.specs.declared.TurnStock.{TurnStock}
 use Rattle.stock.specs.Spec.{cleanSpec, cellsOf}
 use Rattle.stock.specs.Cell.{freshCell, cellsLike}
+use Rattle.stock.specs.Stock.{newStock, stockWith}
 use Rattle.changes.specs.Change.{indicesOf, numbersOf, roomOf, writtenOf}
 use Rattle.cuts.specs.declared.Cut.{Cut}
 use Rattle.cuts.specs.Preview.{previewCut}
@@ -51,16 +53,16 @@ stand j cs rs = record { job = j; cells = cs; rings = rs }
 
 -- ---- each kind of line
 
--- a bar: new cells over the front of the lent ones, no rings, generation 0; 1, 2, and 3 where the lent ones are too few
-unfoldable pub barLine : TurnStockSpec → List Float → List Float → Paper Stand
-barLine spec cs rs =
+-- a bar: new cells over the front of the lent ones, of this edition, no rings, generation 0; 1, 2, and 3 where the lent ones are too few
+unfoldable pub barLine : ℕ → TurnStockSpec → List Float → List Float → Paper Stand
+barLine edition spec cs rs =
     onward (cellsOf spec) (λ n.
     demand (leb (4 * n) (length cs)) 3
-    (answers (stand (record { spec = spec; cells = n; rings = 0; generation = 0 }) (over (cellsLike (freshCell (cleanSpec spec)) n) cs) rs)))
+    (answers (stand (record { stock = newStock spec edition; cells = n }) (over (cellsLike (freshCell (cleanSpec spec)) n) cs) rs)))
 
--- a cut: its preview, with room for so many changes, and their commit
-unfoldable pub madeCut : TurnStockSpec → List Float → ℕ → Cut → ℕ → Paper Committed
-madeCut spec cs gen cut room = onward (previewCut spec cs cut room) (λ l. commitOf spec cs gen l)
+-- a cut: its preview, with room for so many changes, and the commit of its list, whose stamp is the stock's
+unfoldable pub madeCut : TurnStock → List Float → Cut → ℕ → Paper Committed
+madeCut k cs cut room = onward (previewCut (k .spec) cs cut room) (λ l. commitOf k cs (k .stamp) l)
 
 -- the job's cells, which stand first in the lent ones
 abbrev pub cellsOfJob : Job → List Float → List Float
@@ -68,24 +70,24 @@ cellsOfJob j cs = take (4 * j .cells) cs
 
 unfoldable pub cutLine : Job → Cut → ℕ → List Float → List Float → Paper Stand
 cutLine j cut room cs rs =
-    onward (madeCut (j .spec) (cellsOfJob j cs) (j .generation) cut room) (λ k.
-    answers (stand (record { spec = j .spec; cells = j .cells; rings = j .rings; generation = k .generation }) (over (k .cells) cs) rs))
+    onward (madeCut (j .stock) (cellsOfJob j cs) cut room) (λ k.
+    answers (stand (record { stock = stockWith (j .stock) (j .stock .rings) (k .generation); cells = j .cells }) (over (k .cells) cs) rs))
 
 -- a ring: one more removed from the stock
 unfoldable pub removingLine : Job → Ring → List Float → List Float → Paper Stand
 removingLine j q cs rs =
-    onward (removeRing (j .spec) rs (j .rings) (j .generation) q) (λ s.
-    answers (stand (record { spec = j .spec; cells = j .cells; rings = length (s .rings); generation = s .generation }) cs (storeAs rs (s .rings))))
+    onward (removeRing (j .stock .spec) rs (j .stock .rings) (j .stock .stamp .generation) q) (λ s.
+    answers (stand (record { stock = stockWith (j .stock) (length (s .rings)) (s .generation); cells = j .cells }) cs (storeAs rs (s .rings))))
 
 -- ---- a line by its place
 
 -- anything but a bar before it is 15, an arc too
-unfoldable pub firstLine : Line → List Float → List Float → Paper Stand
-firstLine (Bar spec) cs rs = barLine spec cs rs
-firstLine (Cutting cut) cs rs = refuses (only 15)
-firstLine (Removing q) cs rs = refuses (only 15)
-firstLine Arc cs rs = refuses (only 15)
-firstLine Bad cs rs = refuses (only 15)
+unfoldable pub firstLine : ℕ → Line → List Float → List Float → Paper Stand
+firstLine edition (Bar spec) cs rs = barLine edition spec cs rs
+firstLine edition (Cutting cut) cs rs = refuses (only 15)
+firstLine edition (Removing q) cs rs = refuses (only 15)
+firstLine edition Arc cs rs = refuses (only 15)
+firstLine edition Bad cs rs = refuses (only 15)
 
 -- an arc is 13, a second bar 15
 unfoldable pub laterLine : Job → Line → ℕ → List Float → List Float → Paper Stand
@@ -99,12 +101,12 @@ laterLine j Bad room cs rs = refuses (only 15)
 unfoldable pub jobLine : Job → List ℕ → ℕ → List Float → List Float → Paper Stand
 jobLine j s room cs rs =
     demand (ltb (length s) lineLimit) 15
-    (pick (eqb (j .cells) 0) (firstLine (lineOf s) cs rs) (laterLine j (lineOf s) room cs rs))
+    (pick (eqb (j .cells) 0) (firstLine (j .stock .stamp .edition) (lineOf s) cs rs) (laterLine j (lineOf s) room cs rs))
 
 -- ---- the changes that a line writes into lists that are lent for them: those that a later cut's preview accepts
 unfoldable pub lineChanges : Job → Line → ℕ → List Float → List TurnChange
 lineChanges j (Bar spec) room cs = []
-lineChanges j (Cutting cut) room cs = writtenOf (previewCut (j .spec) (cellsOfJob j cs) cut room)
+lineChanges j (Cutting cut) room cs = writtenOf (previewCut (j .stock .spec) (cellsOfJob j cs) cut room)
 lineChanges j (Removing q) room cs = []
 lineChanges j Arc room cs = []
 lineChanges j Bad room cs = []

@@ -15,6 +15,8 @@ use Rattle.refusals.specs.Lent.{Lent}
 use Rattle.floats.specs.Pick.{pick}
 use Rattle.floats.specs.Numbers.{zero64}
 use Rattle.stock.specs.declared.TurnStockSpec.{TurnStockSpec}
+use Rattle.stock.specs.declared.TurnStock.{TurnStock}
+use Rattle.stock.specs.Stock.{newStock}
 use Rattle.job_words.specs.Kind.{maxCells}
 use Rattle.job_run.specs.Job.{Stand, lineLimit, fullRoom, jobLine}
 use Rattle.job_answer.specs.Answer.{answerOf}
@@ -31,18 +33,17 @@ pub record State : Type 0 where
 abbrev pub state : Run → List Float → List Float → State
 state r cs rs = record { run = r; cells = cs; rings = rs }
 
--- before the first line: no cells, no rings, generation 0
-abbrev pub freshRun : Run
-freshRun =
-    record {
-      job = record { spec = record { «z_min_mm» = zero64; «z_max_mm» = zero64; «outer_radius_mm» = zero64; «bore_radius_mm» = zero64; «cell_mm» = zero64; «max_cells» = 0 }; cells = 0; rings = 0; generation = 0 };
-      lines = 0;
-      refused = 0;
-    }
+-- before the first line, with a stock, whose cells and rings stand first in the lent numbers: its bar is given
+abbrev pub resumedRun : TurnStock → ℕ → Run
+resumedRun k n = record { job = record { stock = k; cells = n }; lines = 0; refused = 0 }
 
--- the same with a stock, whose cells and rings stand first in the lent numbers: its bar is given
-abbrev pub resumedRun : TurnStockSpec → ℕ → ℕ → Run
-resumedRun spec n m = record { job = record { spec = spec; cells = n; rings = m; generation = 0 }; lines = 0; refused = 0 }
+-- a spec of no bar
+abbrev pub noSpec : TurnStockSpec
+noSpec = record { «z_min_mm» = zero64; «z_max_mm» = zero64; «outer_radius_mm» = zero64; «bore_radius_mm» = zero64; «cell_mm» = zero64; «max_cells» = 0 }
+
+-- the same with no cells, no rings, at generation 0, but with the edition that the stock will have
+abbrev pub freshRun : ℕ → Run
+freshRun edition = resumedRun (newStock noSpec edition) 0
 
 -- ---- a line
 
@@ -136,7 +137,7 @@ finishOf r n =
 
 -- the job's own cells and rings stand first in the lent ones
 unfoldable pub outputOf : State → List (List ℕ)
-outputOf st = answerOf (st .run .refused) (st .run .lines) (st .run .job .generation) (take (4 * st .run .job .cells) (st .cells)) (take (4 * st .run .job .rings) (st .rings))
+outputOf st = answerOf (st .run .refused) (st .run .lines) (st .run .job .stock .stamp .generation) (take (4 * st .run .job .cells) (st .cells)) (take (4 * st .run .job .stock .rings) (st .rings))
 
 -- a line for each cell and each ring, and one for the generation
 abbrev pub mostLines : ℕ

@@ -19,6 +19,8 @@ ghost use Rattle.text.specs.Wrote.{WritesLine};
 ghost use Rattle.job_run.specs.Run.{freshRun, resumedRun, isEmpty, refusing, onLine, byteOn, finishOf, outputOf, mostLines, stateFound, stateLeft, asFound, asLeft, TakesPart};
 use job_words::MAX_CELLS;
 use refusals::Refusal;
+use stock::Stamp;
+use stock::TurnStock;
 use stock::TurnStockSpec;
 use text::LINE_ROOM;
 
@@ -46,26 +48,21 @@ pub struct Taken {
     pub len: usize,
 }
 
-// Before the first byte, with a stock of n cells and m rings, which stand first in the lent numbers: its
-// bar is given.
-pub fn resumed(spec: TurnStockSpec, n: usize, m: usize) -> Run
-    ensures { λ r. ⌜ r ≡ resumedRun spec n m ⌝ }
+// Before the first byte, with a stock of n cells, which stand first in the lent numbers, as its rings
+// do: its bar is given.
+pub fn resumed(stock: TurnStock, n: usize) -> Run
+    ensures { λ r. ⌜ r ≡ resumedRun stock n ⌝ }
 {
     Run {
-        job: Job {
-            spec,
-            cells: n,
-            rings: m,
-            generation: 0,
-        },
+        job: Job { stock, cells: n },
         lines: 0,
         refused: 0,
     }
 }
 
-// The same with no stock yet.
-pub fn fresh() -> Run
-    ensures { λ r. ⌜ r ≡ freshRun ⌝ }
+// The same with no stock yet, but the edition that it will have.
+pub fn fresh(edition: u32) -> Run
+    ensures { λ r. ⌜ r ≡ freshRun edition ⌝ }
 {
     let none = TurnStockSpec {
         z_min_mm: 0.0,
@@ -75,7 +72,15 @@ pub fn fresh() -> Run
         cell_mm: 0.0,
         max_cells: 0,
     };
-    resumed(none, 0, 0)
+    let stock = TurnStock {
+        spec: none,
+        stamp: Stamp {
+            edition,
+            generation: 0,
+        },
+        rings: 0,
+    };
+    resumed(stock, 0)
 }
 
 // The next line refused.
@@ -266,9 +271,9 @@ pub fn output_line(
         out,
         run.refused,
         run.lines,
-        job.generation,
+        job.stock.stamp.generation,
         front(cells, job.cells),
-        front(rings, job.rings),
+        front(rings, job.stock.rings),
         k,
     )
 }

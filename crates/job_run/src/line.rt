@@ -1,8 +1,8 @@
 // A line of a job carried out: a bar first, then cuts and rings, each by the call that any other caller
 // makes.
 //
-// Between two lines a job is a spec, its counts and its generation by value, and its cells and rings
-// in lent memory. A line that is refused leaves all of them. Two lists are lent beside them for the
+// Between two lines a job is its stock and the count of its cells by value, and its cells and rings in
+// lent memory. A line that is refused leaves all of them. Two lists are lent beside them for the
 // changes of a cut, from its preview to its commit.
 ghost use mathlib.Core.Path.{_≡_};
 ghost use Prim.Native.Nat.{_*_, min};
@@ -19,7 +19,7 @@ use refusals::Refusal;
 use rings::Removed;
 use rings::Ring;
 use stock::Counted;
-use stock::Stamp;
+use stock::Made;
 use stock::TurnStock;
 use stock::TurnStockSpec;
 
@@ -31,12 +31,10 @@ pub const INDICES: usize = MAX_CELLS;
 
 pub const NUMBERS: usize = 8 * MAX_CELLS;
 
-// A job between two lines. Before its bar it has no cells.
+// A job between two lines. Before its bar it has no cells, and of its stock the edition alone counts.
 pub struct Job {
-    pub spec: TurnStockSpec,
+    pub stock: TurnStock,
     pub cells: usize,
-    pub rings: usize,
-    pub generation: u64,
 }
 
 // The job after a line.
@@ -47,27 +45,27 @@ pub enum Carried {
 
 // The preview of a cut, by the call of its kind.
 fn preview_of(
-    spec: TurnStockSpec,
+    stock: TurnStock,
     cells: &[f64],
     cut: Cut,
     indices: &mut [usize],
     records: &mut [f64],
 ) -> Previewed
-    ensures { λ r. ⌜ Proposed (previewCut spec (now (cells .entry)) cut (lentRoom indices records)) r
+    ensures { λ r. ⌜ Proposed (stock .stamp) (previewCut (stock .spec) (now (cells .entry)) cut (lentRoom indices records)) r
         (now (indices .entry)) (now (indices .exit)) (now (records .entry)) (now (records .exit)) ⌝ }
 {
     match cut {
         Cut::Thread { z0, z1, radius } => {
-            cuts::thread_cut(spec, cells, z0, z1, radius, indices, records)
+            cuts::thread_cut(stock, cells, z0, z1, radius, indices, records)
         }
         Cut::ThreadInner { z0, z1, radius } => {
-            cuts::thread_cut_inner(spec, cells, z0, z1, radius, indices, records)
+            cuts::thread_cut_inner(stock, cells, z0, z1, radius, indices, records)
         }
         Cut::Drill {
             tip_z,
             radius,
             cone,
-        } => cuts::drill(spec, cells, tip_z, radius, cone, indices, records),
+        } => cuts::drill(stock, cells, tip_z, radius, cone, indices, records),
         Cut::Line {
             side: _,
             rn: _,
@@ -76,32 +74,30 @@ fn preview_of(
             a_z: _,
             b_r: _,
             b_z: _,
-        } => cuts::preview_cut(spec, cells, cut, indices, records),
-        Cut::Arc => cuts::preview_cut(spec, cells, cut, indices, records),
+        } => cuts::preview_cut(stock, cells, cut, indices, records),
+        Cut::Arc => cuts::preview_cut(stock, cells, cut, indices, records),
     }
 }
 
 // A cut previewed into the lent lists, and committed from them. A preview that is accepted has asked
-// all that `apply` asks before its commit.
+// all that `apply` asks before its commit, and its list has the stock's stamp.
 fn make_cut(
-    spec: TurnStockSpec,
+    stock: TurnStock,
     cells: &mut [f64],
-    generation: u64,
     cut: Cut,
     indices: &mut [usize],
     records: &mut [f64],
 ) -> Applied
-    ensures { λ r. ⌜ Applies (madeCut spec (now (cells .entry)) generation cut (lentRoom indices records)) r
+    ensures { λ r. ⌜ Applies stock (madeCut stock (now (cells .entry)) cut (lentRoom indices records)) r
         (now (cells .entry)) (now (cells .exit)) ⌝ }
-    ensures { λ _. ⌜ ListsLent (writtenOf (previewCut spec (now (cells .entry)) cut (lentRoom indices records))) indices records ⌝ }
+    ensures { λ _. ⌜ ListsLent (writtenOf (previewCut (stock .spec) (now (cells .entry)) cut (lentRoom indices records))) indices records ⌝ }
 {
-    let previewed = preview_of(spec, cells, cut, indices, records);
+    let previewed = preview_of(stock, cells, cut, indices, records);
     match previewed {
         Previewed::Refused(r) => Applied::Refused(r),
-        Previewed::Changes(k) => {
-            let s = stock::clean_spec(spec);
+        Previewed::Listed(list) => {
             let n = cells.len() / 4;
-            changes::commit_unasked(s, n, cells, generation, indices, records, k)
+            changes::commit_unasked(stock, n, cells, indices, records, list.count)
         }
     }
 }
@@ -113,9 +109,9 @@ fn places(n: usize, len: usize) -> usize
     if n <= len / 4 { 4 * n } else { len }
 }
 
-// A bar: new cells at the front of the lent ones.
-fn take_bar(spec: TurnStockSpec, cells: &mut [f64]) -> Carried
-    ensures { λ r. ⌜ CellsLent (barLine spec) r cells ⌝ }
+// A bar: new cells at the front of the lent ones, of the edition that the job has.
+fn take_bar(edition: u32, spec: TurnStockSpec, cells: &mut [f64]) -> Carried
+    ensures { λ r. ⌜ CellsLent (barLine edition spec) r cells ⌝ }
 {
     let counted = stock::validate(spec);
     match counted {
@@ -125,13 +121,11 @@ fn take_bar(spec: TurnStockSpec, cells: &mut [f64]) -> Carried
                 return Carried::Refused(Refusal::CellsDoNotFit);
             }
             let end = 4 * n;
-            stock::fill(spec, &mut cells[..end]);
-            Carried::Onward(Job {
-                spec,
-                cells: n,
-                rings: 0,
-                generation: 0,
-            })
+            let made = stock::fill(spec, edition, &mut cells[..end]);
+            match made {
+                Made::Refused(r) => Carried::Refused(r),
+                Made::Stock(stock) => Carried::Onward(Job { stock, cells: n }),
+            }
         }
     }
 }
@@ -145,27 +139,18 @@ fn take_cut(
     records: &mut [f64],
 ) -> Carried
     ensures { λ r. ⌜ CellsLent (cutLine job cut (lentRoom indices records)) r cells ⌝ }
-    ensures { λ _. ⌜ ListsLent (writtenOf (previewCut (job .spec) (cellsOfJob job (now (cells .entry))) cut (lentRoom indices records)))
+    ensures { λ _. ⌜ ListsLent (writtenOf (previewCut (job .stock .spec) (cellsOfJob job (now (cells .entry))) cut (lentRoom indices records)))
         indices records ⌝ }
 {
-    let spec = job.spec;
+    let stock = job.stock;
     let end = places(job.cells, cells.len());
-    let applied = make_cut(
-        spec,
-        &mut cells[..end],
-        job.generation,
-        cut,
-        indices,
-        records,
-    );
+    let applied = make_cut(stock, &mut cells[..end], cut, indices, records);
     match applied {
         Applied::Refused(r) => Carried::Refused(r),
         Applied::RefusedAt(r, _) => Carried::Refused(r),
-        Applied::Generation(generation) => Carried::Onward(Job {
-            spec,
+        Applied::Stock(after) => Carried::Onward(Job {
+            stock: after,
             cells: job.cells,
-            rings: job.rings,
-            generation,
         }),
     }
 }
@@ -174,33 +159,23 @@ fn take_cut(
 fn take_ring(job: Job, rings: &mut [f64], ring: Ring) -> Carried
     ensures { λ r. ⌜ RingsLent (removingLine job ring) r rings ⌝ }
 {
-    let spec = job.spec;
-    let stock = TurnStock {
-        spec,
-        stamp: Stamp {
-            generation: job.generation,
-        },
-        rings: job.rings,
-    };
-    let removed = rings::remove_ring(stock, rings, ring);
+    let removed = rings::remove_ring(job.stock, rings, ring);
     match removed {
         Removed::Refused(r) => Carried::Refused(r),
         Removed::RefusedAt(r, _) => Carried::Refused(r),
-        Removed::Stock(after) => Carried::Onward(Job {
-            spec,
+        Removed::Stock(stock) => Carried::Onward(Job {
+            stock,
             cells: job.cells,
-            rings: after.rings,
-            generation: after.stamp.generation,
         }),
     }
 }
 
 // The first line, which is a bar.
-fn first_line(line: Line, cells: &mut [f64]) -> Carried
-    ensures { λ r. ⌜ CellsLent (firstLine line) r cells ⌝ }
+fn first_line(edition: u32, line: Line, cells: &mut [f64]) -> Carried
+    ensures { λ r. ⌜ CellsLent (firstLine edition line) r cells ⌝ }
 {
     match line {
-        Line::Bar(spec) => take_bar(spec, cells),
+        Line::Bar(spec) => take_bar(edition, spec, cells),
         Line::Cutting(_) => Carried::Refused(Refusal::LineMalformed),
         Line::Removing(_) => Carried::Refused(Refusal::LineMalformed),
         Line::Arc => Carried::Refused(Refusal::LineMalformed),
@@ -248,7 +223,7 @@ pub fn carry_out(
     }
     let read = job_words::read_line(line);
     if job.cells == 0 {
-        return first_line(read, cells);
+        return first_line(job.stock.stamp.edition, read, cells);
     }
     later_line(job, read, cells, rings, indices, records)
 }

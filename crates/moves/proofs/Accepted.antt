@@ -10,7 +10,9 @@ use lib.Ieee.{Float}
 use Rattle.refusals.specs.Paper.{answers}
 use Rattle.refusals.specs.Limits.{lastGeneration}
 use Rattle.floats.specs.Pick.{pick}
-use Rattle.stock.specs.declared.TurnStockSpec.{TurnStockSpec}
+use Rattle.stock.specs.declared.TurnStock.{TurnStock}
+use Rattle.stock.specs.Stock.{sameStamp}
+use Rattle.changes.specs.declared.ChangeList.{ChangeList}
 use Rattle.stock.specs.Spec.{cleanSpec}
 use Rattle.stock.specs.Cell.{stockOf}
 use Rattle.stock.proofs.Count.{same-answer, demanded, none-demanded, checked, stocked}
@@ -36,17 +38,18 @@ passed-disjoint e xs l f = store-disjoint e l (sym (ap (storeFits e) (rings-stor
 
 -- ---- a move
 -- what an accepted move says of the rule
-pub record Taken (spec : TurnStockSpec) (cs xs : List Float) (count g : ℕ) (is : List ℕ) (ys : List Float) (k : ℕ) (removed : List Float) (a : Left) : Type 0 where
+pub record Taken (stock : TurnStock) (cs xs : List Float) (list : ChangeList) (is : List ℕ) (ys : List Float) (removed : List Float) (a : Left) : Type 0 where
   pub bins : ℕ
-  pub stock : stockOf spec cs ≡ answers bins
-  pub room : k ≤ roomOf (length is) (length ys)
-  pub fits : countFits (barRing (cleanSpec spec)) xs count ≡ true
+  pub counted : stockOf (stock .spec) cs ≡ answers bins
+  pub room : list .count ≤ roomOf (length is) (length ys)
+  pub fits : countFits (barRing (cleanSpec (stock .spec))) xs (stock .rings) ≡ true
+  pub own : sameStamp (list .stamp) (stock .stamp) ≡ true
   pub good : ringsGood removed ≡ true
-  pub pass : passAll (cleanSpec spec) bins cs (changesFrom is ys k) ≡ answers tt
-  pub last : generationAfter spec g removed ≤ lastGeneration
-  pub rule : removeRings spec xs count removed ≡ answers (a .rings)
-  pub cells : a .cells ≡ putAll cs (changesFrom is ys k)
-  pub rises : a .generation ≡ generationAfter spec g removed
+  pub pass : passAll (cleanSpec (stock .spec)) bins cs (changesFrom is ys (list .count)) ≡ answers tt
+  pub last : generationAfter (stock .spec) (stock .stamp .generation) removed ≤ lastGeneration
+  pub rule : removeRings (stock .spec) xs (stock .rings) removed ≡ answers (a .rings)
+  pub cells : a .cells ≡ putAll cs (changesFrom is ys (list .count))
+  pub rises : a .generation ≡ generationAfter (stock .spec) (stock .stamp .generation) removed
 
 -- a turn of the rings keeps how many are not empty after clipping
 pub raised-turns : (e : Ring) {l m : List Ring} → List·Permᴰ l m → raisedBy e l ≡ raisedBy e m
@@ -61,60 +64,62 @@ raised-turns e (List·Permᴰ·swap {a = a} {b = b} {a′ = a′} {l = l} p q) =
     swap x y w = omega arith
 raised-turns e (List·Permᴰ·trans d d′) = raised-turns e d ∙ raised-turns e d′
 
-module _ (spec : TurnStockSpec) (cs xs : List Float) (count g : ℕ) (is : List ℕ) (ys : List Float) (k : ℕ) where
-  pub taken : (removed : List Float) (a : Left) → moveOf spec cs xs count g is ys k removed ≡ answers a → Taken spec cs xs count g is ys k removed a
+module _ (stock : TurnStock) (cs xs : List Float) (list : ChangeList) (is : List ℕ) (ys : List Float) where
+  pub taken : (removed : List Float) (a : Left) → moveOf stock cs xs list is ys removed ≡ answers a → Taken stock cs xs list is ys removed a
   unfolding moveOf moveIn
   taken removed a h =
       let s = answered _ _ _ h in
       let d6 = demanded _ _ _ _ (s .then) in
       let d4 = demanded _ _ _ _ (d6 .1) in
-      let d10 = none-demanded _ _ _ _ (d4 .1) in
+      let d19 = demanded _ _ _ _ (d4 .1) in
+      let d10 = none-demanded _ _ _ _ (d19 .1) in
       let p = answered _ _ _ (d10 .1) in
       let d12 = demanded _ _ _ _ (p .then) in
       let r = answered _ _ _ (d12 .1) in
-      let v : _≡_ {A = Left} (record { cells = putAll cs (changesFrom is ys k); rings = r .value; generation = generationAfter spec g removed }) a = same-answer (r .then) in
+      let v : _≡_ {A = Left} (record { cells = putAll cs (changesFrom is ys (list .count)); rings = r .value; generation = generationAfter (stock .spec) (stock .stamp .generation) removed }) a = same-answer (r .then) in
       record {
         bins = s .value;
-        stock = s .first;
-        room = leb-true k (roomOf (length is) (length ys)) (d6 .0);
+        counted = s .first;
+        room = leb-true (list .count) (roomOf (length is) (length ys)) (d6 .0);
         fits = d4 .0;
+        own = d19 .0;
         good = none-good removed (d10 .0);
         pass = p .first;
-        last = leb-true (generationAfter spec g removed) lastGeneration (d12 .0);
+        last = leb-true (generationAfter (stock .spec) (stock .stamp .generation) removed) lastGeneration (d12 .0);
         rule = r .first ∙ ap (λ (x : Left). answers (x .rings)) v;
         cells = sym (ap (λ (x : Left). x .cells) v);
         rises = sym (ap (λ (x : Left). x .generation) v);
       }
 
-  module _ (removed : List Float) (a : Left) (h : moveOf spec cs xs count g is ys k removed ≡ answers a) where
+  module _ (removed : List Float) (a : Left) (h : moveOf stock cs xs list is ys removed ≡ answers a) where
     -- the stock afterwards has as many cells, and they fit
-    pub move-stock : stockOf spec (a .cells) ≡ stockOf spec cs
+    pub move-stock : stockOf (stock .spec) (a .cells) ≡ stockOf (stock .spec) cs
     move-stock =
         let t = taken removed a h in
-        ap (stockOf spec) (t .cells) ∙ passed-stock spec cs (t .bins) (changesFrom is ys k) (t .stock) (t .pass) ∙ sym (t .stock)
+        ap (stockOf (stock .spec)) (t .cells) ∙ passed-stock (stock .spec) cs (t .bins) (changesFrom is ys (list .count)) (t .counted) (t .pass) ∙ sym (t .counted)
 
     -- its rings pass refusal 4's test again
-    pub move-passes : countFits (barRing (cleanSpec spec)) (storeAs xs (a .rings)) (length (a .rings)) ≡ true
+    pub move-passes : countFits (barRing (cleanSpec (stock .spec))) (storeAs xs (a .rings)) (length (a .rings)) ≡ true
     move-passes =
         let t = taken removed a h in
-        rings-pass-again spec xs count (t .fits) removed (a .rings) (checked spec (t .bins) (stocked spec cs (t .bins) (t .stock) .count) .good) (t .good) (t .rule)
+        rings-pass-again (stock .spec) xs (stock .rings) (t .fits) removed (a .rings) (checked (stock .spec) (t .bins) (stocked (stock .spec) cs (t .bins) (t .counted) .count) .good) (t .good) (t .rule)
 
     -- no two of them share a point
     pub move-disjoint : Disjoint (a .rings)
-    move-disjoint = passed-disjoint (barRing (cleanSpec spec)) xs (a .rings) move-passes
+    move-disjoint = passed-disjoint (barRing (cleanSpec (stock .spec))) xs (a .rings) move-passes
 
     -- they cover what was covered and what the clipped rings of the move cover, and nothing else
-    pub move-covers : (z r : Float) → covered (a .rings) z r ≡ (covered (ringsOf count xs) z r || covered (map (clip (barRing (cleanSpec spec))) (ringsOf (length removed / 4) removed)) z r)
-    move-covers = let t = taken removed a h in rings-cover spec xs count (t .fits) removed (a .rings) (t .rule)
+    pub move-covers : (z r : Float) → covered (a .rings) z r ≡ (covered (ringsOf (stock .rings) xs) z r || covered (map (clip (barRing (cleanSpec (stock .spec)))) (ringsOf (length removed / 4) removed)) z r)
+    move-covers = let t = taken removed a h in rings-cover (stock .spec) xs (stock .rings) (t .fits) removed (a .rings) (t .rule)
 
   -- two orders of the rings of a move, both accepted: the same cells, the same generation, and the same points covered
-  module _ (removed removed' : List Float) (a a' : Left) (turn : List·Permᴰ (ringsOf (length removed / 4) removed) (ringsOf (length removed' / 4) removed')) (h : moveOf spec cs xs count g is ys k removed ≡ answers a) (h' : moveOf spec cs xs count g is ys k removed' ≡ answers a') where
+  module _ (removed removed' : List Float) (a a' : Left) (turn : List·Permᴰ (ringsOf (length removed / 4) removed) (ringsOf (length removed' / 4) removed')) (h : moveOf stock cs xs list is ys removed ≡ answers a) (h' : moveOf stock cs xs list is ys removed' ≡ answers a') where
     pub either-cells : a .cells ≡ a' .cells
     either-cells = taken removed a h .cells ∙ sym (taken removed' a' h' .cells)
 
     pub either-generation : a .generation ≡ a' .generation
     unfolding generationAfter
-    either-generation = taken removed a h .rises ∙ ap (λ (n : ℕ). g + 1 + n) (raised-turns (barRing (cleanSpec spec)) turn) ∙ sym (taken removed' a' h' .rises)
+    either-generation = taken removed a h .rises ∙ ap (λ (n : ℕ). stock .stamp .generation + 1 + n) (raised-turns (barRing (cleanSpec (stock .spec))) turn) ∙ sym (taken removed' a' h' .rises)
 
     pub either-covers : (z r : Float) → covered (a .rings) z r ≡ covered (a' .rings) z r
-    either-covers = rings-either-order spec xs count (taken removed a h .fits) removed removed' (a .rings) (a' .rings) turn (taken removed a h .rule) (taken removed' a' h' .rule)
+    either-covers = rings-either-order (stock .spec) xs (stock .rings) (taken removed a h .fits) removed removed' (a .rings) (a' .rings) turn (taken removed a h .rule) (taken removed' a' h' .rule)

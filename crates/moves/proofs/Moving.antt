@@ -14,9 +14,12 @@ use Rattle.refusals.specs.Paper.{Paper, Reason, answers, refuses, only, at, onw
 use Rattle.refusals.specs.Limits.{lastGeneration}
 use Rattle.stock.specs.declared.TurnStockSpec.{TurnStockSpec}
 use Rattle.stock.specs.declared.TurnStock.{TurnStock}
+use Rattle.stock.specs.declared.Stamp.{Stamp}
 use Rattle.stock.specs.declared.TurnChange.{TurnChange}
 use Rattle.stock.specs.Spec.{cleanSpec}
 use Rattle.stock.specs.Cell.{stockOf}
+use Rattle.stock.specs.Stock.{sameStamp}
+use Rattle.changes.specs.declared.ChangeList.{ChangeList}
 use Rattle.changes.specs.Change.{roomOf, changesFrom}
 use Rattle.rings.specs.declared.Ring.{Ring}
 use Rattle.rings.specs.declared.StoredAs.{StoredAs}
@@ -78,68 +81,73 @@ pub put-is : (is : List ℕ) (ys : List Float) (k : ℕ) (cs cs' : List Float) �
 put-is is ys k cs cs' h e = e ∙ put-held is ys k h cs
 
 -- ---- the rule of a move on checked cells, refusal by refusal
-module _ (spec : TurnStockSpec) (n : ℕ) (cs xs : List Float) (count g : ℕ) (l : List TurnChange) (removed : List Float) where
-  pub refuses-4 : countFits (barRing (cleanSpec spec)) xs count ≡ false → moveIn spec n cs xs count g l removed ≡ refuses (only 4)
+module _ (k : TurnStock) (n : ℕ) (cs xs : List Float) (stamp : Stamp) (l : List TurnChange) (removed : List Float) where
+  pub refuses-4 : countFits (barRing (cleanSpec (k .spec))) xs (k .rings) ≡ false → moveIn k n cs xs stamp l removed ≡ refuses (only 4)
   unfolding moveIn
   refuses-4 e = simp (papers, e)
 
-  module _ (fit : countFits (barRing (cleanSpec spec)) xs count ≡ true) where
-    pub refuses-10 : (k : ℕ) → badRing removed ≡ some k → moveIn spec n cs xs count g l removed ≡ refuses (at 10 k)
+  module _ (fit : countFits (barRing (cleanSpec (k .spec))) xs (k .rings) ≡ true) where
+    pub refuses-19 : sameStamp stamp (k .stamp) ≡ false → moveIn k n cs xs stamp l removed ≡ refuses (only 19)
     unfolding moveIn
-    refuses-10 k e = demand-true _ _ _ fit ∙ demandNone-some _ _ _ _ e
+    refuses-19 e = simp (papers, fit, e)
 
-    module _ (good : badRing removed ≡ none) where
-      pub refuses-change : (r : Reason) → passAll (cleanSpec spec) n cs l ≡ refuses r → moveIn spec n cs xs count g l removed ≡ refuses r
+    module _ (own : sameStamp stamp (k .stamp) ≡ true) where
+      pub refuses-10 : (j : ℕ) → badRing removed ≡ some j → moveIn k n cs xs stamp l removed ≡ refuses (at 10 j)
       unfolding moveIn
-      refuses-change r e = simp (papers, fit, good, e)
+      refuses-10 j e = demand-true _ _ _ fit ∙ demand-true _ _ _ own ∙ demandNone-some _ _ _ _ e
 
-      module _ (pass : passAll (cleanSpec spec) n cs l ≡ answers tt) (raised : ℕ) (rise : raised ≡ raisedBy (barRing (cleanSpec spec)) (ringsOf (length removed / 4) removed)) where
-        after : generationAfter spec g removed ≡ g + 1 + raised
-        unfolding generationAfter
-        after = ap (λ (k : ℕ). g + 1 + k) (sym rise)
-
-        pub refuses-12 : g ≤ lastGeneration → lastGeneration - g ≤ raised → moveIn spec n cs xs count g l removed ≡ refuses (only 12)
+      module _ (good : badRing removed ≡ none) where
+        pub refuses-change : (r : Reason) → passAll (cleanSpec (k .spec)) n cs l ≡ refuses r → moveIn k n cs xs stamp l removed ≡ refuses r
         unfolding moveIn
-        refuses-12 b h = simp (papers, fit, good, pass, lt-leb (generationAfter spec g removed) lastGeneration (over after))
-          where
-            over : generationAfter spec g removed ≡ g + 1 + raised → lastGeneration < generationAfter spec g removed
-            over a = omega arith
+        refuses-change r e = simp (papers, fit, own, good, e)
 
-        module _ (few : raised < lastGeneration - g) (st : StoredAs) (xs' : List Float) (s : StoresAs xs (removeRings spec xs count removed) st xs') where
-          -- past 12, what the rings answer is left
-          goes-on : moveIn spec n cs xs count g l removed ≡ onward (removeRings spec xs count removed) (λ rs. answers (record { cells = putAll cs l; rings = rs; generation = generationAfter spec g removed }))
+        module _ (pass : passAll (cleanSpec (k .spec)) n cs l ≡ answers tt) (raised : ℕ) (rise : raised ≡ raisedBy (barRing (cleanSpec (k .spec))) (ringsOf (length removed / 4) removed)) where
+          after : generationAfter (k .spec) (k .stamp .generation) removed ≡ (k .stamp .generation) + 1 + raised
+          unfolding generationAfter
+          after = ap (λ (j : ℕ). k .stamp .generation + 1 + j) (sym rise)
+
+          pub refuses-12 : (k .stamp .generation) ≤ lastGeneration → lastGeneration - (k .stamp .generation) ≤ raised → moveIn k n cs xs stamp l removed ≡ refuses (only 12)
           unfolding moveIn
-          goes-on = simp (papers, fit, good, pass, le-leb (generationAfter spec g removed) lastGeneration (within after))
+          refuses-12 b h = simp (papers, fit, own, good, pass, lt-leb (generationAfter (k .spec) (k .stamp .generation) removed) lastGeneration (over after))
             where
-              within : generationAfter spec g removed ≡ g + 1 + raised → generationAfter spec g removed ≤ lastGeneration
-              within a = omega arith
+              over : generationAfter (k .spec) (k .stamp .generation) removed ≡ (k .stamp .generation) + 1 + raised → lastGeneration < generationAfter (k .spec) (k .stamp .generation) removed
+              over a = omega arith
 
-          rings-say : (p : Paper (List Ring)) → removeRings spec xs count removed ≡ p → moveIn spec n cs xs count g l removed ≡ onward p (λ rs. answers (record { cells = putAll cs l; rings = rs; generation = generationAfter spec g removed }))
-          rings-say p e = goes-on ∙ ap (λ (q : Paper (List Ring)). onward q (λ rs. answers (record { cells = putAll cs l; rings = rs; generation = generationAfter spec g removed }))) e
+          module _ (few : raised < lastGeneration - (k .stamp .generation)) (st : StoredAs) (xs' : List Float) (s : StoresAs xs (removeRings (k .spec) xs (k .rings) removed) st xs') where
+            -- past 12, what the rings answer is left
+            goes-on : moveIn k n cs xs stamp l removed ≡ onward (removeRings (k .spec) xs (k .rings) removed) (λ rs. answers (record { cells = putAll cs l; rings = rs; generation = generationAfter (k .spec) (k .stamp .generation) removed }))
+            unfolding moveIn
+            goes-on = simp (papers, fit, own, good, pass, le-leb (generationAfter (k .spec) (k .stamp .generation) removed) lastGeneration (within after))
+              where
+                within : generationAfter (k .spec) (k .stamp .generation) removed ≡ (k .stamp .generation) + 1 + raised → generationAfter (k .spec) (k .stamp .generation) removed ≤ lastGeneration
+                within a = omega arith
 
-          pub refuses-11 : (x : Reason) (r : Counts) → countsPaper r ≡ refuses x → storedPaper st ≡ refuses x → Shifts (moveIn spec n cs xs count g l removed) r cs cs xs xs'
-          unfolding onward
-          refuses-11 x r a e =
-              let y = refused xs (removeRings spec xs count removed) st xs' x s e in
-              left-as (moveIn spec n cs xs count g l removed) r x cs xs xs' a (rings-say (refuses x) (y .0)) (y .1)
+            rings-say : (p : Paper (List Ring)) → removeRings (k .spec) xs (k .rings) removed ≡ p → moveIn k n cs xs stamp l removed ≡ onward p (λ rs. answers (record { cells = putAll cs l; rings = rs; generation = generationAfter (k .spec) (k .stamp .generation) removed }))
+            rings-say p e = goes-on ∙ ap (λ (q : Paper (List Ring)). onward q (λ rs. answers (record { cells = putAll cs l; rings = rs; generation = generationAfter (k .spec) (k .stamp .generation) removed }))) e
 
-          pub moves : (m : ℕ) (cs' : List Float) → st ≡ stored.Rings m → cs' ≡ putAll cs l → Shifts (moveIn spec n cs xs count g l removed) (counts.Stored m (g + 1 + raised)) cs cs' xs xs'
-          unfolding onward
-          moves m cs' e ec =
-              let y = accepted xs (removeRings spec xs count removed) st xs' m s e in
-              done (moveIn spec n cs xs count g l removed) (record { cells = putAll cs l; rings = y .rings; generation = generationAfter spec g removed }) m (g + 1 + raised) cs cs' xs xs' (rings-say (answers (y .rings)) (y .rule)) (y .count) (sym after) ec
-              (y .store)
+            pub refuses-11 : (x : Reason) (r : Counts) → countsPaper r ≡ refuses x → storedPaper st ≡ refuses x → Shifts (moveIn k n cs xs stamp l removed) r cs cs xs xs'
+            unfolding onward
+            refuses-11 x r a e =
+                let y = refused xs (removeRings (k .spec) xs (k .rings) removed) st xs' x s e in
+                left-as (moveIn k n cs xs stamp l removed) r x cs xs xs' a (rings-say (refuses x) (y .0)) (y .1)
+
+            pub moves : (m : ℕ) (cs' : List Float) → st ≡ stored.Rings m → cs' ≡ putAll cs l → Shifts (moveIn k n cs xs stamp l removed) (counts.Stored m ((k .stamp .generation) + 1 + raised)) cs cs' xs xs'
+            unfolding onward
+            moves m cs' e ec =
+                let y = accepted xs (removeRings (k .spec) xs (k .rings) removed) st xs' m s e in
+                done (moveIn k n cs xs stamp l removed) (record { cells = putAll cs l; rings = y .rings; generation = generationAfter (k .spec) (k .stamp .generation) removed }) m ((k .stamp .generation) + 1 + raised) cs cs' xs xs' (rings-say (answers (y .rings)) (y .rule)) (y .count) (sym after) ec
+                (y .store)
 
 -- ---- the rule of a move of the lent lists
-module _ (spec : TurnStockSpec) (cs xs : List Float) (count g : ℕ) (is : List ℕ) (ys : List Float) (k : ℕ) (removed : List Float) where
-  pub move-refused : (r : Reason) → stockOf spec cs ≡ refuses r → moveOf spec cs xs count g is ys k removed ≡ refuses r
+module _ (k : TurnStock) (cs xs : List Float) (list : ChangeList) (is : List ℕ) (ys : List Float) (removed : List Float) where
+  pub move-refused : (r : Reason) → stockOf (k .spec) cs ≡ refuses r → moveOf k cs xs list is ys removed ≡ refuses r
   unfolding moveOf
   move-refused r e = simp (papers, e)
 
-  pub move-short : (n : ℕ) → stockOf spec cs ≡ answers n → roomOf (length is) (length ys) < k → moveOf spec cs xs count g is ys k removed ≡ refuses (only 6)
+  pub move-short : (n : ℕ) → stockOf (k .spec) cs ≡ answers n → roomOf (length is) (length ys) < list .count → moveOf k cs xs list is ys removed ≡ refuses (only 6)
   unfolding moveOf
-  move-short n e h = simp (papers, e, lt-leb k (roomOf (length is) (length ys)) h)
+  move-short n e h = simp (papers, e, lt-leb (list .count) (roomOf (length is) (length ys)) h)
 
-  pub move-is : (n : ℕ) → stockOf spec cs ≡ answers n → k ≤ roomOf (length is) (length ys) → moveOf spec cs xs count g is ys k removed ≡ moveIn spec n cs xs count g (changesFrom is ys k) removed
+  pub move-is : (n : ℕ) → stockOf (k .spec) cs ≡ answers n → list .count ≤ roomOf (length is) (length ys) → moveOf k cs xs list is ys removed ≡ moveIn k n cs xs (list .stamp) (changesFrom is ys (list .count)) removed
   unfolding moveOf
-  move-is n e h = simp (papers, e, le-leb k (roomOf (length is) (length ys)) h)
+  move-is n e h = simp (papers, e, le-leb (list .count) (roomOf (length is) (length ys)) h)

@@ -75,5 +75,5 @@ same-rebuilt (rebuilt.RefusedAt c k) (rebuilt.RefusedAt c' k') h =
     ap₂ (λ (x : Refusal) (j : ℕ). rebuilt.RefusedAt x j) (p .0) (p .1)
 
 -- the answer and the rings
-pub rebuilt-once : (spec : TurnStockSpec) (p : Paper (List Ring)) (r r' : Rebuilt) (xs xs₁ xs₂ : List Float) → Rebuilds spec xs p r xs₁ → Rebuilds spec xs p r' xs₂ → (r ≡ r') × (xs₁ ≡ xs₂)
-rebuilt-once spec p r r' xs xs₁ xs₂ a b = (same-rebuilt r r' (a .answer ∙ sym (b .answer)), a .store ∙ sym (b .store))
+pub rebuilt-once : (spec : TurnStockSpec) (edition : ℕ) (p : Paper (List Ring)) (r r' : Rebuilt) (xs xs₁ xs₂ : List Float) → Rebuilds spec edition xs p r xs₁ → Rebuilds spec edition xs p r' xs₂ → (r ≡ r') × (xs₁ ≡ xs₂)
+rebuilt-once spec edition p r r' xs xs₁ xs₂ a b = (same-rebuilt r r' (a .answer ∙ sym (b .answer)), a .store ∙ sym (b .store))

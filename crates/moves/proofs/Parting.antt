@@ -40,5 +40,5 @@ module _ (spec : TurnStockSpec) (cs given xs : List Float) where
     parts-stored r xs' f s = subst (λ (p : Paper (List Ring)). StoresAs xs p r xs') (sym (parts-are f)) s
 
 -- from the count of rings to the stock that has them
-pub rebuilds-from : {spec : TurnStockSpec} {xs ys : List Float} {p : Paper (List Ring)} {t : StoredAs} {r : Rebuilt} → rebuiltPaper r ≡ stockStored spec (storedPaper t) → StoresAs xs p t ys → Rebuilds spec xs p r ys
-rebuilds-from {spec} e s = record { answer = e ∙ ap (stockStored spec) (s .answer); store = s .store }
+pub rebuilds-from : {spec : TurnStockSpec} {edition : ℕ} {xs ys : List Float} {p : Paper (List Ring)} {t : StoredAs} {r : Rebuilt} → rebuiltPaper r ≡ stockStored spec edition (storedPaper t) → StoresAs xs p t ys → Rebuilds spec edition xs p r ys
+rebuilds-from {spec} {edition} e s = record { answer = e ∙ ap (stockStored spec edition) (s .answer); store = s .store }

@@ -13,9 +13,11 @@ use Rattle.refusals.specs.Lent.{Lent}
 use Rattle.stock.specs.declared.TurnStockSpec.{TurnStockSpec}
 use Rattle.stock.specs.declared.TurnStock.{TurnStock}
 use Rattle.stock.specs.declared.TurnChange.{TurnChange}
+use Rattle.stock.specs.declared.Stamp.{Stamp}
 use Rattle.stock.specs.Spec.{cleanSpec}
 use Rattle.stock.specs.Cell.{stockOf}
-use Rattle.stock.specs.Stock.{stockFrom}
+use Rattle.stock.specs.Stock.{sameStamp, stockFrom}
+use Rattle.changes.specs.declared.ChangeList.{ChangeList}
 use Rattle.changes.specs.Change.{roomOf, changesFrom}
 use Rattle.rings.specs.declared.Ring.{Ring}
 use Rattle.rings.specs.Store.{barRing, ringsOf, storeAs, countFits, badRing, raisedBy}
@@ -39,22 +41,25 @@ pub record Left : Type 0 where
 unfoldable pub generationAfter : TurnStockSpec → ℕ → List Float → ℕ
 generationAfter spec g removed = g + 1 + raisedBy (barRing (cleanSpec spec)) (ringsOf (length removed / 4) removed)
 
--- a move on n checked cells: 4, 10, 7, then 8, 21, 22, 23 change by change, then 12, 11
-unfoldable pub moveIn : TurnStockSpec → ℕ → List Float → List Float → ℕ → ℕ → List TurnChange → List Float → Paper Left
-moveIn spec n cs xs count g l removed =
-    demand (countFits (barRing (cleanSpec spec)) xs count) 4
+-- a move on n checked cells of a list with its stamp: 4, 19 unless the stamp is the stock's, 10, 7, then 8, 21, 22, 23 change by change, then 12, 11
+unfoldable pub moveIn : TurnStock → ℕ → List Float → List Float → Stamp → List TurnChange → List Float → Paper Left
+moveIn k n cs xs st l removed =
+    let spec = k .spec in
+    let g = k .stamp .generation in
+    demand (countFits (barRing (cleanSpec spec)) xs (k .rings)) 4
+    (demand (sameStamp st (k .stamp)) 19
     (demandNone (badRing removed) 10
     (onward (passAll (cleanSpec spec) n cs l) (λ _.
     demand (leb (generationAfter spec g removed) lastGeneration) 12
-    (onward (removeRings spec xs count removed) (λ rs.
-    answers (record { cells = putAll cs l; rings = rs; generation = generationAfter spec g removed }))))))
+    (onward (removeRings spec xs (k .rings) removed) (λ rs.
+    answers (record { cells = putAll cs l; rings = rs; generation = generationAfter spec g removed })))))))
 
--- a move of k changes of the lent lists: 1, 2, 3, 6 where they hold fewer, then as above
-unfoldable pub moveOf : TurnStockSpec → List Float → List Float → ℕ → ℕ → List ℕ → List Float → ℕ → List Float → Paper Left
-moveOf spec cs xs count g is ys k removed =
-    onward (stockOf spec cs) (λ n.
-    demand (leb k (roomOf (length is) (length ys))) 6
-    (moveIn spec n cs xs count g (changesFrom is ys k) removed))
+-- a move of a change list from the lent lists: 1, 2, 3, 6 where they hold fewer, then as above
+unfoldable pub moveOf : TurnStock → List Float → List Float → ChangeList → List ℕ → List Float → List Float → Paper Left
+moveOf k cs xs list is ys removed =
+    onward (stockOf (k .spec) cs) (λ n.
+    demand (leb (list .count) (roomOf (length is) (length ys))) 6
+    (moveIn k n cs xs (list .stamp) (changesFrom is ys (list .count)) removed))
 
 -- ---- what a move answers, case by case, and what the lent numbers hold afterwards
 
@@ -106,10 +111,10 @@ partsOf spec cs given xs =
     demandNone (badRing given) 10
     (removeRings spec xs 0 given))
 
--- the stock with that many rings, at generation 0
-abbrev pub stockStored : TurnStockSpec → Paper ℕ → Paper TurnStock
-stockStored spec (answers n) = answers (stockFrom spec n 0)
-stockStored spec (refuses r) = refuses r
+-- the stock of an edition with that many rings, at generation 0
+abbrev pub stockStored : TurnStockSpec → ℕ → Paper ℕ → Paper TurnStock
+stockStored spec edition (answers n) = answers (stockFrom spec edition n 0)
+stockStored spec edition (refuses r) = refuses r
 
 abbrev pub rebuiltPaper : Rebuilt → Paper TurnStock
 rebuiltPaper (rebuilt.Stock k) = answers k
@@ -117,6 +122,6 @@ rebuiltPaper (rebuilt.Refused c) = refuses (reasonOf c)
 rebuiltPaper (rebuilt.RefusedAt c k) = refuses (reasonAt c k)
 
 -- the stock, and the lent rings
-pub record Rebuilds (spec : TurnStockSpec) (xs : List Float) (p : Paper (List Ring)) (r : Rebuilt) (ys : List Float) : Type 0 where
-  pub answer : rebuiltPaper r ≡ stockStored spec (countOf p)
+pub record Rebuilds (spec : TurnStockSpec) (edition : ℕ) (xs : List Float) (p : Paper (List Ring)) (r : Rebuilt) (ys : List Float) : Type 0 where
+  pub answer : rebuiltPaper r ≡ stockStored spec edition (countOf p)
   pub store : ys ≡ storeAfter xs p

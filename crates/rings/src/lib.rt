@@ -17,7 +17,6 @@ use refusals::LAST_GENERATION;
 use refusals::PIECE_LIMIT;
 use refusals::Refusal;
 use stock::Counted;
-use stock::Stamp;
 use stock::TurnStock;
 use stock::TurnStockSpec;
 
@@ -137,15 +136,10 @@ fn remove_from(
 fn with_counts(stock: TurnStock, counts: Counts) -> Removed
     ensures { λ r. ⌜ removedPaper r ≡ stockAfter stock (countsPaper counts) ⌝ }
 {
-    let spec = stock.spec;
     match counts {
         Counts::Refused(r) => Removed::Refused(r),
         Counts::RefusedAt(r, k) => Removed::RefusedAt(r, k),
-        Counts::Stored(n, generation) => Removed::Stock(TurnStock {
-            spec,
-            stamp: Stamp { generation },
-            rings: n,
-        }),
+        Counts::Stored(n, generation) => { Removed::Stock(stock::stock_with(stock, n, generation)) }
     }
 }
 

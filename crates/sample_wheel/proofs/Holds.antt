@@ -27,7 +27,7 @@ use Rattle.queries.specs.Envelope.{firstAt, lastAt, shownOf, together, mostOver
 use Rattle.cuts.specs.Cut.{misses, drillAt, threadReach, drillReach, cutReach, cutGood, cleanCut}
 use Rattle.cuts.specs.Preview.{previewOf, previewCut}
 use Rattle.cuts.specs.Tool.{previewTool}
-use Rattle.changes.specs.Commit.{appliesTo, passes, eachFrom, fallAfter, firstFall, passAll, commitIn, commitOf}
+use Rattle.changes.specs.Commit.{appliesTo, passes, eachFrom, fallAfter, firstFall, passAll, commitIn, ownCommit}
 use Rattle.demands.specs.Job.{turned, turnedAll}
 use Rattle.sample_wheel.specs.Wheel.{newBar, afterCuts, takeRing, afterRings, answerOf}
 use Rattle.sample_wheel.specs.Table.{Row, table, P1, P2, P3, P4, P5, P6, P7, P8, P9, P9b, P10, P10b, P11, P12, P12b, P13, P13b, P13c}
@@ -43,17 +43,17 @@ roots = (refl, (refl, tt))
 
 -- a nose
 noses : Each Holds (P3 ∷ P4 ∷ P5 ∷ [])
-unfolding demand demandNone placed onward pick leastOf greatestOf sizeOf minusZero cleanOf rootBelow wholeRoot rootIn rootOf wholeUp cleanSpec specGood cellsOf binOf putCell cellFits fitTo cellsFit stockOf cellsLike deeper shallower deepOf sureOf limitOf withPair ownOf cutBy cutCell changeAt changesTo appliesTo passes eachFrom fallAfter firstFall passAll commitIn commitOf turned turnedAll newBar afterCuts answerOf previewOf previewTool previewCut tinyParts plainLength scaledBack lengthOf lowerOf upperOf flipped storedOf reachFrom endAt facing normalOf shifted lineAt sideAt capsuleMinR leastPoint capsuleLowest cleanAt segmentAt segmentGood goodTo segmentsGood inBin lowWith highWith withSegment noseTo noseReach noseAct Ieee.ofBits Ieee.ofFields Ieee.odd Ieee.eq Ieee.ne Ieee.lt Ieee.le Ieee.div Ieee.sub Ieee.add Ieee.mul Ieee.neg Ieee.sum Ieee.round Ieee.units Ieee.ofInt Ieee.size Ieee.span Ieee.climb Ieee.toUnsigned
+unfolding demand demandNone placed onward pick leastOf greatestOf sizeOf minusZero cleanOf rootBelow wholeRoot rootIn rootOf wholeUp cleanSpec specGood cellsOf binOf putCell cellFits fitTo cellsFit stockOf cellsLike deeper shallower deepOf sureOf limitOf withPair ownOf cutBy cutCell changeAt changesTo appliesTo passes eachFrom fallAfter firstFall passAll commitIn ownCommit turned turnedAll newBar afterCuts answerOf previewOf previewTool previewCut tinyParts plainLength scaledBack lengthOf lowerOf upperOf flipped storedOf reachFrom endAt facing normalOf shifted lineAt sideAt capsuleMinR leastPoint capsuleLowest cleanAt segmentAt segmentGood goodTo segmentsGood inBin lowWith highWith withSegment noseTo noseReach noseAct Ieee.ofBits Ieee.ofFields Ieee.odd Ieee.eq Ieee.ne Ieee.lt Ieee.le Ieee.div Ieee.sub Ieee.add Ieee.mul Ieee.neg Ieee.sum Ieee.round Ieee.units Ieee.ofInt Ieee.size Ieee.span Ieee.climb Ieee.toUnsigned
 noses = (refl, (refl, (refl, tt)))
 
 -- a thread, a drill, a polygon
 others : Each Holds (P6 ∷ P7 ∷ P8 ∷ [])
-unfolding demand demandNone placed onward pick leastOf greatestOf sizeOf minusZero cleanOf wholeUp cleanSpec specGood cellsOf binOf putCell cellFits fitTo cellsFit stockOf cellsLike deeper shallower deepOf sureOf limitOf withPair ownOf cutBy cutCell changeAt changesTo appliesTo passes eachFrom fallAfter firstFall passAll commitIn commitOf turned turnedAll newBar afterCuts answerOf previewOf previewTool previewCut misses drillAt threadReach drillReach cutReach cutGood cleanCut usableTo allTo polygonGood heightAt pointAt alongOf edgeAt lowestTo lowestOf widened extentTo extentOf spans pastOf binsFrom binsOf lowsTo lowsFrom Polygon.raised highFrom lowIn highIn sweptReach reachOver polygonReach polygonAct lowerOf upperOf flipped storedOf reachFrom Ieee.ofBits Ieee.ofFields Ieee.odd Ieee.eq Ieee.ne Ieee.lt Ieee.le Ieee.div Ieee.sub Ieee.add Ieee.mul Ieee.neg Ieee.sum Ieee.round Ieee.units Ieee.ofInt Ieee.size Ieee.span Ieee.climb Ieee.toUnsigned
+unfolding demand demandNone placed onward pick leastOf greatestOf sizeOf minusZero cleanOf wholeUp cleanSpec specGood cellsOf binOf putCell cellFits fitTo cellsFit stockOf cellsLike deeper shallower deepOf sureOf limitOf withPair ownOf cutBy cutCell changeAt changesTo appliesTo passes eachFrom fallAfter firstFall passAll commitIn ownCommit turned turnedAll newBar afterCuts answerOf previewOf previewTool previewCut misses drillAt threadReach drillReach cutReach cutGood cleanCut usableTo allTo polygonGood heightAt pointAt alongOf edgeAt lowestTo lowestOf widened extentTo extentOf spans pastOf binsFrom binsOf lowsTo lowsFrom Polygon.raised highFrom lowIn highIn sweptReach reachOver polygonReach polygonAct lowerOf upperOf flipped storedOf reachFrom Ieee.ofBits Ieee.ofFields Ieee.odd Ieee.eq Ieee.ne Ieee.lt Ieee.le Ieee.div Ieee.sub Ieee.add Ieee.mul Ieee.neg Ieee.sum Ieee.round Ieee.units Ieee.ofInt Ieee.size Ieee.span Ieee.climb Ieee.toUnsigned
 others = (refl, (refl, (refl, tt)))
 
 -- cuts in two orders
 orders : Each Holds (P9 ∷ P9b ∷ P10 ∷ P10b ∷ [])
-unfolding demand demandNone placed onward pick leastOf greatestOf sizeOf minusZero cleanOf rootBelow wholeRoot rootIn rootOf wholeUp cleanSpec specGood cellsOf binOf putCell cellFits fitTo cellsFit stockOf cellsLike deeper shallower deepOf sureOf limitOf withPair ownOf cutBy cutCell changeAt changesTo appliesTo passes eachFrom fallAfter firstFall passAll commitIn commitOf turned turnedAll newBar afterCuts answerOf previewOf previewTool previewCut tinyParts plainLength scaledBack lengthOf lowerOf upperOf flipped storedOf reachFrom endAt facing normalOf shifted lineAt sideAt capsuleMinR leastPoint capsuleLowest cleanAt segmentAt segmentGood goodTo segmentsGood inBin lowWith highWith withSegment noseTo noseReach noseAct misses drillAt threadReach drillReach cutReach cutGood cleanCut Ieee.ofBits Ieee.ofFields Ieee.odd Ieee.eq Ieee.ne Ieee.lt Ieee.le Ieee.div Ieee.sub Ieee.add Ieee.mul Ieee.neg Ieee.sum Ieee.round Ieee.units Ieee.ofInt Ieee.size Ieee.span Ieee.climb Ieee.toUnsigned
+unfolding demand demandNone placed onward pick leastOf greatestOf sizeOf minusZero cleanOf rootBelow wholeRoot rootIn rootOf wholeUp cleanSpec specGood cellsOf binOf putCell cellFits fitTo cellsFit stockOf cellsLike deeper shallower deepOf sureOf limitOf withPair ownOf cutBy cutCell changeAt changesTo appliesTo passes eachFrom fallAfter firstFall passAll commitIn ownCommit turned turnedAll newBar afterCuts answerOf previewOf previewTool previewCut tinyParts plainLength scaledBack lengthOf lowerOf upperOf flipped storedOf reachFrom endAt facing normalOf shifted lineAt sideAt capsuleMinR leastPoint capsuleLowest cleanAt segmentAt segmentGood goodTo segmentsGood inBin lowWith highWith withSegment noseTo noseReach noseAct misses drillAt threadReach drillReach cutReach cutGood cleanCut Ieee.ofBits Ieee.ofFields Ieee.odd Ieee.eq Ieee.ne Ieee.lt Ieee.le Ieee.div Ieee.sub Ieee.add Ieee.mul Ieee.neg Ieee.sum Ieee.round Ieee.units Ieee.ofInt Ieee.size Ieee.span Ieee.climb Ieee.toUnsigned
 orders = (refl, (refl, (refl, (refl, tt))))
 
 -- rings
@@ -63,7 +63,7 @@ rings = (refl, (refl, (refl, tt)))
 
 -- what stands at a height
 heights : Each Holds (P13 ∷ P13b ∷ P13c ∷ [])
-unfolding demand demandNone placed onward pick leastOf greatestOf sizeOf minusZero cleanOf rootBelow wholeRoot rootIn rootOf wholeUp cleanSpec specGood cellsOf binOf putCell cellFits fitTo cellsFit stockOf cellsLike deeper shallower deepOf sureOf limitOf withPair ownOf cutBy cutCell changeAt changesTo appliesTo passes eachFrom fallAfter firstFall passAll commitIn commitOf turned turnedAll newBar afterCuts answerOf previewOf previewTool previewCut tinyParts plainLength scaledBack lengthOf lowerOf upperOf flipped storedOf reachFrom endAt facing normalOf shifted lineAt sideAt capsuleMinR leastPoint capsuleLowest cleanAt segmentAt segmentGood goodTo segmentsGood inBin lowWith highWith withSegment noseTo noseReach noseAct firstAt lastAt shownOf together mostOver seenAt envelopeAt Ieee.ofBits Ieee.ofFields Ieee.odd Ieee.eq Ieee.ne Ieee.lt Ieee.le Ieee.div Ieee.sub Ieee.add Ieee.mul Ieee.neg Ieee.sum Ieee.round Ieee.units Ieee.ofInt Ieee.size Ieee.span Ieee.climb Ieee.toUnsigned
+unfolding demand demandNone placed onward pick leastOf greatestOf sizeOf minusZero cleanOf rootBelow wholeRoot rootIn rootOf wholeUp cleanSpec specGood cellsOf binOf putCell cellFits fitTo cellsFit stockOf cellsLike deeper shallower deepOf sureOf limitOf withPair ownOf cutBy cutCell changeAt changesTo appliesTo passes eachFrom fallAfter firstFall passAll commitIn ownCommit turned turnedAll newBar afterCuts answerOf previewOf previewTool previewCut tinyParts plainLength scaledBack lengthOf lowerOf upperOf flipped storedOf reachFrom endAt facing normalOf shifted lineAt sideAt capsuleMinR leastPoint capsuleLowest cleanAt segmentAt segmentGood goodTo segmentsGood inBin lowWith highWith withSegment noseTo noseReach noseAct firstAt lastAt shownOf together mostOver seenAt envelopeAt Ieee.ofBits Ieee.ofFields Ieee.odd Ieee.eq Ieee.ne Ieee.lt Ieee.le Ieee.div Ieee.sub Ieee.add Ieee.mul Ieee.neg Ieee.sum Ieee.round Ieee.units Ieee.ofInt Ieee.size Ieee.span Ieee.climb Ieee.toUnsigned
 heights = (refl, (refl, (refl, tt)))
 
 -- P1 TO P13: every row holds

@@ -5,13 +5,21 @@
 // Their answers are the rules that the calls are proved to follow. `specs/Table` has the rows, and
 // `proofs/Holds` the one statement: every row's question has the row's answer.
 //
-// The program runs 01's other examples and writes what it finds, a line each.
+// The program runs 01's other examples, and those of a list kept from another edition or generation, and
+// writes what it finds, a line each.
+use changes::Applied;
+use changes::ChangeList;
 use changes::Previewed;
 use cuts::Cut;
+use moves::Rebuilt;
 use numbers::Rooted;
 use refusals::Refusal;
+use rings::Removed;
+use rings::Ring;
 use stock::Counted;
+use stock::Stamp;
 use stock::TurnSide;
+use stock::TurnStock;
 use stock::TurnStockSpec;
 
 // A bar from 0 on with cells of 1, outer radius 10 and no bore.
@@ -23,6 +31,18 @@ fn bar(z_max: f64) -> TurnStockSpec {
         bore_radius_mm: 0.0,
         cell_mm: 1.0,
         max_cells: 5000,
+    }
+}
+
+// A stock of that bar with 4 cells, of an edition, with no rings, at generation 0.
+fn bar_of(edition: u32) -> TurnStock {
+    TurnStock {
+        spec: bar(4.0),
+        stamp: Stamp {
+            edition,
+            generation: 0,
+        },
+        rings: 0,
     }
 }
 
@@ -47,7 +67,7 @@ fn say_counted(answer: Counted) {
 
 fn say_changes(answer: Previewed) {
     match answer {
-        Previewed::Changes(k) => say(k as u64),
+        Previewed::Listed(list) => say(list.count as u64),
         Previewed::Refused(r) => say_no(r),
     }
 }
@@ -79,11 +99,10 @@ fn nose_along(segments: &[f64]) {
     let mut lent = [0.0f64; 16];
     let mut indices = [0usize; 4];
     let mut records = [0.0f64; 32];
-    let spec = bar(4.0);
-    stock::fill(spec, &mut lent);
+    stock::fill(bar(4.0), 0, &mut lent);
     io::write_all(1, b"segments: ");
     say_changes(cuts::preview(
-        spec,
+        bar_of(0),
         &lent,
         TurnSide::Outer,
         0.5,
@@ -97,11 +116,10 @@ fn nose_along(segments: &[f64]) {
 fn records_for(indices: &mut [usize]) {
     let mut lent = [0.0f64; 16];
     let mut records = [0.0f64; 32];
-    let spec = bar(4.0);
-    stock::fill(spec, &mut lent);
+    stock::fill(bar(4.0), 0, &mut lent);
     io::write_all(1, b"records: ");
     say_changes(cuts::preview_cut(
-        spec,
+        bar_of(0),
         &lent,
         Cut::Thread {
             z0: 3.0,
@@ -118,11 +136,10 @@ fn thread_to(z: f64) {
     let mut lent = [0.0f64; 16];
     let mut indices = [0usize; 4];
     let mut records = [0.0f64; 32];
-    let spec = bar(4.0);
-    stock::fill(spec, &mut lent);
+    stock::fill(bar(4.0), 0, &mut lent);
     io::write_all(1, b"thread: ");
     say_changes(cuts::preview_cut(
-        spec,
+        bar_of(0),
         &lent,
         Cut::Thread {
             z0: 0.0,
@@ -132,6 +149,131 @@ fn thread_to(z: f64) {
         &mut indices,
         &mut records,
     ));
+}
+
+// A thread over all cells, previewed on this stock.
+fn thread_on(
+    stock: TurnStock,
+    lent: &[f64],
+    indices: &mut [usize],
+    records: &mut [f64],
+) -> Previewed {
+    cuts::thread_cut(stock, lent, 0.0, 4.0, 8.0, indices, records)
+}
+
+// The list that was previewed, committed to this stock: its generation afterwards.
+fn commit(
+    stock: TurnStock,
+    lent: &mut [f64],
+    previewed: Previewed,
+    indices: &[usize],
+    records: &[f64],
+) {
+    match previewed {
+        Previewed::Refused(r) => say_no(r),
+        Previewed::Listed(list) => say_applied(changes::apply(stock, lent, list, indices, records)),
+    }
+}
+
+fn say_applied(answer: Applied) {
+    match answer {
+        Applied::Stock(after) => say(after.stamp.generation),
+        Applied::Refused(r) => say_no(r),
+        Applied::RefusedAt(r, _) => say_no(r),
+    }
+}
+
+// A list kept from one edition, committed to another, whose bins hold the same.
+fn kept_from(first: u32, second: u32) {
+    let mut lent = [0.0f64; 16];
+    let mut indices = [0usize; 4];
+    let mut records = [0.0f64; 32];
+    stock::fill(bar(4.0), first, &mut lent);
+    io::write_all(1, b"edition: ");
+    let previewed = thread_on(bar_of(first), &lent, &mut indices, &mut records);
+    commit(bar_of(second), &mut lent, previewed, &indices, &records);
+}
+
+// The stock after a commit of no changes; the same where it is refused.
+fn gone_on(stock: TurnStock, lent: &mut [f64]) -> TurnStock {
+    let stamp = stock.stamp;
+    let none = ChangeList { count: 0, stamp };
+    let applied = changes::apply(stock, lent, none, &[], &[]);
+    match applied {
+        Applied::Stock(after) => after,
+        Applied::Refused(_) => stock,
+        Applied::RefusedAt(_, _) => stock,
+    }
+}
+
+// A list kept over a commit that changed no cell.
+fn kept_over_commit() {
+    let mut lent = [0.0f64; 16];
+    let mut indices = [0usize; 4];
+    let mut records = [0.0f64; 32];
+    stock::fill(bar(4.0), 2, &mut lent);
+    io::write_all(1, b"commit: ");
+    let previewed = thread_on(bar_of(2), &lent, &mut indices, &mut records);
+    let after = gone_on(bar_of(2), &mut lent);
+    commit(after, &mut lent, previewed, &indices, &records);
+}
+
+// The stock after a ring; the same where it is refused.
+fn with_ring(stock: TurnStock, store: &mut [f64], ring: Ring) -> TurnStock {
+    let removed = rings::remove_ring(stock, store, ring);
+    match removed {
+        Removed::Stock(after) => after,
+        Removed::Refused(_) => stock,
+        Removed::RefusedAt(_, _) => stock,
+    }
+}
+
+// A list kept over a ring, in a stock that has the ring z 0..2 r 2..6.
+fn kept_over_ring(ring: Ring) {
+    let mut lent = [0.0f64; 16];
+    let mut store = [0.0f64; 32];
+    let mut indices = [0usize; 4];
+    let mut records = [0.0f64; 32];
+    stock::fill(bar(4.0), 2, &mut lent);
+    let first = Ring {
+        z0: 0.0,
+        z1: 2.0,
+        r0: 2.0,
+        r1: 6.0,
+    };
+    let grooved = with_ring(bar_of(2), &mut store, first);
+    io::write_all(1, b"ring: ");
+    let previewed = thread_on(grooved, &lent, &mut indices, &mut records);
+    let after = with_ring(grooved, &mut store, ring);
+    commit(after, &mut lent, previewed, &indices, &records);
+}
+
+// The list that was previewed, committed to a rebuilt stock.
+fn commit_rebuilt(
+    rebuilt: Rebuilt,
+    lent: &mut [f64],
+    previewed: Previewed,
+    indices: &[usize],
+    records: &[f64],
+) {
+    match rebuilt {
+        Rebuilt::Stock(stock) => commit(stock, lent, previewed, indices, records),
+        Rebuilt::Refused(r) => say_no(r),
+        Rebuilt::RefusedAt(r, _) => say_no(r),
+    }
+}
+
+// A list kept over a rebuild of the same cells: the stamp is the same again.
+fn kept_over_rebuild(edition: u32) {
+    let mut lent = [0.0f64; 16];
+    let mut store = [0.0f64; 32];
+    let mut indices = [0usize; 4];
+    let mut records = [0.0f64; 32];
+    stock::fill(bar(4.0), 2, &mut lent);
+    io::write_all(1, b"rebuild: ");
+    let previewed = thread_on(bar_of(2), &lent, &mut indices, &mut records);
+    let rebuilt = moves::from_parts(bar(4.0), edition, &lent, &[], &mut store);
+    commit_rebuilt(rebuilt, &mut lent, previewed, &indices, &records);
 }
 
 fn main() {
@@ -145,4 +287,21 @@ fn main() {
     records_for(&mut [0usize; 1]);
     thread_to(1000000.0);
     thread_to(1000000.0000000001);
+    kept_from(2, 2);
+    kept_from(2, 3);
+    kept_over_commit();
+    kept_over_ring(Ring {
+        z0: 0.0,
+        z1: 1.0,
+        r0: 11.0,
+        r1: 12.0,
+    });
+    kept_over_ring(Ring {
+        z0: 0.0,
+        z1: 1.0,
+        r0: 3.0,
+        r1: 4.0,
+    });
+    kept_over_rebuild(2);
+    kept_over_rebuild(3);
 }

@@ -76,14 +76,14 @@ fn gather_page(
 // Writes the page of a job that was not refused.
 fn write_page(run: Run, cells: &[f64; CELL_NUMBERS], rings: &[f64; RING_NUMBERS]) {
     let job = run.job;
-    let spec = job.spec;
+    let spec = job.stock.spec;
     let mut gathered = [0u8; GATHERED];
     let out = gather_page(
         &mut gathered,
         spec,
         first_fours(cells, job.cells),
-        first_fours(rings, job.rings),
-        job.generation,
+        first_fours(rings, job.stock.rings),
+        job.stock.stamp.generation,
     );
     streams::flush(1, out, &gathered);
 }
@@ -92,7 +92,7 @@ fn main() {
     let mut cells = [0.0f64; CELL_NUMBERS];
     let mut rings = [0.0f64; RING_NUMBERS];
     let mut line = [0u8; LINE_LIMIT];
-    let start = job_run::fresh();
+    let start = job_run::fresh(0);
     let ended = job_streams::read_job(
         0,
         job_streams::PART,

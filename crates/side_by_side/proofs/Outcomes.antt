@@ -3,6 +3,7 @@ use Prim.Native.Nat.{ℕ}
 use mathlib.Core.Path.{_≡_, sym, ap, _∙_}
 use mathlib.Core.List.{List}
 use Rattle.refusals.specs.Paper.{Paper, Reason, refuses}
+use Rattle.refusals.proofs.OneToOne.{one-to-one}
 use Rattle.stock.proofs.Count.{same-answer, no-answer}
 use Rattle.text.specs.Wrote.{Wrote}
 use Rattle.side_by_side.specs.declared.Compared.{Compared}
@@ -18,7 +19,7 @@ pub same-compared : (r r' : Compared) → comparedPaper r ≡ comparedPaper r' �
 same-compared (Chunks n) (Chunks m) h = ap Chunks (same-answer h)
 same-compared (Chunks n) (Refused d) h = absurd (no-answer _ _ (sym h))
 same-compared (Refused c) (Chunks m) h = absurd (no-answer _ _ h)
-same-compared (Refused c) (Refused d) h = ap Refused (ap (λ (x : Reason). x .number) (reason h))
+same-compared (Refused c) (Refused d) h = ap Refused (one-to-one c d (ap (λ (x : Reason). x .number) (reason h)))
 
 -- `chunk`: its answer and the buffer
 pub chunk-once : (l t : List ℕ) (r r' : ℕ) (m m' : List ℕ) → Wrote l 0 t m r → Wrote l 0 t m' r' → (r ≡ r') × (m ≡ m')

@@ -6,7 +6,8 @@ use mathlib.Core.List.{List, [], _∷_, _++_}
 use lib.ListN.{length, getD}
 use lib.Ieee.{Float, eq}
 use Rattle.refusals.specs.Limits.{pieceLimit}
-use Rattle.refusals.specs.Paper.{Paper, answers, refuses, only, demand, onward}
+use Rattle.refusals.specs.Number.{reasonOf}
+use Rattle.refusals.specs.Paper.{Paper, answers, refuses, demand, onward}
 use Rattle.floats.specs.Pick.{pick}
 use Rattle.stock.specs.declared.TurnStockSpec.{TurnStockSpec}
 use Rattle.stock.specs.declared.TurnCell.{TurnCell}
@@ -104,7 +105,7 @@ comparedOf s a t b =
 -- what the answer of `compare` says, case by case
 abbrev pub comparedPaper : Compared → Paper ℕ
 comparedPaper (Chunks n) = answers n
-comparedPaper (Refused n) = refuses (only n)
+comparedPaper (Refused c) = refuses (reasonOf c)
 
 -- how many chunks
 unfoldable pub chunkCount : Paper (List (List ℕ)) → Paper ℕ

@@ -17,7 +17,7 @@ pub record Told : Type 0 where
 
 -- the stock's part of the room
 abbrev pub sideOf : Stocked → Told → Side
-sideOf k f = side (take (4 * k .cells) (f .cells)) (f .rings) (k .rings)
+sideOf k f = side (take (4 * k .cells) (f .cells)) (f .rings) (k .stock .rings)
 
 -- the chunks joined, or the line of the refusal
 abbrev pub comparedText : Paper (List (List ℕ)) → List ℕ
@@ -27,7 +27,7 @@ comparedText (refuses r) = refusedWith (reasonNumbers r)
 -- the second file, where the first tells the stock k
 abbrev pub secondText : Stocked → Told → Paper Stocked → Told → List ℕ
 secondText k f (refuses r) g = fileRefused 2 (refuses r)
-secondText k f (answers j) g = comparedText (comparedOf (k .spec) (sideOf k f) (j .spec) (sideOf j g))
+secondText k f (answers j) g = comparedText (comparedOf (k .stock .spec) (sideOf k f) (j .stock .spec) (sideOf j g))
 
 abbrev pub firstText : Paper Stocked → Told → Told → List ℕ
 firstText (refuses r) f g = fileRefused 1 (refuses r)

@@ -21,21 +21,16 @@ ghost use Rattle.rings.specs.Ring.{kept, inHand};
 ghost use Rattle.rings.specs.Remove.{lentRings, leaves};
 ghost use Rattle.refusals.specs.Limits.{pieceLimit};
 ghost use Rattle.side_by_side.specs.Compared.{side, sameBar, eachInHand, bothInHand, piecesText, binCount, comparedOf, comparedPaper, chunkCount, chunkOf};
+use refusals::Refusal;
 use rings::Left;
 use rings::Ring;
 use stock::TurnStockSpec;
 
-// How many chunks the text of two stocks has, or the number of the refusal.
+// How many chunks the text of two stocks has.
 pub enum Compared {
     Chunks(usize),
-    Refused(u64),
+    Refused(Refusal),
 }
-
-// The specs of two stocks are unequal.
-const SPECS_UNEQUAL: u64 = 24;
-
-// Over 256 pieces are in hand.
-const PIECES_OVER: u64 = 11;
 
 // The five numbers of two specs are equal.
 fn same_bar(a: TurnStockSpec, b: TurnStockSpec) -> bool
@@ -109,10 +104,10 @@ pub fn compare(
     ensures { λ r. ⌜ comparedPaper r ≡ chunkCount (comparedOf spec1 (side (now (cells1 .entry)) (now (rings1 .entry)) count1) spec2 (side (now (cells2 .entry)) (now (rings2 .entry)) count2)) ⌝ }
 {
     if !same_bar(spec1, spec2) {
-        return Compared::Refused(SPECS_UNEQUAL);
+        return Compared::Refused(Refusal::SpecsDiffer);
     }
     if !both_in_hand(rings1, count1, rings2, count2) {
-        return Compared::Refused(PIECES_OVER);
+        return Compared::Refused(Refusal::RingsOverRoom);
     }
     let n = bin_count(cells1, cells2);
     Compared::Chunks(n + (lent_of(rings1, count1) + lent_of(rings2, count2)))

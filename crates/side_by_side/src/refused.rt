@@ -43,7 +43,7 @@ pub fn file_refused(out: &mut [u8; LINE_ROOM], file: u64, kept: Kept) -> usize
     ensures { λ r. ⌜ WritesLine out (fileRefused file (keptPaper kept)) r ⌝ }
 {
     match kept {
-        Kept::Stock(_, _, _) => 0,
+        Kept::Stock(_, _) => 0,
         Kept::Refused(c) => job_answer::refused_line(out, file, wide(refusals::number(c))),
         Kept::RefusedAt(c, line) => {
             let n = wide(refusals::number(c));
@@ -58,6 +58,6 @@ pub fn pair_refused(out: &mut [u8; LINE_ROOM], compared: Compared) -> usize
 {
     match compared {
         Compared::Chunks(_) => 0,
-        Compared::Refused(n) => refused_one(out, n),
+        Compared::Refused(c) => refused_one(out, wide(refusals::number(c))),
     }
 }

@@ -8,7 +8,7 @@ use refusals::RING_LIMIT;
 use refusals::Refusal;
 use side_by_side::CHUNK_ROOM;
 use side_by_side::Compared;
-use stock::TurnStockSpec;
+use stock::TurnStock;
 use stock_file::Kept;
 use streams::GATHERED;
 use text::LINE_ROOM;
@@ -76,45 +76,38 @@ fn write_chunks(
 // Writes what differs between two stocks, or their refusal.
 fn write_pair(
     fd: i32,
-    spec1: TurnStockSpec,
+    first: TurnStock,
     cells1: &[f64],
     rings1: &[f64],
-    count1: usize,
-    spec2: TurnStockSpec,
+    second: TurnStock,
     cells2: &[f64],
     rings2: &[f64],
-    count2: usize,
 ) {
+    let m = first.rings;
+    let k = second.rings;
     let compared = side_by_side::compare(
-        spec1,
+        first.spec,
         cells1,
         rings1,
-        count1,
-        spec2,
+        m,
+        second.spec,
         cells2,
         rings2,
-        count2,
+        k,
     );
     let mut line = [0u8; LINE_ROOM];
     let n = side_by_side::pair_refused(&mut line, compared);
     write_line(fd, &line, n);
     match compared {
         Compared::Chunks(chunks) => {
-            write_chunks(fd, chunks, cells1, rings1, count1, cells2, rings2, count2);
+            write_chunks(fd, chunks, cells1, rings1, m, cells2, rings2, k);
         }
         Compared::Refused(_) => {}
     }
 }
 
 // Writes of a stock that the first file told, and the second file.
-fn write_second(
-    fd: i32,
-    spec: TurnStockSpec,
-    cells: &[f64],
-    rings: &[f64],
-    count: usize,
-    second: &[u8],
-) {
+fn write_second(fd: i32, stock: TurnStock, cells: &[f64], rings: &[f64], second: &[u8]) {
     let mut cells2 = [0.0f64; CELL_NUMBERS];
     let mut rings2 = [0.0f64; RING_NUMBERS];
     let kept = read_named(second, &mut cells2, &mut rings2);
@@ -122,17 +115,15 @@ fn write_second(
     let n = side_by_side::file_refused(&mut line, 2, kept);
     write_line(fd, &line, n);
     match kept {
-        Kept::Stock(spec2, m, k) => {
+        Kept::Stock(other, m) => {
             write_pair(
                 fd,
-                spec,
+                stock,
                 cells,
                 rings,
-                count,
-                spec2,
+                other,
                 first_cells(&cells2, m),
                 &rings2,
-                k,
             );
         }
         Kept::Refused(_) => {}
@@ -149,8 +140,8 @@ pub fn write_differences(fd: i32, first: &[u8], second: &[u8]) {
     let n = side_by_side::file_refused(&mut line, 1, kept);
     write_line(fd, &line, n);
     match kept {
-        Kept::Stock(spec, m, k) => {
-            write_second(fd, spec, first_cells(&cells, m), &rings, k, second);
+        Kept::Stock(stock, m) => {
+            write_second(fd, stock, first_cells(&cells, m), &rings, second);
         }
         Kept::Refused(_) => {}
         Kept::RefusedAt(_, _) => {}

@@ -20,9 +20,9 @@ pub new-is : (spec : TurnStockSpec) (len n : ℕ) → cellsOf spec ≡ answers n
 unfolding newOf
 new-is spec len n e h = simp (papers, e, eq-eqb len (4 * n) h)
 
-pub left : (spec : TurnStockSpec) (cs : List Float) (r : Refusal) → refuses (reasonOf r) ≡ newOf spec (length cs) → Filled spec (Refused r) cs cs
-left spec cs r e = record { answer = ap (stockMade spec) e; cells = ap (λ (p : Paper ℕ). newCells spec p cs) e }
+pub left : (spec : TurnStockSpec) (edition : ℕ) (cs : List Float) (r : Refusal) → refuses (reasonOf r) ≡ newOf spec (length cs) → Filled spec edition (Refused r) cs cs
+left spec edition cs r e = record { answer = ap (stockMade spec edition) e; cells = ap (λ (p : Paper ℕ). newCells spec p cs) e }
 
-pub made : (spec : TurnStockSpec) (cs cs' : List Float) (n : ℕ) (k : TurnStock) → answers n ≡ newOf spec (length cs) → cs' ≡ cellsLike (freshCell (cleanSpec spec)) n → k ≡ newStock spec
-    → Filled spec (Stock k) cs cs'
-made spec cs cs' n k e h f = record { answer = ap (λ (x : TurnStock). answers x) f ∙ ap (stockMade spec) e; cells = h ∙ ap (λ (p : Paper ℕ). newCells spec p cs) e }
+pub made : (spec : TurnStockSpec) (edition : ℕ) (cs cs' : List Float) (n : ℕ) (k : TurnStock) → answers n ≡ newOf spec (length cs) → cs' ≡ cellsLike (freshCell (cleanSpec spec)) n → k ≡ newStock spec edition
+    → Filled spec edition (Stock k) cs cs'
+made spec edition cs cs' n k e h f = record { answer = ap (λ (x : TurnStock). answers x) f ∙ ap (stockMade spec edition) e; cells = h ∙ ap (λ (p : Paper ℕ). newCells spec p cs) e }

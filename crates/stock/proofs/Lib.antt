@@ -7,3 +7,4 @@ pub mod EachFits
 pub mod SameCells
 pub mod Passes
 pub mod Places
+pub mod Stamps

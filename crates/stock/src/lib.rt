@@ -12,7 +12,7 @@ ghost use Rattle.floats.specs.Numbers.{zero64, minusZero};
 ghost use Rattle.stock.specs.Spec.{cleanSpec, specGood, cellsOf, countedPaper};
 ghost use Rattle.stock.specs.Bin.{binOf, binFor, binnedPaper};
 ghost use Rattle.stock.specs.Cell.{cellAt, cellFrom, noCell, numberAt, fourOf, cellFits, pairFits, between, sameCell, fitTo, stockOf, putCell, freshCell, cellsLike};
-ghost use Rattle.stock.specs.Stock.{newStock, Filled};
+ghost use Rattle.stock.specs.Stock.{sameStamp, newStock, stockWith, Filled};
 use refusals::CELL_LIMIT;
 use refusals::Refusal;
 
@@ -63,8 +63,9 @@ pub struct BinRange {
     pub to: usize,
 }
 
-// How often a stock was changed.
+// Which edition of a wheel a stock is of, its caller's own number, and how often it was changed.
 pub struct Stamp {
+    pub edition: u32,
     pub generation: u64,
 }
 
@@ -376,21 +377,46 @@ fn put_all(cells: &mut [f64], n: usize, c: TurnCell)
     }
 }
 
+// Both numbers are the same.
+pub fn same_stamp(a: Stamp, b: Stamp) -> bool
+    ensures { λ r. ⌜ r ≡ sameStamp a b ⌝ }
+{
+    (a.edition == b.edition) & (a.generation == b.generation)
+}
+
+// The same stock, of the same edition, with so many rings, at a generation.
+pub fn stock_with(stock: TurnStock, rings: usize, generation: u64) -> TurnStock
+    ensures { λ r. ⌜ r ≡ stockWith stock rings generation ⌝ }
+{
+    let spec = stock.spec;
+    TurnStock {
+        spec,
+        stamp: Stamp {
+            edition: stock.stamp.edition,
+            generation,
+        },
+        rings,
+    }
+}
+
 // No rings, at generation 0.
-fn new_stock(spec: TurnStockSpec) -> TurnStock
-    ensures { λ r. ⌜ r ≡ newStock spec ⌝ }
+fn new_stock(spec: TurnStockSpec, edition: u32) -> TurnStock
+    ensures { λ r. ⌜ r ≡ newStock spec edition ⌝ }
 {
     TurnStock {
         spec,
-        stamp: Stamp { generation: 0 },
+        stamp: Stamp {
+            edition,
+            generation: 0,
+        },
         rings: 0,
     }
 }
 
-// A new stock: every cell at outer and bore, no rings, generation 0; 1, 2, and 3 where the lent cells
-// are not n.
-pub fn fill(spec: TurnStockSpec, cells: &mut [f64]) -> Made
-    ensures { λ r. ⌜ Filled spec r (now (cells .entry)) (now (cells .exit)) ⌝ }
+// A new stock of an edition: every cell at outer and bore, no rings, generation 0; 1, 2, and 3 where the
+// lent cells are not n.
+pub fn fill(spec: TurnStockSpec, edition: u32, cells: &mut [f64]) -> Made
+    ensures { λ r. ⌜ Filled spec edition r (now (cells .entry)) (now (cells .exit)) ⌝ }
 {
     let counted = validate(spec);
     match counted {
@@ -400,7 +426,7 @@ pub fn fill(spec: TurnStockSpec, cells: &mut [f64]) -> Made
                 return Made::Refused(Refusal::CellsDoNotFit);
             }
             put_all(cells, n, fresh_cell(clean_spec(spec)));
-            Made::Stock(new_stock(spec))
+            Made::Stock(new_stock(spec, edition))
         }
     }
 }

@@ -25,10 +25,9 @@ use Rattle.stock.proofs.Count.{checked, stocked, stock-is, stock-length, and-bo
 use Rattle.rings.specs.declared.Ring.{Ring}
 use Rattle.rings.specs.Store.{ringAt, ringsOf, barRing, ringRoom, storeFits, countFits}
 use Rattle.rings.proofs.Removing.{fits-within}
-use Rattle.stock_lines.specs.declared.Bar.{Bar}
 use Rattle.stock_lines.specs.Reading.{State, state}
-use Rattle.stock_file.specs.Read.{specOf, frontOf, Stocked, toldAs, fileIn, readOf}
-use Rattle.stock_file.specs.Write.{barOf, fileOf}
+use Rattle.stock_file.specs.Read.{specOf, frontOf, stockedOf, toldAs, fileIn, readOf}
+use Rattle.stock_file.specs.Write.{barOf, opening, fileOf}
 use Rattle.stock_file.proofs.Ends.{front-long, told-stock}
 use Rattle.stock_file.proofs.LineSteps.{reading}
 use Rattle.stock_file.proofs.ReadBack.{fourAt, foursTo, fours-long, Kept, reads-back}
@@ -154,16 +153,16 @@ store-again e xs b m f h =
     ∙ ap (storeFits e) (rings-again xs b m m (omega arith) (omega arith))
     ∙ and-both (leb m (ringRoom (length xs))) (storeFits e (ringsOf m xs)) f .1
 
--- READ AFTER WRITE: a stock that 1 to 4 accept, of numbers that can be kept, reads back as the same clean spec, with the reader's limit, and as the same counts, in a room that reaches and where the limit does
-pub accepted-back : (spec : TurnStockSpec) (cs rs : List Float) (n m most : ℕ) → stockOf spec cs ≡ answers n → countFits (barRing (cleanSpec spec)) rs m ≡ true → n ≤ most → Kept (barOf spec) cs n rs m
+-- READ AFTER WRITE: a stock that 1 to 4 accept, of numbers that can be kept, reads back in each form that can say its edition as the same clean spec, with the reader's limit, as that edition at generation 0, and as the same counts, in a room that reaches and where the limit does
+pub accepted-back : (form edition : ℕ) (spec : TurnStockSpec) (cs rs : List Float) (n m most : ℕ) → stockOf spec cs ≡ answers n → countFits (barRing (cleanSpec spec)) rs m ≡ true → n ≤ most → Kept (opening form edition (barOf spec)) cs n rs m
     → (room space : List Float) → 4 * n ≤ length room → 4 * m ≤ length space
-    → readOf most room space (fileOf (barOf spec) cs n rs m) ≡ answers (record { spec = cleanSpec (specOf (barOf spec) most); cells = n; rings = m })
+    → readOf most room space (fileOf (opening form edition (barOf spec)) cs n rs m) ≡ answers (stockedOf (specOf (barOf spec) most) edition n m)
 unfolding cleanSpec
-accepted-back spec cs rs n m most e f h kept room space wide deep =
+accepted-back form edition spec cs rs n m most e f h kept room space wide deep =
     let s = stocked spec cs n e in
     let D : List Float = over (foursTo cs n) room in
     let S : List Float = over (foursTo rs m) space in
     let c : countFits (barRing (cleanSpec (specOf (barOf spec) most))) S m ≡ true =
     ap (λ (x : TurnStockSpec). countFits (barRing x) S m) (clean-again spec most) ∙ store-again (barRing (cleanSpec spec)) rs space m f deep in
-    ap (λ (x : State). toldAs (x .reading) most (x .cells) (x .rings)) (reads-back (barOf spec) cs n rs m kept room space wide deep)
-    ∙ sym (told-stock (reading (barOf spec) 2 n m (n + m + 2)) most D S cs (specOf (barOf spec) most) refl refl (front-again cs room n (stock-length spec cs n e) wide) n _ (stock-again spec most n (s .count) h cs (s .fit)) c refl)
+    ap (λ (x : State). toldAs (x .reading) most (x .cells) (x .rings)) (reads-back (opening form edition (barOf spec)) cs n rs m kept room space wide deep)
+    ∙ sym (told-stock (reading (opening form edition (barOf spec)) 2 n m (n + m + 2)) most D S cs (specOf (barOf spec) most) refl refl (front-again cs room n (stock-length spec cs n e) wide) n _ (stock-again spec most n (s .count) h cs (s .fit)) c refl)

@@ -13,9 +13,9 @@ use Rattle.text.proofs.Parting.{some}
 use Rattle.lines.specs.File.{piecesOf, ended, lineOn, overPieces}
 use Rattle.stock_lines.specs.declared.Bar.{Bar}
 use Rattle.stock_lines.specs.declared.Reading.{Reading}
-use Rattle.stock_lines.specs.declared.form.Five.{Five}
-use Rattle.stock_lines.specs.declared.form.Five.the-variants.{Spec, NoFive}
-use Rattle.stock_lines.specs.Form.{writtenForm, lineOf, fiveOf, stockPrefix}
+use Rattle.stock_lines.specs.declared.form.First.{First}
+use Rattle.stock_lines.specs.declared.form.First.the-variants.{Says, NoFirst}
+use Rattle.stock_lines.specs.First.{firstOf}
 use Rattle.stock_lines.specs.Reading.{State, state, next, refusing, begun, onLine}
 use Rattle.stock_lines.proofs.Readings.{line-first}
 use Rattle.stock_file.specs.Read.{freshReading, stopped, onLong, onEnd, Stocked, toldAs, fileIn}
@@ -24,7 +24,7 @@ use Rattle.stock_file.proofs.Spelt.{walk, stopped-walk}
 
 -- a reading before its first line, with any bar
 abbrev pub fresh : Bar → Reading
-fresh b = record { stage = 0; form = 0; bar = b; cells = 0; rings = 0; lines = 0; refused = false }
+fresh b = record { stage = 0; form = 0; edition = 0; bar = b; cells = 0; rings = 0; lines = 0; refused = false }
 
 -- two states that tell the same, in the same room
 pub record SameTold (a b : State) : Type 0 where
@@ -68,22 +68,22 @@ module _ (b b' : Bar) (cs rs : List Float) where
     unfolding overPieces lineOn refusing
     too-long x e = ap (λ (y : State). walk y (m ∷ ls)) (pick-false _ _ _ refl ∙ pick-false _ _ _ e) ∙ stopped-walk (m ∷ ls) (onLong (st x)) refl
 
-    first : (x : Bar) (f : Five) → ltb (length l) 128 ≡ true → fiveOf (lineOf (stockPrefix writtenForm) 5 l) ≡ f → walk (st x) (l ∷ m ∷ ls) ≡ walk (state (begun (fresh x) f) cs rs) (m ∷ ls)
+    first : (x : Bar) (f : First) → ltb (length l) 128 ≡ true → firstOf l ≡ f → walk (st x) (l ∷ m ∷ ls) ≡ walk (state (begun (fresh x) f) cs rs) (m ∷ ls)
     unfolding overPieces lineOn
-    first x f e q = ap (λ (y : State). walk y (m ∷ ls)) (pick-false _ _ _ refl ∙ pick-true _ _ _ e ∙ line-first (st x) l refl ∙ ap (λ (g : Five). state (begun (fresh x) g) cs rs) q)
+    first x f e q = ap (λ (y : State). walk y (m ∷ ls)) (pick-false _ _ _ refl ∙ pick-true _ _ _ e ∙ line-first (st x) l refl ∙ ap (λ (g : First). state (begun (fresh x) g) cs rs) q)
 
-    no-first : (x : Bar) → ltb (length l) 128 ≡ true → fiveOf (lineOf (stockPrefix writtenForm) 5 l) ≡ NoFive → walk (st x) (l ∷ m ∷ ls) ≡ onLong (st x)
+    no-first : (x : Bar) → ltb (length l) 128 ≡ true → firstOf l ≡ NoFirst → walk (st x) (l ∷ m ∷ ls) ≡ onLong (st x)
     unfolding begun refusing
-    no-first x e q = first x NoFive e q ∙ stopped-walk (m ∷ ls) (onLong (st x)) refl
+    no-first x e q = first x NoFirst e q ∙ stopped-walk (m ∷ ls) (onLong (st x)) refl
 
     a-line : SameTold (walk (st b) (l ∷ m ∷ ls)) (walk (st b') (l ∷ m ∷ ls))
     unfolding begun
-    a-line = by (ltb (length l) 128) refl (fiveOf (lineOf (stockPrefix writtenForm) 5 l)) refl
+    a-line = by (ltb (length l) 128) refl (firstOf l) refl
       where
-        by : (t : Bool) → ltb (length l) 128 ≡ t → (f : Five) → fiveOf (lineOf (stockPrefix writtenForm) 5 l) ≡ f → SameTold (walk (st b) (l ∷ m ∷ ls)) (walk (st b') (l ∷ m ∷ ls))
+        by : (t : Bool) → ltb (length l) 128 ≡ t → (f : First) → firstOf l ≡ f → SameTold (walk (st b) (l ∷ m ∷ ls)) (walk (st b') (l ∷ m ∷ ls))
         by false e f q = both (too-long b e) (too-long b' e)
-        by true e NoFive q = both (no-first b e q) (no-first b' e q)
-        by true e (Spec x y z w v) q = same-state (first b (Spec x y z w v) e q ∙ sym (first b' (Spec x y z w v) e q))
+        by true e NoFirst q = both (no-first b e q) (no-first b' e q)
+        by true e (Says k n x) q = same-state (first b (Says k n x) e q ∙ sym (first b' (Says k n x) e q))
 
   pieces : (ls : List (List ℕ)) → 0 < length ls → SameTold (walk (st b) ls) (walk (st b') ls)
   pieces [] h = absurd (omega arith)

@@ -12,10 +12,10 @@ use Rattle.lines.specs.File as file
 use Rattle.lines.specs.Hands.{Hand, hand, byteOn, takes}
 use Rattle.lines.proofs.Parts.{parts, stopped-takes}
 use Rattle.lines.proofs.OneFile.{whole-file}
-use Rattle.stock_lines.specs.declared.Bar.{Bar}
 use Rattle.stock_lines.specs.Form.{endText, endLine}
 use Rattle.stock_lines.specs.Reading.{State, state, onLine}
 use Rattle.stock_file.specs.Read.{freshReading, stopped, onLong, onEnd, fileIn}
+use Rattle.stock_file.specs.Write.{Opening}
 use Rattle.stock_file.proofs.Newlines.{end-free}
 use Rattle.stock_file.proofs.LineSteps.{line-taken, reading, end-step}
 use Rattle.stock_file.proofs.Cut.{long-stops}
@@ -39,7 +39,7 @@ begins-none cs rs p t e =
     whole cs rs (p ++ t) ∙ ap (λ (j : Hand State). file.ended stopped onLong onEnd (j .job) (j .held)) q ∙ pick-true _ _ _ e
 
 -- BYTES THAT BEGIN SOME FILE: whole lines behind the first, none of them refused, go on with their `end`
-pub begins-some : (cs rs : List Float) (p : List ℕ) (b : Bar) (n m l : ℕ) (cs' rs' : List Float) → l + 1 < 2 ^ 64
+pub begins-some : (cs rs : List Float) (p : List ℕ) (b : Opening) (n m l : ℕ) (cs' rs' : List Float) → l + 1 < 2 ^ 64
     → after cs rs p ≡ hand (state (reading b 1 n m l) cs' rs') [] → fileIn cs rs (p ++ endLine l) ≡ state (reading b 2 n m (l + 1)) cs' rs'
 unfolding file.ended endLine
 begins-some cs rs p b n m l cs' rs' few e =

@@ -12,10 +12,12 @@ use Rattle.floats.specs.Pick.{pick-true, pick-false}
 use Rattle.stock.specs.declared.TurnStockSpec.{TurnStockSpec}
 use Rattle.stock.specs.Spec.{cleanSpec}
 use Rattle.stock.specs.Cell.{stockOf}
+use Rattle.stock.specs.declared.TurnStock.{TurnStock}
+use Rattle.stock.specs.Stock.{stockFrom}
 use Rattle.rings.specs.Store.{barRing, countFits}
 use Rattle.stock_lines.specs.declared.Reading.{Reading}
 use Rattle.stock_lines.specs.Reading.{refusing}
-use Rattle.stock_file.specs.Read.{ended, specOf, frontOf, Stocked, stockIn, toldAs}
+use Rattle.stock_file.specs.Read.{ended, specOf, frontOf, Stocked, stockedOf, stockIn, toldAs}
 
 module _ (r : Reading) (n : ℕ) where
   pub ended-stopped : r .refused ≡ true → r ≡ ended r n
@@ -50,7 +52,7 @@ told-line r most cs rs l e q = ap (λ (k : ℕ). refuses (at 16 k)) q ∙ sym (d
 
 module _ (r : Reading) (most : ℕ) (cs rs xs : List Float) (s : TurnStockSpec) (h : r .refused ≡ false) (es : s ≡ specOf (r .bar) most) (ex : xs ≡ frontOf (r .cells) cs) where
   asked : Paper Stocked
-  asked = onward (stockOf s xs) (λ k. demand (countFits (barRing (cleanSpec s)) rs (r .rings)) 4 (answers (record { spec = cleanSpec s; cells = k; rings = r .rings })))
+  asked = onward (stockOf s xs) (λ k. demand (countFits (barRing (cleanSpec s)) rs (r .rings)) 4 (answers (stockedOf s (r .edition) k (r .rings))))
 
   told-is : toldAs r most cs rs ≡ asked
   unfolding toldAs stockIn asked
@@ -58,15 +60,15 @@ module _ (r : Reading) (most : ℕ) (cs rs xs : List Float) (s : TurnStockSpec) 
 
   pub told-cells : (w : Reason) → stockOf s xs ≡ refuses w → refuses w ≡ toldAs r most cs rs
   unfolding asked
-  told-cells w e = sym (told-is ∙ ap (λ (p : Paper ℕ). onward p (λ k. demand (countFits (barRing (cleanSpec s)) rs (r .rings)) 4 (answers (record { spec = cleanSpec s; cells = k; rings = r .rings })))) e ∙ onward-refuses _ _)
+  told-cells w e = sym (told-is ∙ ap (λ (p : Paper ℕ). onward p (λ k. demand (countFits (barRing (cleanSpec s)) rs (r .rings)) 4 (answers (stockedOf s (r .edition) k (r .rings))))) e ∙ onward-refuses _ _)
 
-  found : (n : ℕ) → stockOf s xs ≡ answers n → toldAs r most cs rs ≡ demand (countFits (barRing (cleanSpec s)) rs (r .rings)) 4 (answers (record { spec = cleanSpec s; cells = n; rings = r .rings }))
+  found : (n : ℕ) → stockOf s xs ≡ answers n → toldAs r most cs rs ≡ demand (countFits (barRing (cleanSpec s)) rs (r .rings)) 4 (answers (stockedOf s (r .edition) n (r .rings)))
   unfolding asked
-  found n e = told-is ∙ ap (λ (p : Paper ℕ). onward p (λ k. demand (countFits (barRing (cleanSpec s)) rs (r .rings)) 4 (answers (record { spec = cleanSpec s; cells = k; rings = r .rings })))) e ∙ onward-answers _ _
+  found n e = told-is ∙ ap (λ (p : Paper ℕ). onward p (λ k. demand (countFits (barRing (cleanSpec s)) rs (r .rings)) 4 (answers (stockedOf s (r .edition) k (r .rings))))) e ∙ onward-answers _ _
 
   pub told-rings : (n : ℕ) → stockOf s xs ≡ answers n → countFits (barRing (cleanSpec s)) rs (r .rings) ≡ false → refuses (only 4) ≡ toldAs r most cs rs
   told-rings n e f = sym (found n e ∙ demand-false _ _ _ f)
 
-  pub told-stock : (n : ℕ) (t : TurnStockSpec) → stockOf s xs ≡ answers n → countFits (barRing (cleanSpec s)) rs (r .rings) ≡ true → t ≡ cleanSpec s
-      → _≡_ {A = Paper Stocked} (answers (record { spec = t; cells = n; rings = r .rings })) (toldAs r most cs rs)
-  told-stock n t e f q = ap (λ (u : TurnStockSpec). answers (record { spec = u; cells = n; rings = r .rings })) q ∙ sym (found n e ∙ demand-true _ _ _ f)
+  pub told-stock : (n : ℕ) (t : TurnStock) → stockOf s xs ≡ answers n → countFits (barRing (cleanSpec s)) rs (r .rings) ≡ true → t ≡ stockFrom (cleanSpec s) (r .edition) (r .rings) 0
+      → _≡_ {A = Paper Stocked} (answers (record { stock = t; cells = n })) (toldAs r most cs rs)
+  told-stock n t e f q = ap (λ (u : TurnStock). answers (record { stock = u; cells = n })) q ∙ sym (found n e ∙ demand-true _ _ _ f)

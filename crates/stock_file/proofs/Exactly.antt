@@ -23,19 +23,19 @@ use Rattle.text.specs.Parts.{intoFirst}
 use Rattle.text.proofs.Parting as parting
 use Rattle.text.proofs.Spelling.{decimal-short}
 use Rattle.lines.specs.File.{piecesOf, ended, lineOn, overPieces}
-use Rattle.stock_lines.specs.declared.Bar.{Bar}
 use Rattle.stock_lines.specs.declared.Reading.{Reading}
-use Rattle.stock_lines.specs.declared.form.Five.{Five}
-use Rattle.stock_lines.specs.declared.form.Five.the-variants.{Spec, NoFive}
+use Rattle.stock_lines.specs.declared.form.First.{First}
+use Rattle.stock_lines.specs.declared.form.First.the-variants.{Says, NoFirst}
 use Rattle.stock_lines.specs.declared.room.Took.{Took}
 use Rattle.stock_lines.specs.declared.room.Took.the-variants.{Cell, Ring, End, NoLine}
-use Rattle.stock_lines.specs.Form.{writtenForm, lineOf, fiveOf, barNumbers, stockPrefix, endText, endLine}
+use Rattle.stock_lines.specs.Form.{barNumbers, endText, endLine}
+use Rattle.stock_lines.specs.First.{firstOf, two}
 use Rattle.stock_lines.specs.Room.{tookOf}
 use Rattle.stock_lines.specs.Reading.{State, state, next, refusing, begun, onwardTo, went, onBody, onLine}
 use Rattle.stock_lines.proofs.Forms as forms
 use Rattle.stock_lines.proofs.Readings.{line-first, line-body, line-behind}
 use Rattle.stock_file.specs.Read.{freshReading, stopped, onLong, onEnd, specOf, frontOf, Stocked, stockIn, toldAs, fileIn, readOf}
-use Rattle.stock_file.specs.Write.{fileOf}
+use Rattle.stock_file.specs.Write.{Opening, opening, fileOf}
 use Rattle.stock_file.specs.Exactly.{OfForm, Begins, endedLines, firstLines, RefusedBehind}
 use Rattle.stock_file.proofs.Newlines.{Free, none, more, end-free}
 use Rattle.stock_file.proofs.LineSteps.{reading, end-step}
@@ -114,17 +114,17 @@ went-next r Ring = refl
 went-next r End = refl
 went-next r NoLine = refl
 
-begun-next : (r : Reading) (f : Five) → begun r f .lines ≡ next r
+begun-next : (r : Reading) (f : First) → begun r f .lines ≡ next r
 unfolding begun refusing
-begun-next r (Spec a b c d e) = refl
-begun-next r NoFive = refl
+begun-next r (Says k e b) = refl
+begun-next r NoFirst = refl
 
 line-next : (st : State) (s : List ℕ) → onLine st s .reading .lines ≡ next (st .reading)
 unfolding onBody refusing
 line-next st s = by (eqb (st .reading .stage) 0) refl (eqb (st .reading .stage) 1) refl
   where
     by : (t : Bool) → eqb (st .reading .stage) 0 ≡ t → (u : Bool) → eqb (st .reading .stage) 1 ≡ u → onLine st s .reading .lines ≡ next (st .reading)
-    by true e u f = ap (λ (x : State). x .reading .lines) (line-first st s (eqb-true _ _ e)) ∙ begun-next (st .reading) (fiveOf (lineOf (stockPrefix writtenForm) 5 s))
+    by true e u f = ap (λ (x : State). x .reading .lines) (line-first st s (eqb-true _ _ e)) ∙ begun-next (st .reading) (firstOf s)
     by false e true f = ap (λ (x : State). x .reading .lines) (line-body st s (eqb-false _ _ e) (eqb-true _ _ f)) ∙ went-next (st .reading) (tookOf (st .reading .form) (st .reading .cells) (st .reading .rings) (st .reading .lines) s)
     by false e false f = ap (λ (x : State). x .reading .lines) (line-behind st s (eqb-false _ _ e) (eqb-false _ _ f))
 
@@ -150,8 +150,8 @@ end-next st l g h = by (eqb (length l) 0) refl (ltb (st .reading .stage) 2) refl
 
 data Reached (cs rs : List Float) : ℕ → State → Type 0 where
   first : Reached cs rs 0 (state freshReading cs rs)
-  body : {b : Bar} {n m k : ℕ} {cs' rs' : List Float} → Reached cs rs k (state (reading b 1 n m k) cs' rs')
-  done : {b : Bar} {n m k : ℕ} {cs' rs' : List Float} → Reached cs rs k (state (reading b 2 n m k) cs' rs')
+  body : {b : Opening} {n m k : ℕ} {cs' rs' : List Float} → Reached cs rs k (state (reading b 1 n m k) cs' rs')
+  done : {b : Opening} {n m k : ℕ} {cs' rs' : List Float} → Reached cs rs k (state (reading b 2 n m k) cs' rs')
 
 module _ (cs rs : List Float) where
   reached-goes : {j : ℕ} {st : State} → Reached cs rs j st → stopped st ≡ false
@@ -172,19 +172,18 @@ module _ (cs rs : List Float) where
       by true e = pick-false _ _ _ g ∙ pick-true _ _ _ e
       by false e = absurd (true≢false (ap stopped (sym (pick-false _ _ _ g ∙ pick-false _ _ _ e)) ∙ h))
 
-  first-on : (f : Five) → stopped (state (begun freshReading f) cs rs) ≡ false → Reached cs rs 1 (state (begun freshReading f) cs rs)
+  first-on : (f : First) → stopped (state (begun freshReading f) cs rs) ≡ false → Reached cs rs 1 (state (begun freshReading f) cs rs)
   unfolding begun refusing
-  first-on NoFive h = absurd (true≢false h)
-  first-on (Spec a b c d e) h =
+  first-on NoFirst h = absurd (true≢false h)
+  first-on (Says form edition b) h =
       let one : 1 ≡ next freshReading = omega arith in
-      let B : Bar = record { «z_min_mm» = a; «z_max_mm» = b; «outer_radius_mm» = c; «bore_radius_mm» = d; «cell_mm» = e } in
-      subst (λ (k : ℕ). Reached cs rs 1 (state (reading B 1 0 0 k) cs rs)) one body
+      subst (λ (k : ℕ). Reached cs rs 1 (state (reading (opening form edition b) 1 0 0 k) cs rs)) one body
 
   line-on : {j : ℕ} {st : State} (l : List ℕ) → Reached cs rs j st → j + 1 < 2 ^ 64 → stopped (onLine st l) ≡ false → Reached cs rs (j + 1) (onLine st l)
   unfolding refusing
   line-on l first h g =
       let e = line-first (state freshReading cs rs) l refl in
-      subst (Reached cs rs 1) (sym e) (first-on (fiveOf (lineOf (stockPrefix writtenForm) 5 l)) (ap stopped (sym e) ∙ g))
+      subst (Reached cs rs 1) (sym e) (first-on (firstOf l) (ap stopped (sym e) ∙ g))
   line-on l (body {b} {n} {m} {k} {cs'} {rs'}) h g = by (kinds.kind b n m k cs' rs' l h g)
     where
       by : kinds.Kind b n m k cs' rs' l → Reached cs rs (k + 1) (onLine (state (reading b 1 n m k) cs' rs') l)
@@ -201,7 +200,7 @@ module _ (cs rs : List Float) where
 
   -- they begin some file of the form: a whole one, one that ends there, or itself
   whole-file : List ℕ
-  whole-file = fileOf (freshReading .bar) [] 0 [] 0
+  whole-file = fileOf (opening 2 0 (freshReading .bar)) [] 0 [] 0
 
   zero-fits : T (fits binary64 zero64)
   unfolding fits ofBits ofFields odd
@@ -217,7 +216,7 @@ module _ (cs rs : List Float) where
   goes-on : {j : ℕ} {st : State} → Reached cs rs j st → j + 1 < 2 ^ 64 → (t : List ℕ) × (stopped (walk st (piecesOf t)) ≡ false)
   unfolding overPieces ended lineOn endLine refusing whole-file
   goes-on first h =
-      (whole-file, ap stopped (back.reads-back (freshReading .bar) [] 0 [] 0 (record { bar = zeros; cells = λ i z. absurd (omega arith); rings = λ i z. absurd (omega arith); few-cells = omega arith; few-rings = omega arith }) cs rs (omega arith) (omega arith)))
+      (whole-file, ap stopped (back.reads-back (opening 2 0 (freshReading .bar)) [] 0 [] 0 (record { says = two (omega arith); bar = zeros; cells = λ i z. absurd (omega arith); rings = λ i z. absurd (omega arith); few-cells = omega arith; few-rings = omega arith }) cs rs (omega arith) (omega arith)))
   goes-on (body {b} {n} {m} {k} {cs'} {rs'}) h =
       let st : State = state (reading b 1 n m k) cs' rs' in
       let d = decimal-short k in
@@ -408,9 +407,9 @@ counted-place : (most : ℕ) (o : Option ℕ) → placeOf (counted most o) ≡ n
 counted-place most none = refl
 counted-place most (some n) = demand-place _ 2 _ refl
 
-stock-place : (spec : TurnStockSpec) (n : ℕ) (cs : List Float) (m : ℕ) (rs : List Float) → placeOf (stockIn spec n cs m rs) ≡ none
+stock-place : (spec : TurnStockSpec) (edition n : ℕ) (cs : List Float) (m : ℕ) (rs : List Float) → placeOf (stockIn spec edition n cs m rs) ≡ none
 unfolding stockIn stockOf cellsOf
-stock-place spec n cs m rs =
+stock-place spec edition n cs m rs =
     onward-place _ _
     (onward-place _ _ (demand-place _ 1 _ (counted-place (cleanSpec spec .«max_cells») (wholeUp (quotient (cleanSpec spec)) cellLimit))) (λ k. demand-place _ 3 _ refl))
     (λ k. demand-place _ 4 _ refl)
@@ -431,8 +430,8 @@ told-there r most cs rs l e = by (r .refused) refl
     by : (t : Bool) → r .refused ≡ t → (r .refused ≡ true) × (r .lines ≡ l)
     by true f = (f, ap numberAt (told-line r most cs rs (r .lines) f refl ∙ e))
     by false f =
-        let q : stockIn (specOf (r .bar) most) (r .cells) cs (r .rings) rs ≡ refuses (at 16 l) = sym (demandAt-true _ _ _ _ (ap not f)) ∙ e in
-        absurd (false≢true (ap has (sym (stock-place (specOf (r .bar) most) (r .cells) cs (r .rings) rs) ∙ ap placeOf q)))
+        let q : stockIn (specOf (r .bar) most) (r .edition) (r .cells) cs (r .rings) rs ≡ refuses (at 16 l) = sym (demandAt-true _ _ _ _ (ap not f)) ∙ e in
+        absurd (false≢true (ap has (sym (stock-place (specOf (r .bar) most) (r .edition) (r .cells) cs (r .rings) rs) ∙ ap placeOf q)))
 
 -- 16 AT A LINE EXACTLY WHEN the lines before it begin some file of the form, and with it, or with the end in its place, they begin none
 pub record LineExactly (most : ℕ) (cs rs : List Float) (s : List ℕ) (k : ℕ) : Type 0 where

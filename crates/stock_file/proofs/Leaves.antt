@@ -15,11 +15,12 @@ use Rattle.lines.specs.File.{piecesOf, ended, lineOn, overPieces}
 use Rattle.stock_lines.specs.declared.Reading.{Reading}
 use Rattle.stock_lines.specs.declared.form.Four.{Four}
 use Rattle.stock_lines.specs.declared.form.Four.the-variants.{Numbers, NoFour}
-use Rattle.stock_lines.specs.declared.form.Five.{Five}
-use Rattle.stock_lines.specs.declared.form.Five.the-variants.{Spec, NoFive}
+use Rattle.stock_lines.specs.declared.form.First.{First}
+use Rattle.stock_lines.specs.declared.form.First.the-variants.{Says, NoFirst}
 use Rattle.stock_lines.specs.declared.room.Took.{Took}
 use Rattle.stock_lines.specs.declared.room.Took.the-variants.{Cell, Ring, End, NoLine}
-use Rattle.stock_lines.specs.Form.{formOf, writtenForm, lineOf, fourOf, fiveOf, cellPrefix, stockPrefix, endText}
+use Rattle.stock_lines.specs.Form.{formOf, endText}
+use Rattle.stock_lines.specs.First.{firstOf}
 use Rattle.stock_lines.specs.Room.{kept, stored, taken, cellAt, ringAt, tookOf, ringsAfter}
 use Rattle.stock_lines.specs.Reading.{State, state, countTo, refusing, begun, onwardTo, went, onBody, onLine}
 use Rattle.stock_lines.proofs.Rooms.{took-cell, took-ring, took-end, took-none, rings-cell, rings-other, stored-other}
@@ -120,10 +121,10 @@ refusing-unmoved : (r : Reading) → Unmoved r (refusing r)
 unfolding refusing
 refusing-unmoved r = record { cells = refl; rings = refl }
 
-begun-unmoved : (r : Reading) (f : Five) → Unmoved r (begun r f)
+begun-unmoved : (r : Reading) (f : First) → Unmoved r (begun r f)
 unfolding begun
-begun-unmoved r (Spec a b c d e) = record { cells = refl; rings = refl }
-begun-unmoved r NoFive = refusing-unmoved r
+begun-unmoved r (Says k e b) = record { cells = refl; rings = refl }
+begun-unmoved r NoFirst = refusing-unmoved r
 
 -- what a line behind the first leaves, by what it was
 body-stays : (st : State) (s : List ℕ) → Stays st (onBody st s)
@@ -178,7 +179,7 @@ pub line-stays : (st : State) (s : List ℕ) → Stays st (onLine st s)
 line-stays st s = by (eqb (st .reading .stage) 0) refl (eqb (st .reading .stage) 1) refl
   where
     by : (t : Bool) → eqb (st .reading .stage) 0 ≡ t → (u : Bool) → eqb (st .reading .stage) 1 ≡ u → Stays st (onLine st s)
-    by true e u f = subst (Stays st) (sym (line-first st s (eqb-true _ _ e))) (unmoved st _ (begun-unmoved (st .reading) (fiveOf (lineOf (stockPrefix writtenForm) 5 s))))
+    by true e u f = subst (Stays st) (sym (line-first st s (eqb-true _ _ e))) (unmoved st _ (begun-unmoved (st .reading) (firstOf s)))
     by false e true f = subst (Stays st) (sym (line-body st s (eqb-false _ _ e) (eqb-true _ _ f))) (body-stays st s)
     by false e false f = subst (Stays st) (sym (line-behind st s (eqb-false _ _ e) (eqb-false _ _ f))) (unmoved st _ (refusing-unmoved (st .reading)))
 

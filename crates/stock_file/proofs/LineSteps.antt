@@ -14,22 +14,23 @@ use Rattle.text.specs.Lines.{newline, ringLine}
 use Rattle.text.specs.Same.{sameBytes}
 use Rattle.lines.specs.Hands.{Hand, hand, byteOn, takes}
 use Rattle.lines.proofs.Parts.{byte-newline, byte-held}
-use Rattle.stock_lines.specs.declared.Bar.{Bar}
 use Rattle.stock_lines.specs.declared.Reading.{Reading}
 use Rattle.stock_lines.specs.declared.form.Four.{Four}
 use Rattle.stock_lines.specs.declared.form.Four.the-variants.{Numbers, NoFour}
-use Rattle.stock_lines.specs.declared.form.Five.{Five}
-use Rattle.stock_lines.specs.declared.form.Five.the-variants.{Spec, NoFive}
+use Rattle.stock_lines.specs.declared.form.First.the-variants.{Says}
 use Rattle.stock_lines.specs.declared.room.Took.{Took}
 use Rattle.stock_lines.specs.declared.room.Took.the-variants.{Cell, Ring, End, NoLine}
-use Rattle.stock_lines.specs.Form.{Line, holds, other, formOf, writtenForm, lineOf, fourOf, fiveOf, barNumbers, stockPrefix, cellPrefix, ringPrefix, endText, stockLine, keptCellLine, endLine}
+use Rattle.stock_lines.specs.Form.{Line, holds, other, formOf, lineOf, fourOf, barNumbers, cellPrefix, ringPrefix, endText, stockLine, keptCellLine, endLine}
 use Rattle.stock_lines.specs.Room.{kept, stored, taken, cellAt, ringAt, tookOf, ringsAfter}
 use Rattle.stock_lines.specs.Reading.{State, state, next, countTo, begun, onwardTo, went, onBody, onLine}
 use Rattle.stock_lines.proofs.Forms.{Keeps}
-use Rattle.stock_lines.proofs.EachLine.{cell-reads, ring-reads, first-reads, end-reads, first-byte}
+use Rattle.stock_lines.specs.First.{firstOf, CanSay}
+use Rattle.stock_lines.proofs.EachLine.{cell-reads, ring-reads, end-reads, first-byte}
+use Rattle.stock_lines.proofs.Firsts.{first-reads}
 use Rattle.stock_lines.proofs.Rooms.{cell-turn, cell-after-ring, took-cell, took-ring, took-end, rings-cell, rings-other, stored-other, taken-numbers, taken-none}
 use Rattle.stock_lines.proofs.Readings.{line-first, line-body, count-more, begun-is, went-cell, went-ring, went-end}
 use Rattle.stock_file.specs.Read.{freshReading, stopped, onLong}
+use Rattle.stock_file.specs.Write.{Opening}
 use Rattle.stock_file.proofs.Newlines.{Free, none, more}
 
 -- ---- its bytes
@@ -71,36 +72,36 @@ no-cell form n m s h = by (eqb m 0) refl (ltb n (formOf form .most)) refl
     by true e false f = pick-true _ _ _ e ∙ pick-false _ _ _ f
     by false e u f = pick-false _ _ _ e
 
--- ---- a reading behind the first line, of the form that is written
+-- ---- a reading behind the first line, which said b
 
-abbrev pub most : ℕ
-most = formOf writtenForm .most
+abbrev pub most : Opening → ℕ
+most b = formOf (b .form) .most
 
-abbrev pub reading : Bar → ℕ → ℕ → ℕ → ℕ → Reading
-reading b stage n m l = record { stage = stage; form = writtenForm; bar = b; cells = n; rings = m; lines = l; refused = false }
+abbrev pub reading : Opening → ℕ → ℕ → ℕ → ℕ → Reading
+reading b stage n m l = record { stage = stage; form = b .form; edition = b .edition; bar = b .bar; cells = n; rings = m; lines = l; refused = false }
 
-next-is : (b : Bar) (stage n m l : ℕ) → l + 1 < 2 ^ 64 → next (reading b stage n m l) ≡ l + 1
+next-is : (b : Opening) (stage n m l : ℕ) → l + 1 < 2 ^ 64 → next (reading b stage n m l) ≡ l + 1
 next-is b stage n m l h = omega arith
 
-onward-is : (b : Bar) (n m l stage n' m' : ℕ) → l + 1 < 2 ^ 64 → onwardTo (reading b 1 n m l) stage n' m' ≡ reading b stage n' m' (l + 1)
+onward-is : (b : Opening) (n m l stage n' m' : ℕ) → l + 1 < 2 ^ 64 → onwardTo (reading b 1 n m l) stage n' m' ≡ reading b stage n' m' (l + 1)
 unfolding onwardTo
 onward-is b n m l stage n' m' h = ap (reading b stage n' m') (next-is b 1 n m l h)
 
-module _ (b : Bar) (n m l : ℕ) (cs rs : List Float) (s : List ℕ) (few : l + 1 < 2 ^ 64) where
+module _ (b : Opening) (n m l : ℕ) (cs rs : List Float) (s : List ℕ) (few : l + 1 < 2 ^ 64) where
   body : onLine (state (reading b 1 n m l) cs rs) s ≡ onBody (state (reading b 1 n m l) cs rs) s
   body = line-body (state (reading b 1 n m l) cs rs) s (λ e. omega arith) refl
 
   -- a cell's line
-  pub cell-step : (x y z w : Float) → m ≡ 0 → n < most → n < length cs / 4 → Keeps (x ∷ y ∷ z ∷ w ∷ []) → s ++ newline ≡ keptCellLine writtenForm n x y z w
+  pub cell-step : (x y z w : Float) → m ≡ 0 → n < (most b) → n < length cs / 4 → Keeps (x ∷ y ∷ z ∷ w ∷ []) → s ++ newline ≡ keptCellLine (b .form) n x y z w
       → onLine (state (reading b 1 n m l) cs rs) s ≡ state (reading b 1 (n + 1) m (l + 1)) (sets cs (4 * n) (x ∷ y ∷ z ∷ w ∷ [])) rs
   unfolding onBody kept stored
   cell-step x y z w e h k keeps q =
-      let c : cellAt writtenForm n m s ≡ Numbers x y z w = sym (cell-turn writtenForm n m s e h) ∙ cell-reads writtenForm x y z w n s keeps q in
-      let t : taken (cellAt writtenForm n m s) ≡ true = sym (taken-numbers (cellAt writtenForm n m s) x y z w c) in
-      let r : went (reading b 1 n m l) (tookOf writtenForm n m l s) ≡ reading b 1 (n + 1) m (l + 1) =
-      sym (went-cell (reading b 1 n m l) (tookOf writtenForm n m l s) (n + 1) (sym (took-cell writtenForm n m s l t)) (count-more most n h)) ∙ onward-is b n m l 1 (n + 1) m few in
-      let u : stored most cs n (cellAt writtenForm n m s) ≡ sets cs (4 * n) (x ∷ y ∷ z ∷ w ∷ []) = ap (stored most cs n) c ∙ pick-true _ _ _ (lt-ltb _ _ h) ∙ pick-true _ _ _ (lt-ltb _ _ k) in
-      let v : ringsAfter writtenForm n m s rs ≡ rs = sym (rings-cell writtenForm n m s rs t) in
+      let c : cellAt (b .form) n m s ≡ Numbers x y z w = sym (cell-turn (b .form) n m s e h) ∙ cell-reads (b .form) x y z w n s keeps q in
+      let t : taken (cellAt (b .form) n m s) ≡ true = sym (taken-numbers (cellAt (b .form) n m s) x y z w c) in
+      let r : went (reading b 1 n m l) (tookOf (b .form) n m l s) ≡ reading b 1 (n + 1) m (l + 1) =
+      sym (went-cell (reading b 1 n m l) (tookOf (b .form) n m l s) (n + 1) (sym (took-cell (b .form) n m s l t)) (count-more (most b) n h)) ∙ onward-is b n m l 1 (n + 1) m few in
+      let u : stored (most b) cs n (cellAt (b .form) n m s) ≡ sets cs (4 * n) (x ∷ y ∷ z ∷ w ∷ []) = ap (stored (most b) cs n) c ∙ pick-true _ _ _ (lt-ltb _ _ h) ∙ pick-true _ _ _ (lt-ltb _ _ k) in
+      let v : ringsAfter (b .form) n m s rs ≡ rs = sym (rings-cell (b .form) n m s rs t) in
       body ∙ (λ i. state (r i) (u i) (v i))
 
   -- a ring's line
@@ -109,15 +110,15 @@ module _ (b : Bar) (n m l : ℕ) (cs rs : List Float) (s : List ℕ) (few : l + 
       → onLine (state (reading b 1 n m l) cs rs) s ≡ state (reading b 1 n (m + 1) (l + 1)) cs (sets rs (4 * m) (x ∷ y ∷ z ∷ w ∷ []))
   unfolding onBody kept stored
   ring-step x y z w h k keeps q g =
-      let c : cellAt writtenForm n m s ≡ NoFour = no-cell writtenForm n m s g in
-      let t : taken (cellAt writtenForm n m s) ≡ false = sym (taken-none (cellAt writtenForm n m s) c) in
+      let c : cellAt (b .form) n m s ≡ NoFour = no-cell (b .form) n m s g in
+      let t : taken (cellAt (b .form) n m s) ≡ false = sym (taken-none (cellAt (b .form) n m s) c) in
       let d : ringAt s ≡ Numbers x y z w = ring-reads x y z w s keeps q in
       let o : taken (ringAt s) ≡ true = sym (taken-numbers (ringAt s) x y z w d) in
       let j : m < 257 = omega arith in
-      let r : went (reading b 1 n m l) (tookOf writtenForm n m l s) ≡ reading b 1 n (m + 1) (l + 1) =
-      sym (went-ring (reading b 1 n m l) (tookOf writtenForm n m l s) (m + 1) (sym (took-ring writtenForm n m s l t o)) (count-more 257 m j)) ∙ onward-is b n m l 1 n (m + 1) few in
-      let u : stored most cs n (cellAt writtenForm n m s) ≡ cs = ap (stored most cs n) c in
-      let v : ringsAfter writtenForm n m s rs ≡ sets rs (4 * m) (x ∷ y ∷ z ∷ w ∷ []) = sym (rings-other writtenForm n m s rs t) ∙ ap (stored 256 rs m) d ∙ pick-true _ _ _ (lt-ltb _ _ h) ∙ pick-true _ _ _ (lt-ltb _ _ k) in
+      let r : went (reading b 1 n m l) (tookOf (b .form) n m l s) ≡ reading b 1 n (m + 1) (l + 1) =
+      sym (went-ring (reading b 1 n m l) (tookOf (b .form) n m l s) (m + 1) (sym (took-ring (b .form) n m s l t o)) (count-more 257 m j)) ∙ onward-is b n m l 1 n (m + 1) few in
+      let u : stored (most b) cs n (cellAt (b .form) n m s) ≡ cs = ap (stored (most b) cs n) c in
+      let v : ringsAfter (b .form) n m s rs ≡ sets rs (4 * m) (x ∷ y ∷ z ∷ w ∷ []) = sym (rings-other (b .form) n m s rs t) ∙ ap (stored 256 rs m) d ∙ pick-true _ _ _ (lt-ltb _ _ h) ∙ pick-true _ _ _ (lt-ltb _ _ k) in
       body ∙ (λ i. state (r i) (u i) (v i))
 
   -- the last line
@@ -125,22 +126,21 @@ module _ (b : Bar) (n m l : ℕ) (cs rs : List Float) (s : List ℕ) (few : l + 
       → onLine (state (reading b 1 n m l) cs rs) s ≡ state (reading b 2 n m (l + 1)) cs rs
   unfolding onBody kept stored
   end-step q g f =
-      let c : cellAt writtenForm n m s ≡ NoFour = no-cell writtenForm n m s g in
-      let t : taken (cellAt writtenForm n m s) ≡ false = sym (taken-none (cellAt writtenForm n m s) c) in
+      let c : cellAt (b .form) n m s ≡ NoFour = no-cell (b .form) n m s g in
+      let t : taken (cellAt (b .form) n m s) ≡ false = sym (taken-none (cellAt (b .form) n m s) c) in
       let d : ringAt s ≡ NoFour = other-four 114 _ s f in
       let o : taken (ringAt s) ≡ false = sym (taken-none (ringAt s) d) in
-      let r : went (reading b 1 n m l) (tookOf writtenForm n m l s) ≡ reading b 2 n m (l + 1) =
-      sym (went-end (reading b 1 n m l) (tookOf writtenForm n m l s) (sym (took-end writtenForm n m s l t o (end-reads l s q)))) ∙ onward-is b n m l 2 n m few in
-      let u : stored most cs n (cellAt writtenForm n m s) ≡ cs = ap (stored most cs n) c in
-      let v : ringsAfter writtenForm n m s rs ≡ rs = sym (rings-other writtenForm n m s rs t) ∙ ap (stored 256 rs m) d in
+      let r : went (reading b 1 n m l) (tookOf (b .form) n m l s) ≡ reading b 2 n m (l + 1) =
+      sym (went-end (reading b 1 n m l) (tookOf (b .form) n m l s) (sym (took-end (b .form) n m s l t o (end-reads l s q)))) ∙ onward-is b n m l 2 n m few in
+      let u : stored (most b) cs n (cellAt (b .form) n m s) ≡ cs = ap (stored (most b) cs n) c in
+      let v : ringsAfter (b .form) n m s rs ≡ rs = sym (rings-other (b .form) n m s rs t) ∙ ap (stored 256 rs m) d in
       body ∙ (λ i. state (r i) (u i) (v i))
 
--- the first line, which tells the bar
-pub first-step : (b : Bar) (cs rs : List Float) (s : List ℕ) → Keeps (barNumbers b) → s ++ newline ≡ stockLine writtenForm b
+-- the first line
+pub first-step : (b : Opening) (cs rs : List Float) (s : List ℕ) → CanSay (b .form) (b .edition) → Keeps (barNumbers (b .bar)) → s ++ newline ≡ stockLine (b .form) (b .bar) (b .edition)
     → onLine (state freshReading cs rs) s ≡ state (reading b 1 0 0 1) cs rs
-first-step b cs rs s keeps q =
-    let c : fiveOf (lineOf (stockPrefix writtenForm) 5 s) ≡ Spec (b .«z_min_mm») (b .«z_max_mm») (b .«outer_radius_mm») (b .«bore_radius_mm») (b .«cell_mm») =
-    first-reads writtenForm (b .«z_min_mm») (b .«z_max_mm») (b .«outer_radius_mm») (b .«bore_radius_mm») (b .«cell_mm») s keeps q in
+first-step b cs rs s says keeps q =
+    let c : firstOf s ≡ Says (b .form) (b .edition) (b .bar) = first-reads (b .form) (b .edition) (b .bar) says s keeps q in
     let one : 1 ≡ next freshReading = omega arith in
     line-first (state freshReading cs rs) s refl
-    ∙ ap (λ (r : Reading). state r cs rs) (sym (begun-is freshReading (fiveOf (lineOf (stockPrefix writtenForm) 5 s)) _ _ _ _ _ 1 c one))
+    ∙ ap (λ (r : Reading). state r cs rs) (sym (begun-is freshReading (firstOf s) _ _ _ 1 c one))

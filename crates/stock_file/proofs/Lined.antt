@@ -13,18 +13,17 @@ use Rattle.refusals.specs.declared.Refusal.{Refusal}
 use Rattle.refusals.specs.Number.{reasonOf}
 use Rattle.refusals.specs.Paper.{Paper, Reason, answers, refuses, only, demand, onward, demand-true, demand-false, onward-answers, onward-refuses}
 use Rattle.floats.specs.Pick.{pick-true, pick-false}
-use Rattle.stock.specs.declared.TurnStockSpec.{TurnStockSpec}
+use Rattle.stock.specs.declared.TurnStock.{TurnStock}
 use Rattle.stock.specs.Spec.{cellsOf}
 use Rattle.stock.specs.Cell.{newOf}
 use Rattle.rings.specs.declared.Ring.{Ring}
 use Rattle.rings.specs.Store.{countFits, ringRoom}
 use Rattle.rings.proofs.Removing.{fits-within}
 use Rattle.text.specs.Wrote.{lineRoom, Wrote, WroteLine}
-use Rattle.stock_lines.specs.declared.Bar.{Bar}
-use Rattle.stock_lines.specs.Form.{writtenForm, stockLine, endLine}
+use Rattle.stock_lines.specs.Form.{stockLine, endLine}
 use Rattle.stock_file.specs.declared.written.Spelled.{Spelled}
 use Rattle.stock_file.specs.declared.written.Spelled.the-variants as spelled
-use Rattle.stock_file.specs.Write.{barOf, cellAt, ringAt, lineBehind, lineAt, lineFor, linePaper, lengthOf, lineOver, WroteFileLine}
+use Rattle.stock_file.specs.Write.{Opening, openingOf, cellAt, ringAt, lineBehind, lineAt, lineFor, linePaper, lengthOf, lineOver, WroteFileLine}
 
 -- the same line under another name
 pub reline : {l s t m : List ℕ} {r : ℕ} → s ≡ t → WroteLine l s m r → WroteLine l t m r
@@ -34,16 +33,16 @@ reline {l} {s} {t} {m} {r} e w = subst (λ (x : List ℕ). WroteLine l x m r) e 
 pub no-line : (l : List ℕ) → WroteLine l [] l 0
 no-line l = record { wrote = record { text = refl; end = refl }; within = omega arith }
 
-module _ (b : Bar) (cs : List Float) (n : ℕ) (rs : List Float) (m k : ℕ) where
-  pub first-line : k ≡ 0 → stockLine writtenForm b ≡ lineAt b cs n rs m k
+module _ (b : Opening) (cs : List Float) (n : ℕ) (rs : List Float) (m k : ℕ) where
+  pub first-line : k ≡ 0 → stockLine (b .form) (b .bar) (b .edition) ≡ lineAt b cs n rs m k
   unfolding lineAt
   first-line e = sym (pick-true _ _ _ (eq-eqb _ _ e))
 
-  behind : (k ≡ 0 → ⊥) → lineAt b cs n rs m k ≡ lineBehind cs n rs m (k - 1)
+  behind : (k ≡ 0 → ⊥) → lineAt b cs n rs m k ≡ lineBehind (b .form) cs n rs m (k - 1)
   unfolding lineAt
   behind h = pick-false _ _ _ (ne-eqb _ _ h)
 
-  pub cell-line : (k ≡ 0 → ⊥) → k - 1 < n → cellAt cs (k - 1) ≡ lineAt b cs n rs m k
+  pub cell-line : (k ≡ 0 → ⊥) → k - 1 < n → cellAt (b .form) cs (k - 1) ≡ lineAt b cs n rs m k
   unfolding lineBehind
   cell-line h e = sym (behind h ∙ pick-true _ _ _ (lt-ltb _ _ e))
 
@@ -83,30 +82,30 @@ line-told p s l m r e w =
 
 -- ---- what is asked of any numbers
 
-module _ (spec : TurnStockSpec) (cs rs : List Float) (m k : ℕ) where
-  pub for-refused : (w : Reason) → cellsOf spec ≡ refuses w → lineFor spec cs rs m k ≡ refuses w
+module _ (stock : TurnStock) (cs rs : List Float) (k : ℕ) where
+  pub for-refused : (w : Reason) → cellsOf (stock .spec) ≡ refuses w → lineFor stock cs rs k ≡ refuses w
   unfolding lineFor newOf
-  for-refused w e = rw e (ap (λ (p : Paper ℕ). onward p (λ n. demand (leb m (ringRoom (length rs))) 4 (answers (lineAt (barOf spec) cs n rs m k)))) (onward-refuses w (λ n. demand (eqb (length cs) (4 * n)) 3 (answers n))) ∙ onward-refuses _ _)
+  for-refused w e = rw e (ap (λ (p : Paper ℕ). onward p (λ n. demand (leb (stock .rings) (ringRoom (length rs))) 4 (answers (lineAt (openingOf stock) cs n rs (stock .rings) k)))) (onward-refuses w (λ n. demand (eqb (length cs) (4 * n)) 3 (answers n))) ∙ onward-refuses _ _)
 
-  module _ (n : ℕ) (e : cellsOf spec ≡ answers n) where
-    counted : newOf spec (length cs) ≡ demand (eqb (length cs) (4 * n)) 3 (answers n)
+  module _ (n : ℕ) (e : cellsOf (stock .spec) ≡ answers n) where
+    counted : newOf (stock .spec) (length cs) ≡ demand (eqb (length cs) (4 * n)) 3 (answers n)
     unfolding newOf
     counted = ap (λ (p : Paper ℕ). onward p (λ n. demand (eqb (length cs) (4 * n)) 3 (answers n))) e ∙ onward-answers _ _
 
-    pub for-length : (length cs ≡ 4 * n → ⊥) → lineFor spec cs rs m k ≡ refuses (only 3)
+    pub for-length : (length cs ≡ 4 * n → ⊥) → lineFor stock cs rs k ≡ refuses (only 3)
     unfolding lineFor
     for-length h =
-        ap (λ (p : Paper ℕ). onward p (λ n. demand (leb m (ringRoom (length rs))) 4 (answers (lineAt (barOf spec) cs n rs m k)))) (counted ∙ demand-false _ _ _ (ne-eqb _ _ h))
+        ap (λ (p : Paper ℕ). onward p (λ n. demand (leb (stock .rings) (ringRoom (length rs))) 4 (answers (lineAt (openingOf stock) cs n rs (stock .rings) k)))) (counted ∙ demand-false _ _ _ (ne-eqb _ _ h))
         ∙ onward-refuses _ _
 
-    room : length cs ≡ 4 * n → lineFor spec cs rs m k ≡ demand (leb m (ringRoom (length rs))) 4 (answers (lineAt (barOf spec) cs n rs m k))
+    room : length cs ≡ 4 * n → lineFor stock cs rs k ≡ demand (leb (stock .rings) (ringRoom (length rs))) 4 (answers (lineAt (openingOf stock) cs n rs (stock .rings) k))
     unfolding lineFor
     room h =
-        ap (λ (p : Paper ℕ). onward p (λ n. demand (leb m (ringRoom (length rs))) 4 (answers (lineAt (barOf spec) cs n rs m k)))) (counted ∙ demand-true _ _ _ (eq-eqb _ _ h))
+        ap (λ (p : Paper ℕ). onward p (λ n. demand (leb (stock .rings) (ringRoom (length rs))) 4 (answers (lineAt (openingOf stock) cs n rs (stock .rings) k)))) (counted ∙ demand-true _ _ _ (eq-eqb _ _ h))
         ∙ onward-answers _ _
 
-    pub for-count : length cs ≡ 4 * n → ringRoom (length rs) < m → lineFor spec cs rs m k ≡ refuses (only 4)
+    pub for-count : length cs ≡ 4 * n → ringRoom (length rs) < stock .rings → lineFor stock cs rs k ≡ refuses (only 4)
     for-count h f = room h ∙ demand-false _ _ _ (lt-leb _ _ f)
 
-    pub for-line : length cs ≡ 4 * n → m ≤ ringRoom (length rs) → lineFor spec cs rs m k ≡ answers (lineAt (barOf spec) cs n rs m k)
+    pub for-line : length cs ≡ 4 * n → stock .rings ≤ ringRoom (length rs) → lineFor stock cs rs k ≡ answers (lineAt (openingOf stock) cs n rs (stock .rings) k)
     for-line h f = room h ∙ demand-true _ _ _ (le-leb _ _ f)

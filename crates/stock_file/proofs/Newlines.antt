@@ -1,7 +1,7 @@
 -- The lines that are written have no newline in them but the last byte. Assumes nothing.
 use Prim.Native.Nat.{ℕ, zero, suc, _+_, _/_, _%_}
 use native.Mathlib.Omega.{arith}
-use mathlib.Core.Path.{_≡_, refl, sym, _∙_}
+use mathlib.Core.Path.{_≡_, refl, sym, subst}
 use mathlib.Core.Bool.{Bool, true, false}
 use mathlib.Core.List.{List, [], _∷_, _++_}
 use lib.Dec.{ltb, eqb}
@@ -10,7 +10,9 @@ use borrow.Author.Tests.{eqb-false, ltb-true, ltb-false}
 use Rattle.text.specs.Digits.{glyphOf, digits, decimalOf, hexOf}
 use Rattle.text.specs.Digits as spelling
 use Rattle.text.proofs.Spelling.{glyph-low, glyph-high}
-use Rattle.stock_lines.specs.Form.{formOf, fieldsText, stockPrefix, cellPrefix, ringPrefix, endText}
+use Rattle.floats.specs.Pick.{pick-true, pick-false}
+use Rattle.stock_lines.specs.declared.Bar.{Bar}
+use Rattle.stock_lines.specs.Form.{formOf, fieldsText, barNumbers, cellPrefix, ringPrefix, endText, editionText, stockText}
 
 pub data Free : List ℕ → Type 0 where
   none : Free []
@@ -44,10 +46,13 @@ decimal-free : (n : ℕ) → Free (decimalOf n)
 unfolding decimalOf
 decimal-free n = digits-free 10 (suc (spelling.more 19 (n / 10))) n
 
-fields-free : (xs : List Float) → Free (fieldsText xs [])
+fields-then-free : (xs : List Float) {t : List ℕ} → Free t → Free (fieldsText xs t)
 unfolding fieldsText
-fields-free [] = none
-fields-free (x ∷ xs) = free-append (more (λ e. omega arith) (hex-free x)) (fields-free xs)
+fields-then-free [] f = f
+fields-then-free (x ∷ xs) f = free-append (more (λ e. omega arith) (hex-free x)) (fields-then-free xs f)
+
+fields-free : (xs : List Float) → Free (fieldsText xs [])
+fields-free xs = fields-then-free xs none
 
 pub ring-free : (xs : List Float) → Free (ringPrefix ++ fieldsText xs [])
 ring-free xs = byte 114 refl (byte 105 refl (byte 110 refl (byte 103 refl (fields-free xs))))
@@ -59,6 +64,14 @@ cell-free form n xs =
 pub end-free : (n : ℕ) → Free (endText n)
 end-free n = byte 101 refl (byte 110 refl (byte 100 refl (byte 9 refl (decimal-free n))))
 
-pub first-free : (form : ℕ) (xs : List Float) → Free (stockPrefix form ++ fieldsText xs [])
-first-free form xs =
-    free-append (byte 115 refl (byte 116 refl (byte 111 refl (byte 99 refl (byte 107 refl (byte 9 refl (digits-free 10 1 form))))))) (fields-free xs)
+edition-free : (form edition : ℕ) → Free (editionText form edition)
+unfolding editionText
+edition-free form edition = by (formOf form .edition) refl
+  where
+    by : (t : Bool) → formOf form .edition ≡ t → Free (editionText form edition)
+    by true e = subst Free (sym (pick-true _ _ _ e)) (byte 9 refl (digits-free 16 8 edition))
+    by false e = subst Free (sym (pick-false _ _ _ e)) none
+
+pub first-free : (form edition : ℕ) (b : Bar) → Free (stockText form b edition)
+first-free form edition b =
+    free-append (byte 115 refl (byte 116 refl (byte 111 refl (byte 99 refl (byte 107 refl (byte 9 refl (digits-free 10 1 form))))))) (fields-then-free (barNumbers b) (edition-free form edition))

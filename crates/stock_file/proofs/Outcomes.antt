@@ -54,18 +54,17 @@ place-of : {n m k l : ℕ} → _≡_ {A = Paper Stocked} (refuses (at n k)) (ref
 place-of {n} {m} {k} {l} e = let q : some k ≡ some l = ap (λ (x : Reason). x .place) (reason e) in cc
 
 pub same-kept : (r r' : Kept) → keptPaper r ≡ keptPaper r' → r ≡ r'
-same-kept (kept.Stock s n m) (kept.Stock t i j) h =
-    let q : _≡_ {A = Stocked} (record { spec = s; cells = n; rings = m }) (record { spec = t; cells = i; rings = j }) = same-answer h in
-    let a : s ≡ t = ap (λ (x : Stocked). x .spec) q in
+same-kept (kept.Stock s n) (kept.Stock t i) h =
+    let q : _≡_ {A = Stocked} (record { stock = s; cells = n }) (record { stock = t; cells = i }) = same-answer h in
+    let a : s ≡ t = ap (λ (x : Stocked). x .stock) q in
     let b : n ≡ i = ap (λ (x : Stocked). x .cells) q in
-    let c : m ≡ j = ap (λ (x : Stocked). x .rings) q in
     cc
-same-kept (kept.Stock s n m) (kept.Refused d) h = absurd (no-answer _ _ (sym h))
-same-kept (kept.Stock s n m) (kept.RefusedAt d k) h = absurd (no-answer _ _ (sym h))
-same-kept (kept.Refused c) (kept.Stock s n m) h = absurd (no-answer _ _ h)
+same-kept (kept.Stock s n) (kept.Refused d) h = absurd (no-answer _ _ (sym h))
+same-kept (kept.Stock s n) (kept.RefusedAt d k) h = absurd (no-answer _ _ (sym h))
+same-kept (kept.Refused c) (kept.Stock s n) h = absurd (no-answer _ _ h)
 same-kept (kept.Refused c) (kept.Refused d) h = ap kept.Refused (one-to-one c d (ap (λ (x : Reason). x .number) (reason h)))
 same-kept (kept.Refused c) (kept.RefusedAt d k) h = absurd (placed (sym h))
-same-kept (kept.RefusedAt c k) (kept.Stock s n m) h = absurd (no-answer _ _ h)
+same-kept (kept.RefusedAt c k) (kept.Stock s n) h = absurd (no-answer _ _ h)
 same-kept (kept.RefusedAt c k) (kept.Refused d) h = absurd (placed h)
 same-kept (kept.RefusedAt c k) (kept.RefusedAt d l) h =
     let a : c ≡ d = one-to-one c d (ap (λ (x : Reason). x .number) (reason h)) in

@@ -11,20 +11,20 @@ use lib.Ieee.{Float, nan}
 use Rattle.refusals.specs.Lent.{over}
 use Rattle.refusals.proofs.Written.{over-none, over-more, length-over}
 use Rattle.floats.specs.Pick.{pick-true, pick-false}
-use Rattle.text.specs.Digits.{hexOf}
 use Rattle.text.specs.Lines.{newline, ringLine}
-use Rattle.text.proofs.Spelling.{hex-long, decimal-short}
+use Rattle.text.proofs.Spelling.{decimal-short}
 use Rattle.lines.specs.File as file
 use Rattle.lines.specs.Hands.{Hand, hand, takes}
 use Rattle.lines.proofs.Parts.{parts}
 use Rattle.lines.proofs.OneFile.{whole-file}
-use Rattle.stock_lines.specs.declared.Bar.{Bar}
-use Rattle.stock_lines.specs.Form.{formOf, writtenForm, fieldsText, barNumbers, stockPrefix, cellPrefix, ringPrefix, endText, stockLine, keptCellLine, endLine}
+use Rattle.stock_lines.specs.Form.{formOf, fieldsText, barNumbers, cellPrefix, ringPrefix, endText, stockText, stockLine, keptCellLine, endLine}
 use Rattle.stock_lines.specs.Reading.{State, state, onLine}
-use Rattle.stock_lines.proofs.Forms.{Keeps, fields-then}
-use Rattle.stock_lines.proofs.Steps.{few-lines, stock-long, cell-short}
+use Rattle.stock_lines.specs.First.{CanSay}
+use Rattle.stock_lines.proofs.Forms.{Keeps, fields-then, fields-text-long}
+use Rattle.stock_lines.proofs.Steps.{few-lines, cell-short}
+use Rattle.stock_lines.proofs.Firsts.{first-few}
 use Rattle.stock_file.specs.Read.{freshReading, stopped, onLong, onEnd, fileIn}
-use Rattle.stock_file.specs.Write.{cellAt, ringAt, lineAt, linesTo, fileOf}
+use Rattle.stock_file.specs.Write.{Opening, cellAt, ringAt, lineAt, linesTo, fileOf}
 use Rattle.stock_file.proofs.Newlines.{ring-free, cell-free, end-free, first-free}
 use Rattle.stock_file.proofs.LineSteps.{line-taken, most, reading, first-step, cell-step, ring-step, end-step}
 use Rattle.stock_file.proofs.Lined.{first-line, cell-line, ring-line, last-line}
@@ -56,24 +56,20 @@ fours-room xs b i h = omega (arith, length-over (foursTo xs i) b (omega (arith, 
 
 -- ---- the text of a line
 
-fields-length : (xs : List Float) → length (fieldsText xs []) ≡ 17 * length xs
-unfolding fieldsText
-fields-length [] = refl
-fields-length (x ∷ xs) = omega (arith, length-append (9 ∷ hexOf x) (fieldsText xs []), hex-long x, fields-length xs)
-
 with-newline : (p : List ℕ) (xs : List Float) → (p ++ fieldsText xs []) ++ newline ≡ p ++ fieldsText xs newline
 with-newline p xs = append-assoc p (fieldsText xs []) newline ∙ ap (λ (y : List ℕ). p ++ y) (fields-then xs newline)
 
 -- ---- line by line
 
-pub record Kept (b : Bar) (cs : List Float) (n : ℕ) (rs : List Float) (m : ℕ) : Type 0 where
-  pub bar : Keeps (barNumbers b)
+pub record Kept (b : Opening) (cs : List Float) (n : ℕ) (rs : List Float) (m : ℕ) : Type 0 where
+  pub says : CanSay (b .form) (b .edition)
+  pub bar : Keeps (barNumbers (b .bar))
   pub cells : (i : ℕ) → i < n → Keeps (fourAt cs i)
   pub rings : (i : ℕ) → i < m → Keeps (fourAt rs i)
-  pub few-cells : n ≤ most
+  pub few-cells : n ≤ (most b)
   pub few-rings : m ≤ 256
 
-module _ (b : Bar) (cs : List Float) (n : ℕ) (rs : List Float) (m : ℕ) (kept : Kept b cs n rs m) (C R : List Float) (room : 4 * n ≤ length C) (space : 4 * m ≤ length R) where
+module _ (b : Opening) (cs : List Float) (n : ℕ) (rs : List Float) (m : ℕ) (kept : Kept b cs n rs m) (C R : List Float) (room : 4 * n ≤ length C) (space : 4 * m ≤ length R) where
   abbrev took : ℕ → Hand State
   took k = takes stopped onLine onLong (hand (state freshReading C R) []) (linesTo (lineAt b cs n rs m) k)
 
@@ -89,11 +85,9 @@ module _ (b : Bar) (cs : List Float) (n : ℕ) (rs : List Float) (m : ℕ) (kept
   first : took 1 ≡ hand (state (reading b 1 0 0 1) C R) []
   unfolding linesTo stockLine
   first =
-      let l : List ℕ = stockPrefix writtenForm ++ fieldsText (barNumbers b) [] in
-      let w : l ++ newline ≡ stockLine writtenForm b = with-newline (stockPrefix writtenForm) (barNumbers b) in
-      let e : length l ≤ 127 = omega (arith, length-append (stockPrefix writtenForm) (fieldsText (barNumbers b) []), fields-length (barNumbers b), stock-long writtenForm) in
-      line-taken l (lineAt b cs n rs m 0) (state freshReading C R) (first-free writtenForm (barNumbers b)) refl e (w ∙ first-line b cs n rs m 0 refl)
-      ∙ ap (λ (st : State). hand st []) (first-step b C R l (kept .bar) w)
+      let l : List ℕ = stockText (b .form) (b .bar) (b .edition) in
+      line-taken l (lineAt b cs n rs m 0) (state freshReading C R) (first-free (b .form) (b .edition) (b .bar)) refl (first-few (b .form) (b .edition) (b .bar)) (first-line b cs n rs m 0 refl)
+      ∙ ap (λ (st : State). hand st []) (first-step b C R l (kept .says) (kept .bar) refl)
 
   cells : (i k : ℕ) → i ≤ n → k ≡ i + 1 → took k ≡ hand (state (reading b 1 i 0 k) (over (foursTo cs i) C) R) []
   unfolding foursTo keptCellLine
@@ -106,17 +100,17 @@ module _ (b : Bar) (cs : List Float) (n : ℕ) (rs : List Float) (m : ℕ) (kept
   cells (suc i) k h e =
       let j : ℕ = i + 1 in
       let st : State = state (reading b 1 i 0 j) (over (foursTo cs i) C) R in
-      let l : List ℕ = cellPrefix writtenForm i ++ fieldsText (fourAt cs i) [] in
-      let w : l ++ newline ≡ cellAt cs i = with-newline (cellPrefix writtenForm i) (fourAt cs i) in
-      let long : length l ≤ 127 = omega (arith, length-append (cellPrefix writtenForm i) (fieldsText (fourAt cs i) []), cell-short writtenForm i, fields-length (fourAt cs i)) in
+      let l : List ℕ = cellPrefix (b .form) i ++ fieldsText (fourAt cs i) [] in
+      let w : l ++ newline ≡ cellAt (b .form) cs i = with-newline (cellPrefix (b .form) i) (fourAt cs i) in
+      let long : length l ≤ 127 = omega (arith, length-append (cellPrefix (b .form) i) (fieldsText (fourAt cs i) []), cell-short (b .form) i, fields-text-long (fourAt cs i)) in
       let z : i ≡ j - 1 = omega arith in
       let y : j - 1 < n = omega arith in
-      let few : j + 1 < 2 ^ 64 = omega (arith, kept .few-cells, few-lines writtenForm) in
+      let few : j + 1 < 2 ^ 64 = omega (arith, kept .few-cells, few-lines (b .form)) in
       let lt : i < n = omega arith in
-      let lots : i < most = omega (arith, kept .few-cells) in
+      let lots : i < (most b) = omega (arith, kept .few-cells) in
       let wide : 4 * i + 4 ≤ length C = omega arith in
       let q : takes stopped onLine onLong (hand st []) (lineAt b cs n rs m j) ≡ hand (onLine st l) [] =
-      line-taken l (lineAt b cs n rs m j) st (cell-free writtenForm i (fourAt cs i)) refl long (w ∙ ap (cellAt cs) z ∙ cell-line b cs n rs m j (λ v. omega arith) y) in
+      line-taken l (lineAt b cs n rs m j) st (cell-free (b .form) i (fourAt cs i)) refl long (w ∙ ap (cellAt (b .form) cs) z ∙ cell-line b cs n rs m j (λ v. omega arith) y) in
       let o : k ≡ suc j = omega arith in
       let u : j + 1 ≡ k = omega arith in
       let v : i + 1 ≡ suc i = omega arith in
@@ -135,10 +129,10 @@ module _ (b : Bar) (cs : List Float) (n : ℕ) (rs : List Float) (m : ℕ) (kept
       let st : State = state (reading b 1 n i j) D (over (foursTo rs i) R) in
       let l : List ℕ = ringPrefix ++ fieldsText (fourAt rs i) [] in
       let w : l ++ newline ≡ ringAt rs i = with-newline ringPrefix (fourAt rs i) in
-      let long : length l ≤ 127 = omega (arith, length-append ringPrefix (fieldsText (fourAt rs i) []), fields-length (fourAt rs i)) in
+      let long : length l ≤ 127 = omega (arith, length-append ringPrefix (fieldsText (fourAt rs i) []), fields-text-long (fourAt rs i)) in
       let z : i ≡ j - 1 - n = omega arith in
       let y : j - 1 - n < m = omega arith in
-      let few : j + 1 < 2 ^ 64 = omega (arith, kept .few-cells, few-lines writtenForm, kept .few-rings) in
+      let few : j + 1 < 2 ^ 64 = omega (arith, kept .few-cells, few-lines (b .form), kept .few-rings) in
       let lt : i < m = omega arith in
       let lots : i < 256 = omega (arith, kept .few-rings) in
       let wide : 4 * i + 4 ≤ length R = omega arith in
@@ -167,7 +161,7 @@ module _ (b : Bar) (cs : List Float) (n : ℕ) (rs : List Float) (m : ℕ) (kept
       let l : List ℕ = endText j in
       let h = decimal-short j in
       let long : length l ≤ 127 = omega arith in
-      let few : j + 1 < 2 ^ 64 = omega (arith, kept .few-cells, few-lines writtenForm, kept .few-rings) in
+      let few : j + 1 < 2 ^ 64 = omega (arith, kept .few-cells, few-lines (b .form), kept .few-rings) in
       let y : j - 1 - n ≡ m = omega arith in
       let q : takes stopped onLine onLong (hand st []) (lineAt b cs n rs m j) ≡ hand (onLine st l) [] =
       line-taken l (lineAt b cs n rs m j) st (end-free j) refl long (last-line b cs n rs m j (λ v. omega arith) (omega arith) (omega arith) y) in
@@ -177,7 +171,7 @@ module _ (b : Bar) (cs : List Float) (n : ℕ) (rs : List Float) (m : ℕ) (kept
       ∙ ap (λ (x : State). hand x []) (end-step b n m j D S l few refl (λ v. omega arith) (λ v. omega arith))
       ∙ ap (λ (x : ℕ). hand (state (reading b 2 n m x) D S) []) u
 
-  -- READ AFTER WRITE: the file, read in a room that reaches, leaves its bar, its counts and its numbers, and the rest of the room as it was
+  -- READ AFTER WRITE: the file, read in a room that reaches, leaves its form, its edition, its bar, its counts and its numbers, and the rest of the room as it was
   pub reads-back : fileIn C R (fileOf b cs n rs m) ≡ left
   unfolding fileOf file.ended
   reads-back =

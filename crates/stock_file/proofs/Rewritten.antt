@@ -16,16 +16,18 @@ use Rattle.lines.specs.File.{piecesOf}
 use Rattle.stock_lines.specs.declared.Bar.{Bar}
 use Rattle.stock_lines.specs.declared.form.Four.the-variants.{Numbers}
 use Rattle.stock_lines.specs.declared.Reading.{Reading}
-use Rattle.stock_lines.specs.declared.form.Five.{Five}
-use Rattle.stock_lines.specs.declared.form.Five.the-variants.{Spec, NoFive}
-use Rattle.stock_lines.specs.Form.{writtenForm, lineOf, fourOf, fiveOf, barNumbers, stockPrefix, cellPrefix, ringPrefix, stockLine, endLine, keptCellLine}
+use Rattle.stock_lines.specs.declared.form.First.{First}
+use Rattle.stock_lines.specs.declared.form.First.the-variants.{Says, NoFirst}
+use Rattle.stock_lines.specs.Form.{lineOf, fourOf, barNumbers, cellPrefix, ringPrefix, endLine, keptCellLine}
+use Rattle.stock_lines.specs.First.{firstOf, CanSay}
 use Rattle.stock_lines.specs.Room.{kept, stored}
 use Rattle.stock_lines.specs.Reading.{State, state, next, countTo, refusing, begun, onLine}
 use Rattle.stock_lines.proofs.Forms.{NoNan}
-use Rattle.stock_lines.proofs.EachLine.{first-spelled, cell-spelled, ring-spelled}
+use Rattle.stock_lines.proofs.EachLine.{cell-spelled, ring-spelled}
+use Rattle.stock_lines.proofs.Firsts.{first-spelled}
 use Rattle.stock_lines.proofs.Readings.{line-first, line-behind, begun-is, count-more, count-full}
 use Rattle.stock_file.specs.Read.{freshReading, stopped, fileIn}
-use Rattle.stock_file.specs.Write.{cellAt, ringAt, lineAt, linesTo, fileOf}
+use Rattle.stock_file.specs.Write.{Opening, opening, cellAt, ringAt, lineAt, linesTo, fileOf}
 use Rattle.stock_file.proofs.Lined.{first-line, cell-line, ring-line, last-line}
 use Rattle.stock_file.proofs.LineSteps.{most, reading}
 use Rattle.stock_file.proofs.ReadBack.{fourAt}
@@ -90,6 +92,10 @@ unfoldable pub linesFrom : (ℕ → List ℕ) → ℕ → ℕ → List ℕ
 linesFrom f k zero = []
 linesFrom f k (suc j) = f k ++ linesFrom f (suc k) j
 
+-- what the first line said
+abbrev pub openingIn : State → Opening
+openingIn st = opening (st .reading .form) (st .reading .edition) (st .reading .bar)
+
 -- what a file is to have left: no NaN, in a room that reached
 pub record Sound (fin : State) : Type 0 where
   pub goes : stopped fin ≡ false
@@ -99,7 +105,7 @@ pub record Sound (fin : State) : Type 0 where
   pub space : 4 * fin .reading .rings ≤ length (fin .rings)
   pub few : fin .reading .rings ≤ 256
 
-module _ (b : Bar) (fin : State) (sound : Sound fin) where
+module _ (b : Opening) (fin : State) (sound : Sound fin) where
   abbrev N : ℕ
   N = fin .reading .cells
 
@@ -115,7 +121,7 @@ module _ (b : Bar) (fin : State) (sound : Sound fin) where
     pub count : l + many ≡ N + M + 2
     pub text : parted ls ≡ linesFrom line l many
     pub fixed : 0 < m → N ≡ n
-    pub kept-bar : fin .reading .bar ≡ b
+    pub kept-opening : openingIn fin ≡ b
 
   -- a line before those that are left
   before : (n m n' m' l : ℕ) (p q : List ℕ) (ls : List (List ℕ)) → Rest n' m' (l + 1) (q ∷ ls) → p ++ newline ≡ line l → (0 < m → N ≡ n) → Rest n m l (p ∷ q ∷ ls)
@@ -129,7 +135,7 @@ module _ (b : Bar) (fin : State) (sound : Sound fin) where
             ∙ ap (λ (x : List ℕ). x ++ parted (q ∷ ls)) e
             ∙ ap (λ (x : List ℕ). line l ++ x) (r .text ∙ ap (λ (k : ℕ). linesFrom line k (r .many)) s);
         fixed = f;
-        kept-bar = r .kept-bar;
+        kept-opening = r .kept-opening;
       }
 
   -- what is asked of the lines that are left
@@ -151,22 +157,22 @@ module _ (b : Bar) (fin : State) (sound : Sound fin) where
     later : (st' : State) → walk st' (q ∷ ls) ≡ fin → Stays st' fin
     later st' k = subst (Stays st') k (pieces-stay (q ∷ ls) st')
 
-    a-cell : (x y z w : Float) → m ≡ 0 → n < most → fourOf (lineOf (cellPrefix writtenForm n) 4 p) ≡ Numbers x y z w
-        → onLine st p ≡ state (reading b 1 (n + 1) m (l + 1)) (stored most cs n (Numbers x y z w)) rs → Rest n m l (p ∷ q ∷ ls)
+    a-cell : (x y z w : Float) → m ≡ 0 → n < (most b) → fourOf (lineOf (cellPrefix (b .form) n) 4 p) ≡ Numbers x y z w
+        → onLine st p ≡ state (reading b 1 (n + 1) m (l + 1)) (stored (most b) cs n (Numbers x y z w)) rs → Rest n m l (p ∷ q ∷ ls)
     a-cell x y z w em lt h k =
-        let st' : State = state (reading b 1 (n + 1) m (l + 1)) (stored most cs n (Numbers x y z w)) rs in
+        let st' : State = state (reading b 1 (n + 1) m (l + 1)) (stored (most b) cs n (Numbers x y z w)) rs in
         let e' = left st' k in
         let s = later st' e' in
         let g : n + 1 ≤ N = s .cells .grows in
         let below : n < N = omega arith in
-        let here = kept-here most n N cs (fin .cells) x y z w lt below (sound .room) (s .cells) (stored-long most n cs x y z w) in
+        let here = kept-here (most b) n N cs (fin .cells) x y z w lt below (sound .room) (s .cells) (stored-long (most b) n cs x y z w) in
         let four : fourAt (fin .cells) n ≡ x ∷ y ∷ z ∷ w ∷ [] = λ j. here .first j ∷ here .second j ∷ here .third j ∷ here .fourth j ∷ [] in
-        let t : p ++ newline ≡ keptCellLine writtenForm n x y z w = cell-spelled writtenForm x y z w n p (subst NoNan four (sound .cells n below)) h in
-        let u : cellAt (fin .cells) n ≡ keptCellLine writtenForm n x y z w = λ j. keptCellLine writtenForm n (here .first j) (here .second j) (here .third j) (here .fourth j) in
+        let t : p ++ newline ≡ keptCellLine (b .form) n x y z w = cell-spelled (b .form) x y z w n p (subst NoNan four (sound .cells n below)) h in
+        let u : cellAt (b .form) (fin .cells) n ≡ keptCellLine (b .form) n x y z w = λ j. keptCellLine (b .form) n (here .first j) (here .second j) (here .third j) (here .fourth j) in
         let i : n ≡ l - 1 = omega arith in
         let v : l - 1 < N = omega arith in
         before n m (n + 1) m l p q ls (again (n + 1) m (l + 1) _ rs e' (omega arith) (omega arith))
-        (t ∙ sym u ∙ ap (cellAt (fin .cells)) i ∙ cell-line b (fin .cells) N (fin .rings) M l (λ z. omega arith) v)
+        (t ∙ sym u ∙ ap (cellAt (b .form) (fin .cells)) i ∙ cell-line b (fin .cells) N (fin .rings) M l (λ z. omega arith) v)
         (λ z. absurd (omega arith))
 
     more-rings : countTo 257 m ≤ M → m + 1 ≡ countTo 257 m
@@ -223,7 +229,7 @@ module _ (b : Bar) (fin : State) (sound : Sound fin) where
               count = omega arith;
               text = ap (λ (x : List ℕ). p ++ (10 ∷ x)) (w .nothing) ∙ t ∙ last-line b (fin .cells) N (fin .rings) M l (λ z. omega arith) (omega arith) (omega arith) v ∙ sym (append-nil (line l));
               fixed = λ z. sym gn;
-              kept-bar = sym (ap (λ (s : State). s .reading .bar) g);
+              kept-opening = sym (ap openingIn g);
             }
 
     a-line : Rest n m l (p ∷ q ∷ ls)
@@ -249,17 +255,21 @@ unfolding linesTo linesFrom
 lines-joined f zero k i e = let q : i ≡ k = omega arith in append-nil (linesTo f k) ∙ ap (linesTo f) (sym q)
 lines-joined f (suc j) k i e = sym (append-assoc (linesTo f k) (f k) (linesFrom f (suc k) j)) ∙ lines-joined f j (suc k) i (omega arith)
 
--- what the first line told
-told : (f : Five) (r : Reading) → begun r f .refused ≡ false → (x : Float) × (y : Float) × (z : Float) × (w : Float) × (v : Float) × (f ≡ Spec x y z w v)
+-- what the first line said
+told : (f : First) (r : Reading) → begun r f .refused ≡ false → (k : ℕ) × (e : ℕ) × (b : Bar) × (f ≡ Says k e b)
 unfolding begun refusing
-told (Spec x y z w v) r e = (x, y, z, w, v, refl)
-told NoFive r e = absurd (true≢false e)
+told (Says k e b) r h = (k, e, b, refl)
+told NoFirst r h = absurd (true≢false h)
+
+-- bytes that are the file of what they left, in a form that can say its edition
+pub record IsFile (fin : State) (s : List ℕ) : Type 0 where
+  pub says : CanSay (fin .reading .form) (fin .reading .edition)
+  pub text : s ≡ fileOf (openingIn fin) (fin .cells) (fin .reading .cells) (fin .rings) (fin .reading .rings)
 
 -- WRITE AFTER READ: bytes that are not refused, of fewer than 2^64 lines, are the bytes of the file of what they left
-pub bytes-spelled : (C R : List Float) (s : List ℕ) → Sound (fileIn C R s) → NoNan (barNumbers (fileIn C R s .reading .bar)) → length (piecesOf s) < 2 ^ 64
-    → s ≡ fileOf (fileIn C R s .reading .bar) (fileIn C R s .cells) (fileIn C R s .reading .cells) (fileIn C R s .rings) (fileIn C R s .reading .rings)
+pub bytes-spelled : (C R : List Float) (s : List ℕ) → Sound (fileIn C R s) → NoNan (barNumbers (fileIn C R s .reading .bar)) → length (piecesOf s) < 2 ^ 64 → IsFile (fileIn C R s) s
 unfolding fileOf linesTo linesFrom parted
-bytes-spelled C R s sound numbers few = sym (pieces-all s) ∙ by (piecesOf s) refl (some 10 s)
+bytes-spelled C R s sound numbers few = by (piecesOf s) refl (some 10 s)
   where
     fin : State
     fin = fileIn C R s
@@ -267,10 +277,7 @@ bytes-spelled C R s sound numbers few = sym (pieces-all s) ∙ by (piecesOf s) r
     st : State
     st = state freshReading C R
 
-    file : List ℕ
-    file = fileOf (fin .reading .bar) (fin .cells) (fin .reading .cells) (fin .rings) (fin .reading .rings)
-
-    by : (ls : List (List ℕ)) → piecesOf s ≡ ls → 0 < length ls → parted ls ≡ file
+    by : (ls : List (List ℕ)) → piecesOf s ≡ ls → 0 < length ls → IsFile fin s
     by [] e h = absurd (omega arith)
     by (p ∷ []) e h =
         let k : walk st (p ∷ []) ≡ fin = ap (walk st) (sym e) in
@@ -279,19 +286,24 @@ bytes-spelled C R s sound numbers few = sym (pieces-all s) ∙ by (piecesOf s) r
     by (p ∷ q ∷ ls) e h =
         let k : walk st (p ∷ q ∷ ls) ≡ fin = ap (walk st) (sym e) in
         let n : walk (onLine st p) (q ∷ ls) ≡ fin = sym (next-piece p q ls st (ap stopped k ∙ sound .goes)) ∙ k in
-        let f : onLine st p ≡ state (begun freshReading (fiveOf (lineOf (stockPrefix writtenForm) 5 p))) C R = line-first st p refl in
+        let f : onLine st p ≡ state (begun freshReading (firstOf p)) C R = line-first st p refl in
         let g : stopped (onLine st p) ≡ false = went-on (q ∷ ls) (onLine st p) (ap stopped n ∙ sound .goes) in
-        let t = told (fiveOf (lineOf (stockPrefix writtenForm) 5 p)) freshReading (ap stopped (sym f) ∙ g) in
-        let b : Bar = record { «z_min_mm» = t .0; «z_max_mm» = t .1; «outer_radius_mm» = t .2; «bore_radius_mm» = t .3; «cell_mm» = t .4 } in
+        let t = told (firstOf p) freshReading (ap stopped (sym f) ∙ g) in
+        let b : Opening = opening (t .0) (t .1) (t .2) in
         let one : 1 ≡ next freshReading = omega arith in
-        let m : onLine st p ≡ state (reading b 1 0 0 1) C R = f ∙ ap (λ (r : Reading). state r C R) (sym (begun-is freshReading (fiveOf (lineOf (stockPrefix writtenForm) 5 p)) _ _ _ _ _ 1 (t .5) one)) in
+        let m : onLine st p ≡ state (reading b 1 0 0 1) C R = f ∙ ap (λ (r : Reading). state r C R) (sym (begun-is freshReading (firstOf p) _ _ _ 1 (t .3) one)) in
         let few' : 1 + length (q ∷ ls) < 2 ^ 64 = omega (arith, ap length e) in
         let r = rest b fin sound (q ∷ ls) (omega arith) 0 0 1 C R (ap (λ (x : State). walk x (q ∷ ls)) (sym m) ∙ n) refl few' in
-        let o : NoNan (barNumbers b) = subst (λ (x : Bar). NoNan (barNumbers x)) (r .kept-bar) numbers in
-        let u : p ++ newline ≡ stockLine writtenForm b = first-spelled writtenForm (t .0) (t .1) (t .2) (t .3) (t .4) p o (t .5) in
+        let w = first-spelled p (t .0) (t .1) (t .2) (t .3) in
+        let o : NoNan (barNumbers (b .bar)) = subst (λ (x : Opening). NoNan (barNumbers (x .bar))) (r .kept-opening) numbers in
         let line : ℕ → List ℕ = λ (i : ℕ). lineAt b (fin .cells) (fin .reading .cells) (fin .rings) (fin .reading .rings) i in
-        sym (append-assoc p newline (parted (q ∷ ls)))
-        ∙ ap (λ (x : List ℕ). x ++ parted (q ∷ ls)) (u ∙ first-line b (fin .cells) (fin .reading .cells) (fin .rings) (fin .reading .rings) 0 refl)
-        ∙ ap (λ (x : List ℕ). line 0 ++ x) (r .text)
-        ∙ lines-joined line (r .many) 1 (fin .reading .cells + fin .reading .rings + 2) (sym (r .count))
-        ∙ ap (λ (x : Bar). fileOf x (fin .cells) (fin .reading .cells) (fin .rings) (fin .reading .rings)) (sym (r .kept-bar))
+        record {
+          says = subst (λ (x : Opening). CanSay (x .form) (x .edition)) (sym (r .kept-opening)) (w .says);
+          text = sym (pieces-all s)
+              ∙ ap parted e
+              ∙ sym (append-assoc p newline (parted (q ∷ ls)))
+              ∙ ap (λ (x : List ℕ). x ++ parted (q ∷ ls)) (w .text o ∙ first-line b (fin .cells) (fin .reading .cells) (fin .rings) (fin .reading .rings) 0 refl)
+              ∙ ap (λ (x : List ℕ). line 0 ++ x) (r .text)
+              ∙ lines-joined line (r .many) 1 (fin .reading .cells + fin .reading .rings + 2) (sym (r .count))
+              ∙ ap (λ (x : Opening). fileOf x (fin .cells) (fin .reading .cells) (fin .rings) (fin .reading .rings)) (sym (r .kept-opening));
+        }

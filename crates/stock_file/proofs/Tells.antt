@@ -1,7 +1,8 @@
--- A file that tells a stock: what 1 to 4 asked, and so that it is the only file of that stock. Assumes nothing.
+-- A file that tells a stock: what 1 to 4 asked, and so that in its form it is the only file of that stock. Assumes nothing.
 use Prim.Native.Nat.{ℕ, zero, suc, _+_, _*_, _/_, _^_, _≤_, _<_}
 use native.Mathlib.Omega.{arith}
 use native.Mathlib.Nat.{min-le-left, min-le-right}
+use mathlib.Core.Logic.{_⊎_, inl, inr}
 use mathlib.Core.Path.{_≡_, refl, sym, ap, _∙_, subst}
 use mathlib.Core.Bool.{Bool, true, false, not, _&&_, true≢false, false≢true}
 use mathlib.Core.List.{List, [], _∷_}
@@ -17,7 +18,7 @@ use Rattle.stock.specs.declared.TurnStockSpec.{TurnStockSpec}
 use Rattle.stock.specs.declared.RadiusBounds.{RadiusBounds}
 use Rattle.stock.specs.Spec.{cleanSpec, specGood}
 use Rattle.stock.specs.Cell.{cellAt, cellFits, pairFits, fitTo, cellsFit, stockOf}
-use Rattle.stock.proofs.Count.{no-answer, demanded, checked, stocked, stock-length, and-both}
+use Rattle.stock.proofs.Count.{same-answer, no-answer, demanded, checked, stocked, stock-length, and-both}
 use Rattle.stock.proofs.EachFits.{fit-below}
 use Rattle.rings.specs.declared.Ring.{Ring}
 use Rattle.rings.specs.Store.{ringAt, ringsOf, barRing, ringRoom, ringFits, storeFits, countFits}
@@ -26,14 +27,15 @@ use Rattle.rings.proofs.Fitting.{fits-of}
 use Rattle.lines.specs.File.{piecesOf}
 use Rattle.stock_lines.specs.declared.Bar.{Bar}
 use Rattle.stock_lines.specs.Form.{barNumbers}
+use Rattle.stock_lines.specs.First.{CanSay, one, two}
 use Rattle.stock_lines.specs.Reading.{State}
 use Rattle.stock_lines.proofs.Forms.{NoNan, none, more}
-use Rattle.stock_file.specs.Read.{stopped, specOf, frontOf, Stocked, stockIn, toldAs, fileIn, readOf}
-use Rattle.stock_file.specs.Write.{fileOf}
+use Rattle.stock_file.specs.Read.{stopped, specOf, frontOf, Stocked, stockedOf, stockIn, toldAs, fileIn, readOf}
+use Rattle.stock_file.specs.Write.{opening, fileOf}
 use Rattle.stock_file.proofs.Ends.{front-short, front-long}
 use Rattle.stock_file.proofs.ReadBack.{fourAt}
 use Rattle.stock_file.proofs.Keepable.{holds, ring-below}
-use Rattle.stock_file.proofs.Rewritten.{Sound, bytes-spelled}
+use Rattle.stock_file.proofs.Rewritten.{Sound, IsFile, bytes-spelled}
 
 -- ---- what is compared is a number
 
@@ -96,6 +98,7 @@ pub record Told (st : State) (most : ℕ) (k : Stocked) : Type 0 where
   pub count : ℕ
   pub stock : stockOf (specOf (st .reading .bar) most) (frontOf (st .reading .cells) (st .cells)) ≡ answers count
   pub fits : countFits (barRing (cleanSpec (specOf (st .reading .bar) most))) (st .rings) (st .reading .rings) ≡ true
+  pub told : stockedOf (specOf (st .reading .bar) most) (st .reading .edition) count (st .reading .rings) ≡ k
 
 pub tells : (st : State) (most : ℕ) (k : Stocked) → toldAs (st .reading) most (st .cells) (st .rings) ≡ answers k → Told st most k
 unfolding toldAs stockIn onward
@@ -105,8 +108,10 @@ tells st most k e = by (stopped st) refl
     s = specOf (st .reading .bar) most
 
     rest : (p : Paper ℕ) → stockOf s (frontOf (st .reading .cells) (st .cells)) ≡ p → stopped st ≡ false
-        → onward p (λ n. demand (countFits (barRing (cleanSpec s)) (st .rings) (st .reading .rings)) 4 (answers (record { spec = cleanSpec s; cells = n; rings = st .reading .rings }))) ≡ answers k → Told st most k
-    rest (answers n) q g f = record { goes = g; count = n; stock = q; fits = demanded (countFits (barRing (cleanSpec s)) (st .rings) (st .reading .rings)) 4 _ k f .0 }
+        → onward p (λ n. demand (countFits (barRing (cleanSpec s)) (st .rings) (st .reading .rings)) 4 (answers (stockedOf s (st .reading .edition) n (st .reading .rings)))) ≡ answers k → Told st most k
+    rest (answers n) q g f =
+        let d = demanded (countFits (barRing (cleanSpec s)) (st .rings) (st .reading .rings)) 4 _ k f in
+        record { goes = g; count = n; stock = q; fits = d .0; told = same-answer (d .1) }
     rest (refuses w) q g f = absurd (no-answer w k f)
 
     by : (t : Bool) → stopped st ≡ t → Told st most k
@@ -134,6 +139,10 @@ module _ (st : State) (most : ℕ) (k : Stocked) (t : Told st most k) where
       let m = length-take-le (4 * st .reading .cells) (st .cells) (omega (arith, front-is .0)) in
       let q : length (frontOf (st .reading .cells) (st .cells)) ≡ length (take (4 * st .reading .cells) (st .cells)) = ap length (front-is .1) in
       omega (arith, l, m, q)
+
+  -- the stock that is told is that of the reading
+  pub told-stocked : k ≡ stockedOf spec (st .reading .edition) (st .reading .cells) (st .reading .rings)
+  told-stocked = sym (t .told) ∙ ap (λ (n : ℕ). stockedOf spec (st .reading .edition) n (st .reading .rings)) (sym whole-count)
 
   five : (a b c d e f g h i : Bool) → (a && b && c && d && e && f && g && h && i) ≡ true → (a ≡ true) × (b ≡ true) × (c ≡ true) × (d ≡ true) × (e ≡ true)
   five a b c d e f g h i u =
@@ -176,16 +185,32 @@ module _ (st : State) (most : ℕ) (k : Stocked) (t : Told st most k) where
         few = omega (arith, w, min-le-right (length (st .rings) / 4) 256);
       }
 
--- WRITE AFTER READ: bytes that tell a stock, of fewer than 2^64 lines, are the bytes of the file of that stock
-pub told-spelled : (most : ℕ) (C R : List Float) (s : List ℕ) (k : Stocked) → readOf most C R s ≡ answers k → length (piecesOf s) < 2 ^ 64
-    → s ≡ fileOf (fileIn C R s .reading .bar) (fileIn C R s .cells) (fileIn C R s .reading .cells) (fileIn C R s .rings) (fileIn C R s .reading .rings)
-told-spelled most C R s k e few =
+-- the file of what was left, in a form
+abbrev pub fileAs : ℕ → State → List ℕ
+fileAs form st = fileOf (opening form (st .reading .edition) (st .reading .bar)) (st .cells) (st .reading .cells) (st .rings) (st .reading .rings)
+
+-- bytes that tell a stock, of fewer than 2^64 lines, are the bytes of its file in the form that they name, which can say its edition
+pub told-in-form : (most : ℕ) (C R : List Float) (s : List ℕ) (k : Stocked) → readOf most C R s ≡ answers k → length (piecesOf s) < 2 ^ 64 → IsFile (fileIn C R s) s
+told-in-form most C R s k e few =
     let t = tells (fileIn C R s) most k e in
     bytes-spelled C R s (told-sound (fileIn C R s) most k t) (bar-numbers (fileIn C R s) most k t) few
 
--- SO NO TWO FILES tell the same: two that leave the same bar, the same counts and the same numbers, ring order counted, are the same bytes
+-- WRITE AFTER READ: they are its file in form 2, or, where it is of edition 0, its file in form 1, and there is no third
+pub told-spelled : (most : ℕ) (C R : List Float) (s : List ℕ) (k : Stocked) → readOf most C R s ≡ answers k → length (piecesOf s) < 2 ^ 64
+    → (s ≡ fileAs 2 (fileIn C R s)) ⊎ ((fileIn C R s .reading .edition ≡ 0) × (s ≡ fileAs 1 (fileIn C R s)))
+told-spelled most C R s k e few =
+    let w = told-in-form most C R s k e few in
+    by (fileIn C R s .reading .form) (fileIn C R s .reading .edition) refl refl (w .says) (w .text)
+  where
+    by : (form edition : ℕ) → fileIn C R s .reading .form ≡ form → fileIn C R s .reading .edition ≡ edition → CanSay form edition → s ≡ fileAs (fileIn C R s .reading .form) (fileIn C R s)
+        → (s ≡ fileAs 2 (fileIn C R s)) ⊎ ((fileIn C R s .reading .edition ≡ 0) × (s ≡ fileAs 1 (fileIn C R s)))
+    by form edition f g one t = inr (g, t ∙ ap (λ (x : ℕ). fileAs x (fileIn C R s)) f)
+    by form edition f g (two h) t = inl (t ∙ ap (λ (x : ℕ). fileAs x (fileIn C R s)) f)
+
+-- SO NO TWO FILES OF A FORM tell the same: two that leave the same form, edition, bar, counts and numbers, ring order counted, are the same bytes
 pub told-unique : (most : ℕ) (C R : List Float) (s u : List ℕ) (k j : Stocked) → readOf most C R s ≡ answers k → readOf most C R u ≡ answers j → length (piecesOf s) < 2 ^ 64 → length (piecesOf u) < 2 ^ 64
+    → fileIn C R s .reading .form ≡ fileIn C R u .reading .form → fileIn C R s .reading .edition ≡ fileIn C R u .reading .edition
     → fileIn C R s .reading .bar ≡ fileIn C R u .reading .bar → fileIn C R s .cells ≡ fileIn C R u .cells → fileIn C R s .reading .cells ≡ fileIn C R u .reading .cells → fileIn C R s .rings ≡ fileIn C R u .rings
     → fileIn C R s .reading .rings ≡ fileIn C R u .reading .rings → s ≡ u
-told-unique most C R s u k j e f a b p q n r m =
-    told-spelled most C R s k e a ∙ (λ i. fileOf (p i) (q i) (n i) (r i) (m i)) ∙ sym (told-spelled most C R u j f b)
+told-unique most C R s u k j e f a b v d p q n r m =
+    told-in-form most C R s k e a .text ∙ (λ i. fileOf (opening (v i) (d i) (p i)) (q i) (n i) (r i) (m i)) ∙ sym (told-in-form most C R u j f b .text)

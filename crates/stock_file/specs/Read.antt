@@ -13,8 +13,10 @@ use Rattle.refusals.specs.Lent.{Lent, over}
 use Rattle.floats.specs.Pick.{pick}
 use Rattle.floats.specs.Numbers.{zero64}
 use Rattle.stock.specs.declared.TurnStockSpec.{TurnStockSpec}
+use Rattle.stock.specs.declared.TurnStock.{TurnStock}
 use Rattle.stock.specs.Spec.{cleanSpec}
 use Rattle.stock.specs.Cell.{stockOf}
+use Rattle.stock.specs.Stock.{stockFrom}
 use Rattle.rings.specs.Store.{barRing, countFits}
 use Rattle.text.specs.Wrote.{lineRoom}
 use Rattle.lines.specs.File.{piecesOf, overPieces}
@@ -32,6 +34,7 @@ freshReading =
     record {
       stage = 0;
       form = 0;
+      edition = 0;
       bar = record { «z_min_mm» = zero64; «z_max_mm» = zero64; «outer_radius_mm» = zero64; «bore_radius_mm» = zero64; «cell_mm» = zero64 };
       cells = 0;
       rings = 0;
@@ -93,26 +96,29 @@ specOf b most = record { «z_min_mm» = b .«z_min_mm»; «z_max_mm» = b .«z_m
 unfoldable pub frontOf : ℕ → List Float → List Float
 frontOf n xs = pick (leb n (length xs / 4)) (take (4 * n) xs) []
 
--- a stock whose cells and rings stand first in the lent room
+-- a stock of so many cells, which stand first in the lent room, as its rings do
 pub record Stocked : Type 0 where
-  pub spec : TurnStockSpec
+  pub stock : TurnStock
   pub cells : ℕ
-  pub rings : ℕ
 
--- a whole file of n cells and m rings; 1, 2, 3 also where n is another number or more than the room, 4
-unfoldable pub stockIn : TurnStockSpec → ℕ → List Float → ℕ → List Float → Paper Stocked
-stockIn spec n cs m rs =
+-- the stock of a file, at generation 0
+abbrev pub stockedOf : TurnStockSpec → ℕ → ℕ → ℕ → Stocked
+stockedOf spec edition n m = record { stock = stockFrom (cleanSpec spec) edition m 0; cells = n }
+
+-- a whole file of an edition, with n cells and m rings; 1, 2, 3 also where n is another number or more than the room, 4
+unfoldable pub stockIn : TurnStockSpec → ℕ → ℕ → List Float → ℕ → List Float → Paper Stocked
+stockIn spec edition n cs m rs =
     onward (stockOf spec (frontOf n cs)) (λ k.
     demand (countFits (barRing (cleanSpec spec)) rs m) 4
-    (answers (record { spec = cleanSpec spec; cells = k; rings = m })))
+    (answers (stockedOf spec edition k m)))
 
 -- what a reading tells at its end: 16 at the line that was refused, or else the stock
 unfoldable pub toldAs : Reading → ℕ → List Float → List Float → Paper Stocked
-toldAs r most cs rs = demandAt (not (r .refused)) 16 (r .lines) (stockIn (specOf (r .bar) most) (r .cells) cs (r .rings) rs)
+toldAs r most cs rs = demandAt (not (r .refused)) 16 (r .lines) (stockIn (specOf (r .bar) most) (r .edition) (r .cells) cs (r .rings) rs)
 
 -- what the answer of `finish` says, case by case
 abbrev pub keptPaper : Kept → Paper Stocked
-keptPaper (Stock s n m) = answers (record { spec = s; cells = n; rings = m })
+keptPaper (Stock k n) = answers (record { stock = k; cells = n })
 keptPaper (Refused c) = refuses (reasonOf c)
 keptPaper (RefusedAt c k) = refuses (at (numberOf c) k)
 

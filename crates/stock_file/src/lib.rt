@@ -14,10 +14,14 @@ ghost use mathlib.Core.Path.{_≡_};
 ghost use Prim.Native.Nat.{_*_, _≤_};
 ghost use mathlib.Core.List.{[]};
 ghost use lib.ListN.{length, set};
+ghost use Rattle.stock.specs.Spec.{cleanSpec};
+ghost use Rattle.stock.specs.Stock.{stockFrom};
 ghost use Rattle.text.specs.Wrote.{lineRoom};
 ghost use Rattle.stock_file.specs.Read.{freshReading, frontOf, specOf, ended, keptPaper, toldAs, ByteTaken, BytesTaken, TakesPart};
 use refusals::Refusal;
 use stock::Counted;
+use stock::Stamp;
+use stock::TurnStock;
 use stock::TurnStockSpec;
 use stock_lines::Bar;
 use stock_lines::Reading;
@@ -32,10 +36,10 @@ pub struct Taken {
     pub len: usize,
 }
 
-// What a file told: a stock, its spec and how many cells and rings it has, which stand first in the
-// lent room; or that it is refused, with 16 at a line.
+// What a file told: a stock at generation 0, and how many cells it has, which stand first in the lent
+// room, as its rings do; or that it is refused, with 16 at a line.
 pub enum Kept {
-    Stock(TurnStockSpec, usize, usize),
+    Stock(TurnStock, usize),
     Refused(Refusal),
     RefusedAt(Refusal, usize),
 }
@@ -47,6 +51,7 @@ pub fn fresh() -> Reading
     Reading {
         stage: 0,
         form: 0,
+        edition: 0,
         bar: Bar {
             z_min_mm: 0.0,
             z_max_mm: 0.0,
@@ -179,6 +184,20 @@ fn spec_of(bar: Bar, most: usize) -> TurnStockSpec
     }
 }
 
+// A stock of an edition, at generation 0.
+fn stock_from(spec: TurnStockSpec, edition: u32, rings: usize) -> TurnStock
+    ensures { λ r. ⌜ r ≡ stockFrom (cleanSpec spec) edition rings 0 ⌝ }
+{
+    TurnStock {
+        spec: stock::clean_spec(spec),
+        stamp: Stamp {
+            edition,
+            generation: 0,
+        },
+        rings,
+    }
+}
+
 // The first n fours of numbers, and none where the list does not reach so far.
 fn front(xs: &[f64], n: usize) -> &[f64]
     ensures { λ r. ⌜ now r ≡ frontOf n (now (xs .entry)) ⌝ }
@@ -204,7 +223,7 @@ pub fn finish(reading: Reading, len: usize, most: usize, cells: &[f64], rings: &
         Counted::Refused(r) => Kept::Refused(r),
         Counted::Cells(n) => {
             if rings::rings_fit(spec, rings, last.rings) {
-                return Kept::Stock(stock::clean_spec(spec), n, last.rings);
+                return Kept::Stock(stock_from(spec, last.edition, last.rings), n);
             }
             Kept::Refused(Refusal::StoredRings)
         }

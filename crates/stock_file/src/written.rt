@@ -1,13 +1,15 @@
-// The lines of a stock's file, one by one: the first with its bar, one for each cell, one for each ring,
-// and `end` with the count of those before it.
+// The lines of a stock's file, one by one: the first with its bar and its edition, one for each cell, one
+// for each ring, and `end` with the count of those before it.
 ghost use mathlib.Core.Path.{_≡_};
 ghost use Prim.Native.Nat.{_+_, _*_, _≤_};
 ghost use lib.ListN.{length};
-ghost use Rattle.stock_file.specs.Write.{barOf, linesPaper, lineCount, cellAt, ringAt, lineAt, lineFor, WritesFileLine};
+ghost use Rattle.stock_file.specs.Write.{barOf, opening, linesPaper, lineCount, cellAt, ringAt, lineAt, lineFor, WritesFileLine};
+ghost use Rattle.stock_lines.specs.Form.{writtenForm};
 ghost use Rattle.text.specs.Wrote.{WritesLine};
 use refusals::RING_LIMIT;
 use refusals::Refusal;
 use stock::Counted;
+use stock::TurnStock;
 use stock::TurnStockSpec;
 use stock_lines::Bar;
 use text::LINE_ROOM;
@@ -57,7 +59,7 @@ pub fn line_count(spec: TurnStockSpec, cells: &[f64], rings: &[f64], count: usiz
 // The line of the cell at i.
 fn put_cell(out: &mut [u8; LINE_ROOM], cells: &[f64], i: usize) -> usize
     requires { ⌜ 4 * i + 4 ≤ length (now cells) ⌝ }
-    ensures { λ r. ⌜ WritesLine out (cellAt (now (cells .entry)) i) r ⌝ }
+    ensures { λ r. ⌜ WritesLine out (cellAt writtenForm (now (cells .entry)) i) r ⌝ }
 {
     let at = 4 * i;
     stock_lines::kept_cell_line(
@@ -83,6 +85,7 @@ fn put_ring(out: &mut [u8; LINE_ROOM], rings: &[f64], i: usize) -> usize
 fn put_line(
     out: &mut [u8; LINE_ROOM],
     bar: Bar,
+    edition: u32,
     cells: &[f64],
     n: usize,
     rings: &[f64],
@@ -90,10 +93,10 @@ fn put_line(
     k: usize,
 ) -> usize
     requires { ⌜ (4 * n ≤ length (now cells)) × (4 * m ≤ length (now rings)) ⌝ }
-    ensures { λ r. ⌜ WritesLine out (lineAt bar (now (cells .entry)) n (now (rings .entry)) m k) r ⌝ }
+    ensures { λ r. ⌜ WritesLine out (lineAt (opening writtenForm edition bar) (now (cells .entry)) n (now (rings .entry)) m k) r ⌝ }
 {
     if k == 0 {
-        return stock_lines::stock_line(out, bar);
+        return stock_lines::stock_line(out, bar, edition);
     }
     let i = k - 1;
     if i < n {
@@ -113,14 +116,16 @@ fn put_line(
 // count alone.
 pub fn file_line(
     out: &mut [u8; LINE_ROOM],
-    spec: TurnStockSpec,
+    stock: TurnStock,
     cells: &[f64],
     rings: &[f64],
-    count: usize,
     k: usize,
 ) -> Spelled
-    ensures { λ r. ⌜ WritesFileLine out (lineFor spec (now (cells .entry)) (now (rings .entry)) count k) r ⌝ }
+    ensures { λ r. ⌜ WritesFileLine out (lineFor stock (now (cells .entry)) (now (rings .entry)) k) r ⌝ }
 {
+    let spec = stock.spec;
+    let edition = stock.stamp.edition;
+    let m = stock.rings;
     let counted = stock::validate(spec);
     match counted {
         Counted::Refused(r) => Spelled::Refused(r),
@@ -128,10 +133,10 @@ pub fn file_line(
             if cells.len() != 4 * n {
                 return Spelled::Refused(Refusal::CellsDoNotFit);
             }
-            if numbers::lesser(rings.len() / 4, RING_LIMIT) < count {
+            if numbers::lesser(rings.len() / 4, RING_LIMIT) < m {
                 return Spelled::Refused(Refusal::StoredRings);
             }
-            Spelled::Bytes(put_line(out, bar_of(spec), cells, n, rings, count, k))
+            Spelled::Bytes(put_line(out, bar_of(spec), edition, cells, n, rings, m, k))
         }
     }
 }

@@ -15,19 +15,18 @@ use Rattle.text.proofs.Spelling.{digits-length}
 use Rattle.text.proofs.Distinct.{Both, cancel, digits-distinct, decimal-distinct}
 use Rattle.text.specs.declared.sixteen.Hex.{Hex}
 use Rattle.text.specs.declared.sixteen.Hex.the-variants.{Of, NoHex}
-use Rattle.stock_lines.specs.declared.Bar.{Bar}
 use Rattle.stock_lines.specs.declared.form.Four.{Four}
 use Rattle.stock_lines.specs.declared.form.Four.the-variants.{Numbers, NoFour}
 use Rattle.stock_lines.specs.declared.form.Five.{Five}
 use Rattle.stock_lines.specs.declared.form.Five.the-variants.{Spec, NoFive}
 use Rattle.text.specs.Hex.{hexAt, fieldOf}
-use Rattle.stock_lines.specs.Form.{Line, holds, other, formOf, fieldsOf, lineOf, fieldsText, stockPrefix, cellPrefix, ringPrefix, endText, stockLine, keptCellLine, endLine, fourOf, fiveOf}
+use Rattle.stock_lines.specs.Form.{Line, holds, other, formOf, fieldsOf, lineOf, fieldsText, cellPrefix, ringPrefix, endText, keptCellLine, endLine, fourOf, fiveOf}
 use Rattle.text.proofs.Compare.{same-self, same-true}
 use Rattle.stock_lines.proofs.Forms.{Keeps, NoNan, Parted, line-parted, line-back, line-spelled, fields-count, fields-then}
 
 -- ---- a line and its newline
 
-same-before : (x y : List ℕ) → x ++ newline ≡ y ++ newline → x ≡ y
+pub same-before : (x y : List ℕ) → x ++ newline ≡ y ++ newline → x ≡ y
 same-before x y e =
     let n : length x ≡ length y = omega (arith, length-append x newline, length-append y newline, ap length e) in
     cancel x y newline newline n e .left
@@ -89,7 +88,7 @@ four-holds p s a b c d e = by (lineOf p 4 s) refl
         let m : xs ≡ a ∷ b ∷ c ∷ d ∷ [] = list-of-four xs n ∙ (cc) in
         f ∙ ap holds m
 
-five-holds : (p s : List ℕ) (a b c d h : Float) → fiveOf (lineOf p 5 s) ≡ Spec a b c d h → lineOf p 5 s ≡ holds (a ∷ b ∷ c ∷ d ∷ h ∷ [])
+pub five-holds : (p s : List ℕ) (a b c d h : Float) → fiveOf (lineOf p 5 s) ≡ Spec a b c d h → lineOf p 5 s ≡ holds (a ∷ b ∷ c ∷ d ∷ h ∷ [])
 unfolding fiveOf
 five-holds p s a b c d h e = by (lineOf p 5 s) refl
   where
@@ -110,9 +109,6 @@ five-holds p s a b c d h e = by (lineOf p 5 s) refl
         f ∙ ap holds m
 
 -- ---- a cell's line
-
-abbrev bar : Float → Float → Float → Float → Float → Bar
-bar a b c d h = record { «z_min_mm» = a; «z_max_mm» = b; «outer_radius_mm» = c; «bore_radius_mm» = d; «cell_mm» = h }
 
 module _ (form : ℕ) (a b c d : Float) where
   pub cell-reads : (i : ℕ) (s : List ℕ) → Keeps (a ∷ b ∷ c ∷ d ∷ []) → s ++ newline ≡ keptCellLine form i a b c d → fourOf (lineOf (cellPrefix form i) 4 s) ≡ Numbers a b c d
@@ -141,21 +137,6 @@ module _ (a b c d : Float) where
   pub ring-unique : (s t : List ℕ) → NoNan (a ∷ b ∷ c ∷ d ∷ [])
       → fourOf (lineOf ringPrefix 4 s) ≡ Numbers a b c d → fourOf (lineOf ringPrefix 4 t) ≡ Numbers a b c d → s ≡ t
   ring-unique s t n e f = same-before s t (ring-spelled s n e ∙ sym (ring-spelled t n f))
-
--- ---- the first line
-
-module _ (form : ℕ) (a b c d : Float) where
-  pub first-reads : (h : Float) (s : List ℕ) → Keeps (a ∷ b ∷ c ∷ d ∷ h ∷ []) → s ++ newline ≡ stockLine form (bar a b c d h) → fiveOf (lineOf (stockPrefix form) 5 s) ≡ Spec a b c d h
-  unfolding stockLine fiveOf
-  first-reads h s k e = ap fiveOf (reads (stockPrefix form) s (a ∷ b ∷ c ∷ d ∷ h ∷ []) k e)
-
-  pub first-spelled : (h : Float) (s : List ℕ) → NoNan (a ∷ b ∷ c ∷ d ∷ h ∷ []) → fiveOf (lineOf (stockPrefix form) 5 s) ≡ Spec a b c d h → s ++ newline ≡ stockLine form (bar a b c d h)
-  unfolding stockLine
-  first-spelled h s n e = spells (stockPrefix form) 5 s (a ∷ b ∷ c ∷ d ∷ h ∷ []) n (five-holds (stockPrefix form) s a b c d h e)
-
-  pub first-unique : (h : Float) (s t : List ℕ) → NoNan (a ∷ b ∷ c ∷ d ∷ h ∷ [])
-      → fiveOf (lineOf (stockPrefix form) 5 s) ≡ Spec a b c d h → fiveOf (lineOf (stockPrefix form) 5 t) ≡ Spec a b c d h → s ≡ t
-  first-unique h s t n e f = same-before s t (first-spelled h s n e ∙ sym (first-spelled h t n f))
 
 -- ---- the last line
 

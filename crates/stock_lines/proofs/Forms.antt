@@ -53,6 +53,12 @@ head-number (more n m) = n
 abbrev rest-numbers : {x : Float} {xs : List Float} → NoNan (x ∷ xs) → NoNan xs
 rest-numbers (more n m) = m
 
+-- numbers that are spelled have 17 bytes each
+pub fields-text-long : (xs : List Float) → length (fieldsText xs []) ≡ 17 * length xs
+unfolding fieldsText
+fields-text-long [] = refl
+fields-text-long (x ∷ xs) = omega (arith, length-append (9 ∷ hexOf x) (fieldsText xs []), hex-long x, fields-text-long xs)
+
 -- numbers that are spelled read back
 pub fields-back : (xs : List Float) → Keeps xs → fieldsOf (length xs) (fieldsText xs []) ≡ holds xs
 unfolding fieldsOf fieldsText withFirst

@@ -8,9 +8,11 @@ use lib.Ieee.{Float}
 use borrow.Author.Tests.{lt-ltb, le-ltb, eq-eqb, ne-eqb}
 use Rattle.floats.specs.Pick.{pick, pick-true, pick-false}
 use Rattle.stock_lines.specs.declared.Reading.{Reading}
-use Rattle.stock_lines.specs.Form.{formOf, writtenForm, lineOf, fiveOf, stockPrefix}
-use Rattle.stock_lines.specs.declared.form.Five.{Five}
-use Rattle.stock_lines.specs.declared.form.Five.the-variants.{Spec, NoFive}
+use Rattle.stock_lines.specs.declared.Bar.{Bar}
+use Rattle.stock_lines.specs.Form.{formOf}
+use Rattle.stock_lines.specs.First.{firstOf}
+use Rattle.stock_lines.specs.declared.form.First.{First}
+use Rattle.stock_lines.specs.declared.form.First.the-variants.{Says, NoFirst}
 use Rattle.stock_lines.specs.declared.room.Took.{Took}
 use Rattle.stock_lines.specs.declared.room.Took.the-variants.{Cell, Ring, End, NoLine}
 use Rattle.stock_lines.specs.Room.{stored, cellAt, tookOf, ringsAfter}
@@ -27,23 +29,23 @@ count-full limit n h = sym (pick-false _ _ _ (le-ltb _ _ h))
 -- ---- a reading, moved on
 
 pub refused-is : (r : Reading) (l : ℕ) → l ≡ next r
-    → _≡_ {A = Reading} (record { stage = r .stage; form = r .form; bar = r .bar; cells = r .cells; rings = r .rings; lines = l; refused = true }) (refusing r)
+    → _≡_ {A = Reading} (record { stage = r .stage; form = r .form; edition = r .edition; bar = r .bar; cells = r .cells; rings = r .rings; lines = l; refused = true }) (refusing r)
 unfolding refusing
 refused-is r l e = rw e
 
 pub onward-is : (r : Reading) (stage n m l : ℕ) → l ≡ next r
-    → _≡_ {A = Reading} (record { stage = stage; form = r .form; bar = r .bar; cells = n; rings = m; lines = l; refused = false }) (onwardTo r stage n m)
+    → _≡_ {A = Reading} (record { stage = stage; form = r .form; edition = r .edition; bar = r .bar; cells = n; rings = m; lines = l; refused = false }) (onwardTo r stage n m)
 unfolding onwardTo
 onward-is r stage n m l e = rw e
 
-pub begun-none : (r : Reading) (f : Five) → f ≡ NoFive → refusing r ≡ begun r f
+pub begun-none : (r : Reading) (f : First) → f ≡ NoFirst → refusing r ≡ begun r f
 unfolding begun
 begun-none r f e = sym (ap (begun r) e)
 
-pub begun-is : (r : Reading) (f : Five) (a b c d h : Float) (l : ℕ) → f ≡ Spec a b c d h → l ≡ next r
-    → _≡_ {A = Reading} (record { stage = 1; form = writtenForm; bar = record { «z_min_mm» = a; «z_max_mm» = b; «outer_radius_mm» = c; «bore_radius_mm» = d; «cell_mm» = h }; cells = r .cells; rings = r .rings; lines = l; refused = false }) (begun r f)
+pub begun-is : (r : Reading) (f : First) (k e : ℕ) (b : Bar) (l : ℕ) → f ≡ Says k e b → l ≡ next r
+    → _≡_ {A = Reading} (record { stage = 1; form = k; edition = e; bar = b; cells = r .cells; rings = r .rings; lines = l; refused = false }) (begun r f)
 unfolding begun
-begun-is r f a b c d h l e q = rw (e, q)
+begun-is r f k e b l h q = rw (h, q)
 
 module _ (r : Reading) (t : Took) where
   pub went-cell : (n : ℕ) → t ≡ Cell → n ≡ countTo (formOf (r .form) .most) (r .cells) → onwardTo r 1 n (r .rings) ≡ went r t
@@ -71,7 +73,7 @@ unfolding onBody
 body-is r q t cs cs' rs rs' s e f g h = rw (f, e, g, h)
 
 module _ (st : State) (s : List ℕ) where
-  pub line-first : st .reading .stage ≡ 0 → onLine st s ≡ state (begun (st .reading) (fiveOf (lineOf (stockPrefix writtenForm) 5 s))) (st .cells) (st .rings)
+  pub line-first : st .reading .stage ≡ 0 → onLine st s ≡ state (begun (st .reading) (firstOf s)) (st .cells) (st .rings)
   unfolding onLine
   line-first e = pick-true _ _ _ (eq-eqb _ _ e)
 

@@ -19,7 +19,7 @@ use Rattle.text.proofs.Spelling.{digits-length, decimal-short}
 use Rattle.text.specs.declared.sixteen.Hex.{Hex}
 use Rattle.text.specs.declared.sixteen.Hex.the-variants.{Of, NoHex}
 use Rattle.text.specs.Hex.{hexAt, fieldOf}
-use Rattle.stock_lines.specs.Form.{Line, holds, other, withFirst, fieldsOf, formOf, writtenForm, beginsWith, lineOf, stockPrefix, cellPrefix, endText}
+use Rattle.stock_lines.specs.Form.{Line, holds, other, withFirst, fieldsOf, formOf, beginsWith, lineOf, stockPrefix, cellPrefix, endText}
 use Rattle.stock_lines.proofs.Forms.{Parted, line-parted, line-long}
 use Rattle.text.proofs.Compare.{same-self}
 
@@ -92,9 +92,9 @@ unfolding formOf
 few-lines form = omega arith
 
 -- each cell of a stock has its line
-pub each-cell : cellLimit ≤ formOf writtenForm .most
+pub each-cell : (form : ℕ) → cellLimit ≤ formOf form .most
 unfolding formOf
-each-cell = omega arith
+each-cell form = omega arith
 
 pub stock-long : (form : ℕ) → length (stockPrefix form) ≡ 7
 stock-long form = ap (λ (n : ℕ). suc (suc (suc (suc (suc (suc n)))))) (digits-length 10 1 form)

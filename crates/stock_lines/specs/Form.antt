@@ -1,7 +1,7 @@
--- The form of a line of a stock file: the writer's own prefix, then exactly k times a tab and 16 digits. Assumes nothing.
+-- The form of a line of a stock file: the writer's own prefix, then exactly k times a tab and 16 digits; the first line goes on with its edition. Assumes nothing.
 use Prim.Native.Nat.{ℕ, zero, suc, _+_}
 use mathlib.Core.Bool.{Bool, false}
-use lib.Dec.{eqb}
+use lib.Dec.{leb, eqb}
 use mathlib.Core.List.{List, [], _∷_, _++_}
 use lib.ListN.{length, take, drop, getD}
 use lib.Ieee.{Float, nan}
@@ -49,13 +49,13 @@ unfoldable pub fieldsText : List Float → List ℕ → List ℕ
 fieldsText [] t = t
 fieldsText (x ∷ xs) t = (9 ∷ hexOf x) ++ fieldsText xs t
 
--- The forms by their number: the digits of an index, and how many cell lines there are at most. There is one form.
+-- The forms by their number: the digits of an index, how many cell lines there are at most, and whether the first line has an edition. Form 1 has none.
 unfoldable pub formOf : ℕ → Form
-formOf k = record { digits = 4; most = 10000 }
+formOf k = record { digits = 4; most = 10000; edition = leb 2 k }
 
--- the form that is written, and that is read
+-- the form that is written
 abbrev pub writtenForm : ℕ
-writtenForm = 1
+writtenForm = 2
 
 -- `stock` and the form's number, in one digit
 abbrev pub stockPrefix : ℕ → List ℕ
@@ -76,9 +76,17 @@ endText n = 101 ∷ 110 ∷ 100 ∷ 9 ∷ decimalOf n
 abbrev pub barNumbers : Bar → List Float
 barNumbers b = b .«z_min_mm» ∷ b .«z_max_mm» ∷ b .«outer_radius_mm» ∷ b .«bore_radius_mm» ∷ b .«cell_mm» ∷ []
 
+-- the field of an edition, in a form that has one: a tab and 8 digits
+unfoldable pub editionText : ℕ → ℕ → List ℕ
+editionText k e = pick (formOf k .edition) (9 ∷ digits 16 8 e) []
+
+-- the first line in form k, without its newline
+abbrev pub stockText : ℕ → Bar → ℕ → List ℕ
+stockText k b e = stockPrefix k ++ fieldsText (barNumbers b) (editionText k e)
+
 -- the writer's lines, in form k
-unfoldable pub stockLine : ℕ → Bar → List ℕ
-stockLine k b = stockPrefix k ++ fieldsText (barNumbers b) newline
+unfoldable pub stockLine : ℕ → Bar → ℕ → List ℕ
+stockLine k b e = stockText k b e ++ newline
 
 unfoldable pub keptCellLine : ℕ → ℕ → Float → Float → Float → Float → List ℕ
 keptCellLine k i a b c d = cellPrefix k i ++ fieldsText (a ∷ b ∷ c ∷ d ∷ []) newline

@@ -1,3 +1,4 @@
 pub mod Form
+pub mod First
 pub mod Room
 pub mod Reading

@@ -9,11 +9,12 @@ use Rattle.refusals.specs.Lent.{Lent}
 use Rattle.refusals.specs.Limits.{ringLimit}
 use Rattle.floats.specs.Pick.{pick}
 use Rattle.stock_lines.specs.declared.Reading.{Reading}
-use Rattle.stock_lines.specs.declared.form.Five.{Five}
-use Rattle.stock_lines.specs.declared.form.Five.the-variants.{Spec, NoFive}
+use Rattle.stock_lines.specs.declared.form.First.{First}
+use Rattle.stock_lines.specs.declared.form.First.the-variants.{Says, NoFirst}
 use Rattle.stock_lines.specs.declared.room.Took.{Took}
 use Rattle.stock_lines.specs.declared.room.Took.the-variants.{Cell, Ring, End, NoLine}
-use Rattle.stock_lines.specs.Form.{formOf, writtenForm, lineOf, fiveOf, stockPrefix}
+use Rattle.stock_lines.specs.Form.{formOf}
+use Rattle.stock_lines.specs.First.{firstOf}
 use Rattle.stock_lines.specs.Room.{stored, cellAt, tookOf, ringsAfter}
 
 -- a reading with the lent room of its cells and its rings
@@ -39,25 +40,16 @@ countTo limit n = pick (ltb n limit) (n + 1) n
 
 -- the next line is not of the form
 unfoldable pub refusing : Reading → Reading
-refusing r = record { stage = r .stage; form = r .form; bar = r .bar; cells = r .cells; rings = r .rings; lines = next r; refused = true }
+refusing r = record { stage = r .stage; form = r .form; edition = r .edition; bar = r .bar; cells = r .cells; rings = r .rings; lines = next r; refused = true }
 
 -- the first line
-unfoldable pub begun : Reading → Five → Reading
-begun r (Spec a b c d e) =
-    record {
-      stage = 1;
-      form = writtenForm;
-      bar = record { «z_min_mm» = a; «z_max_mm» = b; «outer_radius_mm» = c; «bore_radius_mm» = d; «cell_mm» = e };
-      cells = r .cells;
-      rings = r .rings;
-      lines = next r;
-      refused = false;
-    }
-begun r NoFive = refusing r
+unfoldable pub begun : Reading → First → Reading
+begun r (Says k e b) = record { stage = 1; form = k; edition = e; bar = b; cells = r .cells; rings = r .rings; lines = next r; refused = false }
+begun r NoFirst = refusing r
 
 -- one line more behind the first, with what is known now
 unfoldable pub onwardTo : Reading → ℕ → ℕ → ℕ → Reading
-onwardTo r stage n m = record { stage = stage; form = r .form; bar = r .bar; cells = n; rings = m; lines = next r; refused = false }
+onwardTo r stage n m = record { stage = stage; form = r .form; edition = r .edition; bar = r .bar; cells = n; rings = m; lines = next r; refused = false }
 
 -- a line behind the first
 unfoldable pub went : Reading → Took → Reading
@@ -76,7 +68,7 @@ onBody st s =
 -- the next line: the first, one behind it, or one behind `end`
 unfoldable pub onLine : State → List ℕ → State
 onLine st s =
-    pick (eqb (st .reading .stage) 0) (state (begun (st .reading) (fiveOf (lineOf (stockPrefix writtenForm) 5 s))) (st .cells) (st .rings))
+    pick (eqb (st .reading .stage) 0) (state (begun (st .reading) (firstOf s)) (st .cells) (st .rings))
     (pick (eqb (st .reading .stage) 1) (onBody st s)
     (state (refusing (st .reading)) (st .cells) (st .rings)))
 

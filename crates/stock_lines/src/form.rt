@@ -4,26 +4,35 @@ ghost use Prim.Native.Nat.{_+_, _<_};
 ghost use lib.ListN.{length, drop};
 ghost use Rattle.text.specs.Same.{sameBytes};
 ghost use Rattle.text.specs.Wrote.{WritesLine};
-ghost use Rattle.stock_lines.specs.Form.{formOf, writtenForm, fieldsOf, beginsWith, lineOf, fourOf, fiveOf, stockPrefix, cellPrefix, ringPrefix, endText};
+ghost use Rattle.stock_lines.specs.Form.{formOf, fieldsOf, beginsWith, lineOf, fourOf, fiveOf, stockPrefix, cellPrefix, ringPrefix, endText};
+ghost use Rattle.stock_lines.specs.First.{formIn, editionField, editionOf, firstFrom, firstOf};
+use crate::Bar;
+use text::Eight;
 use text::Hex;
 use text::LINE_ROOM;
 
-// What a form fixes: the digits of a cell's index, and how many cell lines there are at most.
+// What a form fixes: the digits of a cell's index, how many cell lines there are at most, and whether
+// the first line has an edition.
 pub struct Form {
     pub digits: usize,
     pub most: usize,
+    pub edition: bool,
 }
 
-// The form that is written, and that is read.
-pub const WRITTEN_FORM: u64 = 1;
+// The form that is written. Form 1 is still read.
+pub const WRITTEN_FORM: u64 = 2;
 
-// The form of a number. There is one; four digits have no index after 9999.
+// `stock`, the form's number and the bar are so many bytes.
+const BAR_LONG: usize = 92;
+
+// The form of a number. Four digits have no index after 9999; from form 2 on a file has an edition.
 pub fn form_of(number: u64) -> Form
     ensures { λ r. ⌜ r ≡ formOf number ⌝ }
 {
     Form {
         digits: 4,
         most: 10000,
+        edition: 2 <= number,
     }
 }
 
@@ -37,6 +46,12 @@ pub enum Four {
 pub enum Five {
     Spec(f64, f64, f64, f64, f64),
     NoFive,
+}
+
+// What a first line says: its form, its edition and its bar.
+pub enum First {
+    Says(u64, u32, Bar),
+    NoFirst,
 }
 
 // Four numbers from a place on, and nothing behind them.
@@ -146,16 +161,92 @@ pub fn read_cell_line(line: &[u8], form: u64, index: u64) -> Four
     read_four(line, &p[..n])
 }
 
-// The first line, without its newline.
-pub fn read_first_line(line: &[u8]) -> Five
-    ensures { λ r. ⌜ r ≡ fiveOf (lineOf (stockPrefix writtenForm) 5 (now (line .entry))) ⌝ }
+// `stock`, the form's number and five numbers, and nothing behind them.
+fn read_bar(line: &[u8], form: u64) -> Five
+    ensures { λ r. ⌜ r ≡ fiveOf (lineOf (stockPrefix form) 5 (now (line .entry))) ⌝ }
 {
     let mut p = [0; LINE_ROOM];
-    let n = put_stock(&mut p, WRITTEN_FORM);
+    let n = put_stock(&mut p, form);
     if begins(line, &p[..n], 85) {
         return five_from(line, n);
     }
     Five::NoFive
+}
+
+// The form that a first line is to have: 2 where its seventh byte says so, and else 1.
+fn form_in(line: &[u8]) -> u64
+    ensures { λ r. ⌜ r ≡ formIn (now (line .entry)) ⌝ }
+{
+    if line.len() < 7 {
+        return 1;
+    }
+    if line[6] == b'2' {
+        return 2;
+    }
+    1
+}
+
+// A tab and 8 digits, and nothing behind them.
+fn read_field(s: &[u8]) -> Eight
+    ensures { λ r. ⌜ r ≡ editionField (now (s .entry)) ⌝ }
+{
+    if s.len() == 0 {
+        return Eight::NoEight;
+    }
+    if s[0] == b'\t' {
+        return text::read_eight(&s[1..]);
+    }
+    Eight::NoEight
+}
+
+// The edition behind the bar: 0 where the form has none and nothing stands there.
+fn read_edition(s: &[u8], form: u64) -> Eight
+    ensures { λ r. ⌜ r ≡ editionOf form (now (s .entry)) ⌝ }
+{
+    let f = form_of(form);
+    if f.edition {
+        return read_field(s);
+    }
+    if s.len() == 0 {
+        return Eight::Of(0);
+    }
+    Eight::NoEight
+}
+
+// The two parts of a first line.
+fn first_from(form: u64, edition: Eight, five: Five) -> First
+    ensures { λ r. ⌜ r ≡ firstFrom form edition five ⌝ }
+{
+    let Eight::Of(edition) = edition else {
+        return First::NoFirst;
+    };
+    let Five::Spec(a, b, c, d, e) = five else {
+        return First::NoFirst;
+    };
+    First::Says(
+        form,
+        edition,
+        Bar {
+            z_min_mm: a,
+            z_max_mm: b,
+            outer_radius_mm: c,
+            bore_radius_mm: d,
+            cell_mm: e,
+        },
+    )
+}
+
+// The first line, without its newline.
+pub fn read_first_line(line: &[u8]) -> First
+    ensures { λ r. ⌜ r ≡ firstOf (now (line .entry)) ⌝ }
+{
+    if line.len() < BAR_LONG {
+        return First::NoFirst;
+    }
+    let form = form_in(line);
+    let five = read_bar(&line[..BAR_LONG], form);
+    let edition = read_edition(&line[BAR_LONG..], form);
+    first_from(form, edition, five)
 }
 
 // The last line, without its newline, after so many lines.

@@ -2,15 +2,20 @@
 //
 // A line is of the form when it is the writer's own prefix, followed by exactly k times a tab and 16
 // hexadecimal digits in capitals; `end` is compared whole with the writer's line. The digits of -0.0
-// are not of the form. `form` reads one line; here a line moves a reading on, and lines are spelled.
+// are not of the form. The first line says the form: 2 is written, and ends with the edition in 8
+// digits; 1 is still read, has no edition, and is of edition 0. `form` reads one line; here a line moves
+// a reading on, and lines are spelled.
 mod form;
 mod room;
 
 ghost use mathlib.Core.Path.{_≡_};
-ghost use Rattle.text.specs.Wrote.{WritesLine};
-ghost use Rattle.stock_lines.specs.Form.{writtenForm, stockLine, keptCellLine, endLine};
+ghost use mathlib.Core.List.{[], _∷_};
+ghost use Prim.Native.Nat.{_+_, _≤_};
+ghost use Rattle.text.specs.Digits.{digits};
+ghost use Rattle.text.specs.Wrote.{Wrote, lineRoom, WritesLine};
+ghost use Rattle.stock_lines.specs.Form.{writtenForm, fieldsText, barNumbers, stockLine, keptCellLine, endLine};
 ghost use Rattle.stock_lines.specs.Reading.{countTo, refusing, begun, onwardTo, went, onLine, stateFound, stateLeft};
-use form::Five;
+use form::First;
 use form::WRITTEN_FORM;
 use refusals::RING_LIMIT;
 use room::Took;
@@ -25,13 +30,16 @@ pub struct Bar {
     pub cell_mm: f64,
 }
 
-// A file read so far: what its next line may be, its form, its bar, how many of its lines were cells' and how
-// many rings', counted to 257, how many there were in all, and whether the last of them was refused.
+// A file read so far: what its next line may be, its form, its edition and its bar, how many of its lines
+// were cells' and how many rings', counted to 257, how many there were in all, and whether the last of
+// them was refused.
 pub struct Reading {
     // 0 before the first line, 1 behind it, and any other number behind `end`
     pub stage: u64,
     // 0 before the first line, and then the form's number
     pub form: u64,
+    // 0 before the first line too
+    pub edition: u32,
     pub bar: Bar,
     pub cells: usize,
     pub rings: usize,
@@ -60,6 +68,7 @@ pub fn refuse(reading: Reading) -> Reading
     Reading {
         stage: reading.stage,
         form: reading.form,
+        edition: reading.edition,
         bar,
         cells: reading.cells,
         rings: reading.rings,
@@ -68,22 +77,17 @@ pub fn refuse(reading: Reading) -> Reading
     }
 }
 
-// The first line, which told these numbers.
-fn begin(reading: Reading, five: Five) -> Reading
-    ensures { λ r. ⌜ r ≡ begun reading five ⌝ }
+// The first line, which said this.
+fn begin(reading: Reading, first: First) -> Reading
+    ensures { λ r. ⌜ r ≡ begun reading first ⌝ }
 {
-    match five {
-        Five::NoFive => refuse(reading),
-        Five::Spec(a, b, c, d, e) => Reading {
+    match first {
+        First::NoFirst => refuse(reading),
+        First::Says(form, edition, bar) => Reading {
             stage: 1,
-            form: WRITTEN_FORM,
-            bar: Bar {
-                z_min_mm: a,
-                z_max_mm: b,
-                outer_radius_mm: c,
-                bore_radius_mm: d,
-                cell_mm: e,
-            },
+            form,
+            edition,
+            bar,
             cells: reading.cells,
             rings: reading.rings,
             lines: std::num::wrapping_add_u64(reading.lines, 1),
@@ -100,6 +104,7 @@ fn onward(reading: Reading, stage: u64, cells: usize, rings: usize) -> Reading
     Reading {
         stage,
         form: reading.form,
+        edition: reading.edition,
         bar,
         cells,
         rings,
@@ -146,20 +151,35 @@ pub fn take_line(reading: Reading, line: &[u8], cells: &mut [f64], rings: &mut [
     refuse(reading)
 }
 
-// The first line of a file: the form's number, and the bar.
-pub fn stock_line(out: &mut [u8; LINE_ROOM], bar: Bar) -> usize
-    ensures { λ r. ⌜ WritesLine out (stockLine writtenForm bar) r ⌝ }
+// The numbers of a bar, a tab before each.
+fn put_bar(out: &mut [u8; LINE_ROOM], at: usize, bar: Bar) -> usize
+    requires { ⌜ at + 85 ≤ lineRoom ⌝ }
+    ensures { λ r. ⌜ Wrote (now (out .entry)) at (fieldsText (barNumbers bar) []) (now (out .exit)) r ⌝ }
+{
+    let a = text::put_hex(out, at, bar.z_min_mm);
+    let b = text::put_hex(out, a, bar.z_max_mm);
+    let c = text::put_hex(out, b, bar.outer_radius_mm);
+    let d = text::put_hex(out, c, bar.bore_radius_mm);
+    text::put_hex(out, d, bar.cell_mm)
+}
+
+// A tab and an edition.
+fn put_edition(out: &mut [u8; LINE_ROOM], at: usize, edition: u32) -> usize
+    requires { ⌜ at + 9 ≤ lineRoom ⌝ }
+    ensures { λ r. ⌜ Wrote (now (out .entry)) at (9 ∷ digits 16 8 edition) (now (out .exit)) r ⌝ }
+{
+    let e = text::put(out, at, b"\t");
+    text::put_eight(out, e, edition)
+}
+
+// The first line of a file: the form's number, the bar, and the edition.
+pub fn stock_line(out: &mut [u8; LINE_ROOM], bar: Bar, edition: u32) -> usize
+    ensures { λ r. ⌜ WritesLine out (stockLine writtenForm bar edition) r ⌝ }
 {
     let e = form::put_stock(out, WRITTEN_FORM);
-    let f = text::put_hex(out, e, bar.z_min_mm);
-    text::put_four(
-        out,
-        f,
-        bar.z_max_mm,
-        bar.outer_radius_mm,
-        bar.bore_radius_mm,
-        bar.cell_mm,
-    )
+    let f = put_bar(out, e, bar);
+    let g = put_edition(out, f, edition);
+    text::put(out, g, b"\n")
 }
 
 // A cell, with its index.

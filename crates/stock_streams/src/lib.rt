@@ -10,7 +10,7 @@ ghost use Rattle.streams.specs.Moves.{Puts};
 ghost use Rattle.stock_file.specs.Write.{lineFor, linesTo};
 ghost use Rattle.stock_streams.specs.Read.{broughtBy, mayBeMore, heldBy, ReadsOn, ReadsStock};
 ghost use Rattle.stock_streams.specs.Write.{textIn, AllPut, PutsStock, Asked};
-use stock::TurnStockSpec;
+use stock::TurnStock;
 use stock_file::Kept;
 use stock_file::Lines;
 use stock_file::Spelled;
@@ -154,17 +154,16 @@ fn put_line(
     fd: i32,
     out: Out,
     gathered: &mut [u8; GATHERED],
-    spec: TurnStockSpec,
+    stock: TurnStock,
     cells: &[f64],
     rings: &[f64],
-    count: usize,
     k: usize,
 ) -> Out
     ensures { λ r. ⌜ Puts out (now (gathered .entry))
-        (textIn (lineFor spec (now (cells .entry)) (now (rings .entry)) count k)) r (now (gathered .exit)) ⌝ }
+        (textIn (lineFor stock (now (cells .entry)) (now (rings .entry)) k)) r (now (gathered .exit)) ⌝ }
 {
     let mut line = [0u8; LINE_ROOM];
-    let spelled = stock_file::file_line(&mut line, spec, cells, rings, count, k);
+    let spelled = stock_file::file_line(&mut line, stock, cells, rings, k);
     match spelled {
         Spelled::Bytes(n) => streams::put(fd, out, gathered, text::front(&line, n)),
         Spelled::Refused(_) => out,
@@ -175,19 +174,18 @@ fn put_line(
 fn gather_lines(
     fd: i32,
     gathered: &mut [u8; GATHERED],
-    spec: TurnStockSpec,
+    stock: TurnStock,
     cells: &[f64],
     rings: &[f64],
-    count: usize,
     n: usize,
 ) -> Out
-    ensures { λ r. ⌜ AllPut (linesTo (λ k. textIn (lineFor spec (now (cells .entry)) (now (rings .entry)) count k)) n)
+    ensures { λ r. ⌜ AllPut (linesTo (λ k. textIn (lineFor stock (now (cells .entry)) (now (rings .entry)) k)) n)
         r (now (gathered .exit)) ⌝ }
 {
     let mut out = streams::fresh();
     let mut k: usize = 0;
     while k < n {
-        out = put_line(fd, out, gathered, spec, cells, rings, count, k);
+        out = put_line(fd, out, gathered, stock, cells, rings, k);
         k += 1;
     }
     out
@@ -197,16 +195,16 @@ fn gather_lines(
 fn gather_stock(
     fd: i32,
     gathered: &mut [u8; GATHERED],
-    spec: TurnStockSpec,
+    stock: TurnStock,
     cells: &[f64],
     rings: &[f64],
-    count: usize,
 ) -> Out
-    ensures { λ r. ⌜ PutsStock spec (now (cells .entry)) (now (rings .entry)) count r (now (gathered .exit)) ⌝ }
+    ensures { λ r. ⌜ PutsStock stock (now (cells .entry)) (now (rings .entry)) r (now (gathered .exit)) ⌝ }
 {
-    let lines = stock_file::line_count(spec, cells, rings, count);
+    let spec = stock.spec;
+    let lines = stock_file::line_count(spec, cells, rings, stock.rings);
     match lines {
-        Lines::Count(n) => gather_lines(fd, gathered, spec, cells, rings, count, n),
+        Lines::Count(n) => gather_lines(fd, gathered, stock, cells, rings, n),
         Lines::Refused(_) => Out {
             len: 0,
             failed: true,
@@ -215,10 +213,10 @@ fn gather_stock(
 }
 
 // Writes a stock's file, and tells whether all of it was written. A stock that is refused is not.
-pub fn write_stock(fd: i32, spec: TurnStockSpec, cells: &[f64], rings: &[f64], count: usize) -> bool
-    ensures { λ r. ⌜ (r ≡ true → Asked spec (now (cells .entry)) (now (rings .entry)) count) ⌝ }
+pub fn write_stock(fd: i32, stock: TurnStock, cells: &[f64], rings: &[f64]) -> bool
+    ensures { λ r. ⌜ (r ≡ true → Asked stock (now (cells .entry)) (now (rings .entry))) ⌝ }
 {
     let mut gathered = [0u8; GATHERED];
-    let out = gather_stock(fd, &mut gathered, spec, cells, rings, count);
+    let out = gather_stock(fd, &mut gathered, stock, cells, rings);
     streams::flush(fd, out, &gathered)
 }

@@ -2,7 +2,8 @@
 //
 // A radius is asked of an envelope that keeps its points. A thread to that radius is previewed into
 // lent records, which are committed as they stand; and beside it the flat calls do the same on a
-// stock of their own. The program writes what each answers, and whether the cells are the same.
+// stock of their own. A list of edition 2 is refused on edition 3, in both forms. The program writes
+// what each answers, and whether the cells are the same.
 ghost use mathlib.Core.Path.{_≡_};
 ghost use lib.ListN.{replicate};
 ghost use Rattle.refusals.specs.Lent.{over};
@@ -19,7 +20,9 @@ use cuts::Tool;
 use envelope::RadiusAt;
 use envelope::held::Envelope;
 use refusals::Refusal;
+use stock::Stamp;
 use stock::TurnChange;
+use stock::TurnStock;
 use stock::TurnStockSpec;
 
 // The highest radius at u, of an envelope that keeps the points.
@@ -37,41 +40,37 @@ fn single(cut: Cut) -> Tool
 }
 
 // A single cut, previewed into records. It has no numbers beside it, and the cells stand for them.
-fn preview_cut(
-    spec: TurnStockSpec,
-    cells: &[f64],
-    cut: Cut,
-    changes: &mut [TurnChange],
-) -> Previewed
-    ensures { λ r. ⌜ Writes (previewCut spec (now (cells .entry)) cut) r changes ⌝ }
+fn preview_cut(stock: TurnStock, cells: &[f64], cut: Cut, changes: &mut [TurnChange]) -> Previewed
+    ensures { λ r. ⌜ Writes (stock .stamp) (previewCut (stock .spec) (now (cells .entry)) cut) r changes ⌝ }
 {
     let tool = single(cut);
-    change_slices::propose(spec, cells, tool, cells, changes)
+    change_slices::propose(stock, cells, tool, cells, changes)
 }
 
-// A cut of two cells, previewed into two records that began blank, and committed from them.
+// A cut of two cells, previewed for the stock `other` into two records that began blank, and committed
+// from them to the stock, as the list of the other one.
 fn cut_two(
-    spec: TurnStockSpec,
+    stock: TurnStock,
     cells: &mut [f64],
-    generation: u64,
+    other: TurnStock,
     cut: Cut,
     blank: TurnChange,
 ) -> Applied
-    ensures { λ r. ⌜ Commits (commitOf spec (now (cells .entry)) generation (over (writtenOf (previewCut spec (now (cells .entry)) cut 2)) (replicate 2 blank))) r cells ⌝ }
+    ensures { λ r. ⌜ Commits stock (commitOf stock (now (cells .entry)) (other .stamp) (over (writtenOf (previewCut (other .spec) (now (cells .entry)) cut 2)) (replicate 2 blank))) r cells ⌝ }
 {
     let mut changes = [blank; 2];
-    preview_cut(spec, cells, cut, &mut changes);
-    change_slices::apply(spec, cells, generation, &changes)
+    preview_cut(other, cells, cut, &mut changes);
+    change_slices::apply(stock, cells, other.stamp, &changes)
 }
 
 // The same with flat lists.
-fn cut_flat(spec: TurnStockSpec, cells: &mut [f64], generation: u64, cut: Cut) -> Applied {
+fn cut_flat(stock: TurnStock, cells: &mut [f64], other: TurnStock, cut: Cut) -> Applied {
     let mut indices = [0usize; 2];
     let mut records = [0.0f64; 16];
-    let answer = cuts::preview_cut(spec, cells, cut, &mut indices, &mut records);
+    let answer = cuts::preview_cut(other, cells, cut, &mut indices, &mut records);
     match answer {
         Previewed::Refused(r) => Applied::Refused(r),
-        Previewed::Changes(k) => { changes::apply(spec, cells, generation, &indices, &records, k) }
+        Previewed::Listed(list) => changes::apply(stock, cells, list, &indices, &records),
     }
 }
 
@@ -83,9 +82,11 @@ fn say_no(r: Refusal) {
 
 fn say(answer: Applied) {
     match answer {
-        Applied::Generation(g) => {
-            io::write_all(1, b"generation ");
-            io::print_decimal(1, g);
+        Applied::Stock(k) => {
+            io::write_all(1, b"edition ");
+            io::print_decimal(1, k.stamp.edition as u64);
+            io::write_all(1, b" generation ");
+            io::print_decimal(1, k.stamp.generation);
             io::write_all(1, b"\n");
         }
         Applied::Refused(r) => say_no(r),
@@ -116,8 +117,8 @@ fn same_cells(a: &[f64], b: &[f64]) -> bool {
     same_at(a, b, 0) & same_at(a, b, 1) & same_at(a, b, 2) & same_at(a, b, 3)
 }
 
-// A thread to the radius r over a bar of four cells, in both forms.
-fn thread_to(r: f64) {
+// A bar of four cells, of an edition.
+fn bar(edition: u32) -> TurnStock {
     let spec = TurnStockSpec {
         z_min_mm: 0.0,
         z_max_mm: 4.0,
@@ -126,30 +127,52 @@ fn thread_to(r: f64) {
         cell_mm: 1.0,
         max_cells: 4,
     };
-    let cut = Cut::Thread {
-        z0: 3.0,
-        z1: 1.0,
-        radius: r,
-    };
+    TurnStock {
+        spec,
+        stamp: Stamp {
+            edition,
+            generation: 0,
+        },
+        rings: 0,
+    }
+}
+
+// A cut of a bar of edition 3 in both forms: as a list of edition 2, then as its own.
+fn cut_both(cut: Cut) {
+    let stock = bar(3);
+    let other = bar(2);
     let mut kept = [0.0f64; 16];
     let mut flat = [0.0f64; 16];
-    stock::fill(spec, &mut kept);
-    stock::fill(spec, &mut flat);
+    stock::fill(stock.spec, 3, &mut kept);
+    stock::fill(stock.spec, 3, &mut flat);
     let before = stock::cell_at(&kept, 0);
     let blank = TurnChange {
         index: 0,
         before,
         after: before,
     };
+    io::write_all(1, b"records of edition 2 on edition 3: ");
+    say(cut_two(stock, &mut kept, other, cut, blank));
+    io::write_all(1, b"flat of edition 2 on edition 3: ");
+    say(cut_flat(stock, &mut flat, other, cut));
     io::write_all(1, b"records: ");
-    say(cut_two(spec, &mut kept, 0, cut, blank));
+    say(cut_two(stock, &mut kept, stock, cut, blank));
     io::write_all(1, b"flat: ");
-    say(cut_flat(spec, &mut flat, 0, cut));
+    say(cut_flat(stock, &mut flat, stock, cut));
     io::write_all(1, b"the same cells: ");
     say_if(same_cells(&kept, &flat));
     io::write_all(1, b"cut to 8: ");
     let cell = stock::cell_at(&kept, 2);
     say_if(cell.outer.lower_mm == 8.0);
+}
+
+// A thread to the radius r.
+fn thread_to(r: f64) {
+    cut_both(Cut::Thread {
+        z0: 3.0,
+        z1: 1.0,
+        radius: r,
+    });
 }
 
 fn main() {

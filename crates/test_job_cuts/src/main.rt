@@ -37,7 +37,7 @@ fn in_two(
 ) -> Run {
     let mut line = [0u8; LINE_LIMIT];
     let first = job_run::take_part(
-        job_run::fresh(),
+        job_run::fresh(0),
         cells,
         rings,
         &mut line,
@@ -56,7 +56,7 @@ fn in_two(
 fn by_bytes(bytes: &[u8], cells: &mut [f64; CELL_NUMBERS], rings: &mut [f64; RING_NUMBERS]) -> Run {
     let mut line = [0u8; LINE_LIMIT];
     let mut t = Taken {
-        run: job_run::fresh(),
+        run: job_run::fresh(0),
         len: 0,
     };
     let mut i: usize = 0;
@@ -103,14 +103,14 @@ fn same_spec(a: TurnStockSpec, b: TurnStockSpec) -> bool {
 
 // Whether two runs are the same.
 fn same_run(a: Run, b: Run) -> bool {
-    let j = a.job;
-    let k = b.job;
+    let j = a.job.stock;
+    let k = b.job.stock;
     same_spec(j.spec, k.spec)
+        & stock::same_stamp(j.stamp, k.stamp)
         & (a.lines == b.lines)
         & (a.refused == b.refused)
-        & (j.cells == k.cells)
+        & (a.job.cells == b.job.cells)
         & (j.rings == k.rings)
-        & (j.generation == k.generation)
 }
 
 // Whether a run with its numbers is that of the whole file.
@@ -177,7 +177,7 @@ fn whole_and_cut(bytes: &[u8]) -> bool {
     let mut rings = [0.0f64; RING_NUMBERS];
     let mut line = [0u8; LINE_LIMIT];
     let taken = job_run::take_part(
-        job_run::fresh(),
+        job_run::fresh(0),
         &mut cells,
         &mut rings,
         &mut line,

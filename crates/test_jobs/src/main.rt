@@ -12,7 +12,7 @@ fn run_file(fd: i32) {
     let mut cells = [0.0f64; CELL_NUMBERS];
     let mut rings = [0.0f64; RING_NUMBERS];
     let mut line = [0u8; LINE_LIMIT];
-    let start = job_run::fresh();
+    let start = job_run::fresh(0);
     let ended = job_streams::read_job(fd, 7, start, &mut cells, &mut rings, &mut line);
     let run = ended.run;
     job_streams::write_answer(1, run, &cells, &rings);

@@ -1,7 +1,7 @@
 // Files of thousands of lines, made line by line and read line by line.
 use crate::shown;
 use crate::shown::LENT;
-use stock::TurnStockSpec;
+use stock::TurnStock;
 use stock_file::Kept;
 use stock_file::Taken;
 use stock_lines::Bar;
@@ -12,6 +12,9 @@ const LINES: usize = 10300;
 
 // The reader's max_cells.
 const MAX_CELLS: usize = 4096;
+
+// The edition of each.
+const EDITION: u32 = 0x89ABCDEF;
 
 // 4,096 cells, and 257 rings.
 const CELL_ROOM: usize = 16384;
@@ -51,7 +54,7 @@ fn line_of(out: &mut [u8; LINE_ROOM], long: Long, k: usize) -> usize {
             bore_radius_mm: 0.0,
             cell_mm: 1.0,
         };
-        return stock_lines::stock_line(out, bar);
+        return stock_lines::stock_line(out, bar, EDITION);
     }
     let i = k - 1;
     if i < long.cells {
@@ -129,26 +132,19 @@ fn read(long: Long, cells: &mut [f64], rings: &mut [f64]) -> Kept {
 }
 
 // Line k of a stock's file, summed behind those before it.
-fn sum_spelled(
-    before: u64,
-    spec: TurnStockSpec,
-    cells: &[f64],
-    rings: &[f64],
-    m: usize,
-    k: usize,
-) -> u64 {
+fn sum_spelled(before: u64, stock: TurnStock, cells: &[f64], rings: &[f64], k: usize) -> u64 {
     let mut out = [0u8; LINE_ROOM];
-    let n = shown::spell(&mut out, spec, cells, rings, m, k);
+    let n = shown::spell(&mut out, stock, cells, rings, k);
     shown::sum_line(before, out, n)
 }
 
 // The sum of a stock's file.
-fn sum_lines(spec: TurnStockSpec, cells: &[f64], rings: &[f64], m: usize) -> u64 {
-    let count = shown::lines_of(spec, cells, rings, m);
+fn sum_lines(stock: TurnStock, cells: &[f64], rings: &[f64]) -> u64 {
+    let count = shown::lines_of(stock, cells, rings);
     let mut s: u64 = 0;
     let mut k: usize = 0;
     while k < count {
-        s = sum_spelled(s, spec, cells, rings, m, k);
+        s = sum_spelled(s, stock, cells, rings, k);
         k += 1;
     }
     s
@@ -156,7 +152,7 @@ fn sum_lines(spec: TurnStockSpec, cells: &[f64], rings: &[f64], m: usize) -> u64
 
 fn sum_written(kept: Kept, cells: &[f64], rings: &[f64]) -> u64 {
     match kept {
-        Kept::Stock(spec, n, m) => sum_lines(spec, shown::fours(cells, n), rings, m),
+        Kept::Stock(stock, n) => sum_lines(stock, shown::fours(cells, n), rings),
         Kept::Refused(r) => 0,
         Kept::RefusedAt(r, line) => 0,
     }

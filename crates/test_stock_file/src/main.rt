@@ -1,8 +1,8 @@
 // Reads the stock files that its arguments name, whole and in parts of seven bytes, and writes each name
 // with what was read, the lent room, and the file written back.
 //
-// Then come the first file in rooms of several sizes, the second with every byte of it damaged in every
-// way of `ways`, and files of thousands of lines (`long`). A room is told by how many of its numbers were
+// Then come the first file in rooms of several sizes, the second, of form 1, and the third, of form 2, with
+// every byte damaged in every way of `ways`, and files of thousands of lines (`long`). A room is told by how many of its numbers were
 // written and by a sum of all of them. `scripts/stock-cases` has what is to be written, by a reader of
 // its own.
 mod long;
@@ -195,7 +195,7 @@ fn say_case(i: usize, bytes: &[u8]) {
     if i == 1 {
         say_rooms(bytes);
     }
-    if i == 2 {
+    if (i == 2) | (i == 3) {
         say_all_damaged(bytes);
     }
 }

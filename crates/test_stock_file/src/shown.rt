@@ -1,6 +1,6 @@
 // What a read tells and leaves, in words and as a sum.
 use refusals::Refusal;
-use stock::TurnStockSpec;
+use stock::TurnStock;
 use stock_file::Kept;
 use stock_file::Lines;
 use stock_file::Spelled;
@@ -64,13 +64,21 @@ fn put_number(out: &mut [u8], at: usize, r: Refusal) -> usize {
     text::put_count(out, at, refusals::number(r) as u64)
 }
 
-fn put_stock(out: &mut [u8], at: usize, max_cells: usize, n: usize, m: usize) -> usize {
-    let a = text::put_text(out, at, b"a stock of max_cells ");
-    let b = text::put_count(out, a, max_cells as u64);
-    let c = text::put_text(out, b, b", cells ");
-    let d = text::put_count(out, c, n as u64);
-    let e = text::put_text(out, d, b", rings ");
-    text::put_count(out, e, m as u64)
+fn put_named(out: &mut [u8], at: usize, name: &[u8], n: u64) -> usize {
+    let a = text::put_text(out, at, name);
+    text::put_count(out, a, n)
+}
+
+fn put_stock(out: &mut [u8], at: usize, stock: TurnStock, n: usize) -> usize {
+    let a = put_named(
+        out,
+        at,
+        b"a stock of max_cells ",
+        stock.spec.max_cells as u64,
+    );
+    let b = put_named(out, a, b", edition ", stock.stamp.edition as u64);
+    let c = put_named(out, b, b", cells ", n as u64);
+    put_named(out, c, b", rings ", stock.rings as u64)
 }
 
 fn put_refused(out: &mut [u8], at: usize, r: Refusal) -> usize {
@@ -87,7 +95,7 @@ fn put_refused_at(out: &mut [u8], at: usize, r: Refusal, line: usize) -> usize {
 // What was read, in words.
 fn put_kept(out: &mut [u8], at: usize, kept: Kept) -> usize {
     match kept {
-        Kept::Stock(spec, n, m) => put_stock(out, at, spec.max_cells, n, m),
+        Kept::Stock(stock, n) => put_stock(out, at, stock, n),
         Kept::Refused(r) => put_refused(out, at, r),
         Kept::RefusedAt(r, line) => put_refused_at(out, at, r, line),
     }
@@ -96,7 +104,7 @@ fn put_kept(out: &mut [u8], at: usize, kept: Kept) -> usize {
 // What was read, as short as can be: 0, or the refusal, with a point before its line.
 pub fn put_short(out: &mut [u8], at: usize, kept: Kept) -> usize {
     match kept {
-        Kept::Stock(spec, n, m) => text::put_text(out, at, b"0"),
+        Kept::Stock(stock, n) => text::put_text(out, at, b"0"),
         Kept::Refused(r) => put_number(out, at, r),
         Kept::RefusedAt(r, line) => {
             let a = put_number(out, at, r);
@@ -149,21 +157,21 @@ pub fn fours(xs: &[f64], n: usize) -> &[f64] {
 // Line k of a stock's file is put into out; where it is refused, nothing.
 pub fn spell(
     out: &mut [u8; LINE_ROOM],
-    spec: TurnStockSpec,
+    stock: TurnStock,
     cells: &[f64],
     rings: &[f64],
-    m: usize,
     k: usize,
 ) -> usize {
-    match stock_file::file_line(out, spec, cells, rings, m, k) {
+    match stock_file::file_line(out, stock, cells, rings, k) {
         Spelled::Bytes(n) => n,
         Spelled::Refused(r) => 0,
     }
 }
 
 // How many lines a stock's file has; where it is refused, none.
-pub fn lines_of(spec: TurnStockSpec, cells: &[f64], rings: &[f64], m: usize) -> usize {
-    match stock_file::line_count(spec, cells, rings, m) {
+pub fn lines_of(stock: TurnStock, cells: &[f64], rings: &[f64]) -> usize {
+    let spec = stock.spec;
+    match stock_file::line_count(spec, cells, rings, stock.rings) {
         Lines::Count(n) => n,
         Lines::Refused(r) => 0,
     }
@@ -174,17 +182,17 @@ fn say_front(line: [u8; LINE_ROOM], n: usize) {
 }
 
 // Line k of a stock's file.
-fn say_line(spec: TurnStockSpec, cells: &[f64], rings: &[f64], m: usize, k: usize) {
+fn say_line(stock: TurnStock, cells: &[f64], rings: &[f64], k: usize) {
     let mut out = [0u8; LINE_ROOM];
-    let n = spell(&mut out, spec, cells, rings, m, k);
+    let n = spell(&mut out, stock, cells, rings, k);
     say_front(out, n);
 }
 
-fn say_lines(spec: TurnStockSpec, cells: &[f64], rings: &[f64], m: usize) {
-    let count = lines_of(spec, cells, rings, m);
+fn say_lines(stock: TurnStock, cells: &[f64], rings: &[f64]) {
+    let count = lines_of(stock, cells, rings);
     let mut k: usize = 0;
     while k < count {
-        say_line(spec, cells, rings, m, k);
+        say_line(stock, cells, rings, k);
         k += 1;
     }
 }
@@ -192,7 +200,7 @@ fn say_lines(spec: TurnStockSpec, cells: &[f64], rings: &[f64], m: usize) {
 // The file of what was read, written back.
 fn say_written(kept: Kept, cells: &[f64], rings: &[f64]) {
     match kept {
-        Kept::Stock(spec, n, m) => say_lines(spec, fours(cells, n), rings, m),
+        Kept::Stock(stock, n) => say_lines(stock, fours(cells, n), rings),
         Kept::Refused(r) => {}
         Kept::RefusedAt(r, line) => {}
     }

@@ -3,21 +3,22 @@
 use crate::before;
 use crate::behind;
 
-pub const COUNT: usize = 14;
+pub const COUNT: usize = 15;
 
 // The byte that a way puts in the place of another.
 fn other(way: usize) -> u8 {
     match way {
         0 => b'0',
         1 => b'1',
-        2 => b'9',
-        3 => b'F',
-        4 => b'G',
-        5 => b'a',
-        6 => b' ',
-        7 => b'\t',
-        8 => b'\n',
-        9 => b'\r',
+        2 => b'2',
+        3 => b'9',
+        4 => b'F',
+        5 => b'G',
+        6 => b'a',
+        7 => b' ',
+        8 => b'\t',
+        9 => b'\n',
+        10 => b'\r',
         _ => 255,
     }
 }
@@ -32,14 +33,14 @@ fn double(out: &mut [u8], e: usize, bytes: &[u8], at: usize) -> usize {
 // The bytes with the one at a place damaged; answers how many they are.
 pub fn damage(out: &mut [u8], bytes: &[u8], at: usize, way: usize) -> usize {
     let e = text::put_text(out, 0, before(bytes, at));
-    if way == 13 {
+    if way == 14 {
         return e;
     }
-    if way == 12 {
+    if way == 13 {
         return double(out, e, bytes, at);
     }
     let rest = behind(behind(bytes, at), 1);
-    if way == 11 {
+    if way == 12 {
         return text::put_text(out, e, rest);
     }
     let f = text::put_text(out, e, &[other(way)]);

@@ -15,6 +15,13 @@ pub struct Said {
     pub y: f64,
 }
 
+// What a call that lists changes told of the list.
+pub struct Told {
+    pub count: u64,
+    pub edition: u64,
+    pub generation: u64,
+}
+
 // How far a line was held to what was said, and whether it says the same.
 pub struct Mark {
     pub at: usize,
@@ -63,7 +70,7 @@ pub fn answer(words: &[u64; LIMIT], i: usize, s: Said) -> Mark {
     }
 }
 
-// What stands in *position before a call.
+// What stands in *position, and in what a list is to be told in, before a call.
 pub const UNTOLD: usize = 7777777;
 
 // The place of a refusal that told one.
@@ -87,21 +94,36 @@ pub fn list(words: &[u64; LIMIT], m: Mark, asked: bool, count: u64, n: u64, xs: 
     }
 }
 
-// Where they are asked: how many changes, and these.
+// The list is the one whose count, edition and generation the words from i on are.
+fn list_is(words: &[u64; LIMIT], i: usize, list: Told) -> bool {
+    (words::at(words, i, 0) == list.count)
+        & (words::at(words, i, 1) == list.edition)
+        & (words::at(words, i, 2) == list.generation)
+}
+
+// A refusal left the three as they were.
+fn list_stays(list: Told) -> bool {
+    (list.count == UNTOLD as u64)
+        & (list.edition == UNTOLD as u64)
+        & (list.generation == UNTOLD as u64)
+}
+
+// Where they are asked: a list of changes, and these.
 pub fn changes(
     words: &[u64; LIMIT],
     m: Mark,
     asked: bool,
-    n: u64,
+    list: Told,
     indices: &[usize],
     records: &[f64],
 ) -> Mark {
-    let i = words::after(m.at, words::only(1, asked));
-    let k = words::only(n, asked) % 65536;
+    let i = words::after(m.at, words::only(3, asked));
+    let k = words::only(list.count, asked) % 65536;
     Mark {
         at: words::after(i, 9 * k),
         ok: m.ok
-            & (!asked | (words::at(words, m.at, 0) == n))
+            & (!asked | list_is(words, m.at, list))
+            & (asked | list_stays(list))
             & indices_are(words, i, indices, k)
             & numbers_are(words, words::after(i, 1), BY_EIGHT, records, 8 * k),
     }

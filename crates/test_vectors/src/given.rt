@@ -15,9 +15,15 @@ const STORE: u8 = 83;
 
 const LIST: u8 = 76;
 
-// Where the parts of a call stand, in the order in which any call has them: cells or points, rings,
-// a size, numbers, changes, more points, the room that is lent, the answer. The lengths of rings and
-// changes that are only lent stand in the room.
+// A list of changes begins with how many indices and how many numbers are lent, how many changes are
+// given, and the edition and the generation of the list. So the first index stands so many words
+// after their count, and the first number after theirs.
+pub const TO_CHANGES: u64 = 5;
+
+// Where the parts of a call stand, in the order in which any call has them: its spec with the stamp
+// of its stock, from word 1 on; cells or points, rings, a size, numbers, changes, more points, the
+// room that is lent, the answer. The lengths of rings and changes that are only lent stand in the
+// room.
 pub struct Places {
     pub cells: usize,
     pub rings: usize,
@@ -47,7 +53,7 @@ fn past(words: &[u64; LIMIT], kind: usize, j: usize, i: usize) -> usize {
     match part {
         NUMBERS => words::after(words::after(i, 1), words::at(words, i, 0)),
         STORE => words::after(i, rings_given(words, i) % 65536 * 4 + 2),
-        LIST => words::after(i, changes_given(words, i) % 65536 * 9 + 3),
+        LIST => words::after(i, changes_given(words, i) % 65536 * 9 + TO_CHANGES),
         _ => words::after(i, (part % 16) as u64),
     }
 }
@@ -87,6 +93,8 @@ pub struct Given {
     pub bore: f64,
     pub cell: f64,
     pub max_cells: usize,
+    pub edition: u32,
+    pub generation: u64,
     pub x: f64,
     pub y: f64,
     pub z: f64,
@@ -95,6 +103,13 @@ pub struct Given {
     pub side: u32,
     pub rings: usize,
     pub changes: usize,
+    pub list_edition: u32,
+    pub list_generation: u64,
+}
+
+// An edition, or a side: the word's last 32 bits.
+fn short(word: u64) -> u32 {
+    (word % 4294967296) as u32
 }
 
 pub fn numbers_of(words: &[u64; LIMIT], p: Places) -> Given {
@@ -106,14 +121,18 @@ pub fn numbers_of(words: &[u64; LIMIT], p: Places) -> Given {
         bore: words::number(words, 4, 0),
         cell: words::number(words, 5, 0),
         max_cells: words::at(words, 6, 0) as usize,
+        edition: short(words::at(words, 7, 0)),
+        generation: words::at(words, 8, 0),
         x: words::number(words, p.numbers, 0),
         y: words::number(words, p.numbers, 1),
         z: words::number(words, p.numbers, 2),
         w: words::number(words, p.numbers, 3),
         size,
-        side: (size % 4294967296) as u32,
+        side: short(size),
         rings: words::at(words, p.rings, 1) as usize,
         changes: words::at(words, p.changes, 2) as usize,
+        list_edition: short(words::at(words, p.changes, 3)),
+        list_generation: words::at(words, p.changes, 4),
     }
 }
 
@@ -164,9 +183,9 @@ pub fn lent<'a>(
     ys
 }
 
-// Word i says how many indices are lent, and the first stands three words after it.
+// Word i says how many indices are lent, and the changes stand behind it.
 pub fn lent_indices<'a>(words: &[u64; LIMIT], i: usize, xs: &'a mut [usize]) -> &'a mut [usize] {
     let ys = front_indices(xs, words::at(words, i, 0));
-    fill_indices(words, words::after(i, 3), ys);
+    fill_indices(words, words::after(i, TO_CHANGES), ys);
     ys
 }

@@ -2,12 +2,14 @@
 use crate::answers;
 use crate::answers::Mark;
 use crate::answers::Said;
+use crate::answers::Told;
 use crate::calls;
 use crate::given;
 use crate::given::BY_EIGHT;
 use crate::given::Given;
 use crate::given::PLAIN;
 use crate::given::Places;
+use crate::given::TO_CHANGES;
 use crate::table;
 use crate::words;
 use crate::words::LIMIT;
@@ -51,9 +53,16 @@ fn asked(words: &[u64; LIMIT], kind: usize, p: Places, g: Given) -> Mark {
 }
 
 // What a call that lists changes answered.
-fn changes(words: &[u64; LIMIT], i: usize, s: Said, indices: &[usize], records: &[f64]) -> Mark {
+fn changes(
+    words: &[u64; LIMIT],
+    i: usize,
+    s: Said,
+    list: Told,
+    indices: &[usize],
+    records: &[f64],
+) -> Mark {
     let m = answers::answer(words, i, s);
-    answers::changes(words, m, s.code == 0, s.m, indices, records)
+    answers::changes(words, m, s.code == 0, list, indices, records)
 }
 
 // A call that lists changes.
@@ -66,11 +75,26 @@ fn listed(words: &[u64; LIMIT], kind: usize, p: Places, g: Given) -> Mark {
     let c = given::lent(words, p.cells, 1, PLAIN, &mut cells);
     let q = given::lent(words, p.points, 1, PLAIN, &mut points);
     let i = given::lent_indices(words, p.changes, &mut indices);
-    let r = given::lent(words, room, 3, BY_EIGHT, &mut records);
-    let mut m: usize = 0;
-    let code = calls::list(kind, g, c, q, i, r, &mut m);
-    let s = said(kind, code, 0, m as u64, false, 0.0, 0.0);
-    changes(words, p.answer, s, i, r)
+    let r = given::lent(words, room, TO_CHANGES, BY_EIGHT, &mut records);
+    let mut m: usize = answers::UNTOLD;
+    let mut e: u32 = answers::UNTOLD as u32;
+    let mut n: u64 = answers::UNTOLD as u64;
+    let code = calls::list(kind, g, c, q, i, r, &mut m, &mut e, &mut n);
+    let list = Told {
+        count: m as u64,
+        edition: e as u64,
+        generation: n,
+    };
+    let s = said(kind, code, 0, 0, false, 0.0, 0.0);
+    changes(words, p.answer, s, list, i, r)
+}
+
+// The generation of a stock before a call that writes it.
+fn generation_before(kind: usize, g: Given) -> u64 {
+    if kind == table::REMOVE_RING {
+        return g.size;
+    }
+    g.generation
 }
 
 // What a call that writes a stock answered. A refusal leaves all as it was given, but for the place that
@@ -99,7 +123,7 @@ fn stock(
     Mark {
         at: k.at,
         ok: k.ok
-            & (done | ((s.n == g.size) & (s.m == g.rings as u64)))
+            & (done | ((s.n == generation_before(kind, g)) & (s.m == g.rings as u64)))
             & answers::numbers_are(words, words::after(p.cells, 1), PLAIN, cells, c_kept)
             & answers::numbers_are(words, words::after(p.rings, 2), PLAIN, rings, r_kept),
     }
@@ -117,8 +141,8 @@ fn changed(words: &[u64; LIMIT], kind: usize, p: Places, g: Given) -> Mark {
     let q = given::lent(words, p.points, 1, PLAIN, &mut points);
     let r = given::lent(words, p.rings, 2, PLAIN, &mut rings);
     let i = given::lent_indices(words, p.changes, &mut indices);
-    let t = given::lent(words, room, 3, BY_EIGHT, &mut records);
-    let mut n = g.size;
+    let t = given::lent(words, room, TO_CHANGES, BY_EIGHT, &mut records);
+    let mut n = generation_before(kind, g);
     let mut m = g.rings;
     let mut position = answers::UNTOLD;
     let code = calls::change(kind, g, c, q, r, i, t, &mut m, &mut n, &mut position);

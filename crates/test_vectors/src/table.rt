@@ -82,17 +82,17 @@ root            00001000 01\
 length          00002000 01\
 validate        60000000 10\
 bin             60010000 02\
-new             60000001 00\
-preview         6N0110N2 00\
-preview_polygon 6N0110N2 00\
-thread_cut      6N003002 00\
-thread_cut_inner6N003002 00\
-drill           6N003002 00\
-changes_to      6N0000N2 00\
-apply           6N010L00 10\
+new             80000001 10\
+preview         8N0110N2 00\
+preview_polygon 8N0110N2 00\
+thread_cut      8N003002 00\
+thread_cut_inner8N003002 00\
+drill           8N003002 00\
+changes_to      8N0000N2 00\
+apply           8N000L00 10\
 remove_ring     60S14000 10\
-apply_move      6NS10LN0 10\
-from_parts      6N0000N1 00\
+apply_move      8NS00LN0 10\
+from_parts      8N0000N1 10\
 volume          6NS00000 02\
 envelope_at     6N001000 12\
 envelope_order  0N000000 10\

@@ -1,16 +1,16 @@
--- What 16 digits say, and that no other digits say it. Assumes nothing.
+-- What 16 digits say, and 8, and that no other digits say it. Assumes nothing.
 use Prim.Native.Nat.{ℕ, zero, suc, _+_, _-_, _*_, _/_, _%_, _^_, _≤_, _<_}
 use native.Mathlib.Omega.{arith}
 use native.Mathlib.Nat.{pow-zero, pow-suc, pow-le-pow-right}
 use native.Mathlib.Numerals.{add-one}
 use mathlib.Core.Path.{_≡_, refl, sym, ap, _∙_, subst}
 use mathlib.Core.Bool.{Bool, true, false, not, _&&_}
-use mathlib.Core.List.{List, [], _∷_, _++_, append-assoc}
+use mathlib.Core.List.{List, [], _∷_, _++_, append-assoc, append-nil}
 use lib.Dec.{T, ltb, eqb}
 use lib.Ieee.{Float, nan, inf, fin, binary64, fits, isNan, toBits, ofBits, ofFields, odd, div}
 use lib.Ieee.Bits.{ofBits-toBits, toBits-ofBits, toBits-lt, ofBits-fits, nanBits-is, nanBits-above}
 use lib.ListN.{length, take, drop, getD, take-append-drop, length-drop, List·getD-eq-default}
-use lib.Seq.{take-suc, getD-at, getD-drop, drop-drop, drop-cons}
+use lib.Seq.{take-suc, take-all, getD-at, getD-drop, drop-drop, drop-cons}
 use borrow.Author.Tests.{ltb-true, ltb-false, eqb-true, eqb-false, lt-ltb, le-ltb, eq-eqb, ne-eqb}
 use Rattle.floats.specs.Pick.{pick, pick-true, pick-false}
 use Rattle.text.proofs.Chosen.{yes, no}
@@ -20,7 +20,9 @@ use Rattle.text.proofs.Spelling.{digits-length, glyph-low, glyph-high}
 use Rattle.text.proofs.Distinct.{quotient}
 use Rattle.text.specs.declared.sixteen.Hex.{Hex}
 use Rattle.text.specs.declared.sixteen.Hex.the-variants.{Of, NoHex}
-use Rattle.text.specs.Hex.{nibbleOf, hexesTo, valueTo, hexAt, fieldOf}
+use Rattle.text.specs.declared.sixteen.Eight.the-variants as eight
+use Rattle.text.specs.declared.Whole.the-variants as whole
+use Rattle.text.specs.Hex.{nibbleOf, hexesTo, valueTo, numberAt, hexAt, fieldOf, eightOf}
 
 -- ---- one digit
 
@@ -192,11 +194,34 @@ unfolding valueTo
 value-more s at i d e = rw (add-one i, e, ← getD-drop at s i 0)
 
 -- at the end of the walk
-pub hexes-end : (s : List ℕ) (i : ℕ) (ok t : Bool) → i ≡ 16 → ok ≡ hexesTo s i → ok ≡ t → hexesTo s 16 ≡ t
-hexes-end s i ok t e f g = ap (hexesTo s) (sym e) ∙ sym f ∙ g
+pub digits-read : (k : ℕ) (s : List ℕ) (i n : ℕ) (ok : Bool) → i ≡ k → ok ≡ hexesTo s i → n ≡ valueTo s i → ok ≡ true → whole.Of n ≡ numberAt k s
+unfolding numberAt
+digits-read k s i n ok e f v g = ap whole.Of (v ∙ ap (valueTo s) e) ∙ sym (pick-true _ _ _ (ap (hexesTo s) (sym e) ∙ sym f ∙ g))
 
-pub value-end : (s : List ℕ) (i n : ℕ) → i ≡ 16 → n ≡ valueTo s i → n ≡ valueTo s 16
-value-end s i n e f = f ∙ ap (valueTo s) e
+pub digits-none : (k : ℕ) (s : List ℕ) (i : ℕ) (ok : Bool) → i ≡ k → ok ≡ hexesTo s i → ok ≡ false → whole.No ≡ numberAt k s
+unfolding numberAt
+digits-none k s i ok e f g = sym (pick-false _ _ _ (ap (hexesTo s) (sym e) ∙ sym f ∙ g))
+
+-- what a number says of its k digits, and what none does
+pub record DigitsOf (k : ℕ) (s : List ℕ) (n : ℕ) : Type 0 where
+  pub hexes : hexesTo s k ≡ true
+  pub value : n ≡ valueTo s k
+
+pub number-spelled : (k : ℕ) (s : List ℕ) (n : ℕ) → numberAt k s ≡ whole.Of n → DigitsOf k s n
+unfolding numberAt
+number-spelled k s n e = by (hexesTo s k) refl
+  where
+    by : (t : Bool) → hexesTo s k ≡ t → DigitsOf k s n
+    by true f = let g : whole.Of (valueTo s k) ≡ whole.Of n = sym (pick-true _ _ _ f) ∙ e in record { hexes = f; value = cc }
+    by false f = let g : whole.No ≡ whole.Of n = sym (pick-false _ _ _ f) ∙ e in let z : _≡_ {A = ℕ} 0 1 = cc in absurd (omega arith)
+
+pub number-none : (k : ℕ) (s : List ℕ) → numberAt k s ≡ whole.No → hexesTo s k ≡ false
+unfolding numberAt
+number-none k s e = by (hexesTo s k) refl
+  where
+    by : (t : Bool) → hexesTo s k ≡ t → hexesTo s k ≡ false
+    by false f = f
+    by true f = let g : whole.Of (valueTo s k) ≡ whole.No = sym (pick-true _ _ _ f) ∙ e in let z : _≡_ {A = ℕ} 0 1 = cc in absurd (omega arith)
 
 -- a digit more has room
 pub value-room : (s : List ℕ) (i : ℕ) → i < 16 → valueTo s i < 1152921504606846976
@@ -374,3 +399,53 @@ field-text s x e n =
     a
     ∙ ap (λ (y : ℕ). y ∷ drop 1 s) b
     ∙ ap (λ (y : List ℕ). 9 ∷ y) (c ∙ ap (λ (y : List ℕ). y ++ drop 16 (drop 1 s)) d ∙ ap (λ (y : List ℕ). hexOf x ++ y) f)
+
+-- ---- eight digits
+
+pub eight-other : (s : List ℕ) → (length s ≡ 8 → ⊥) → eight.NoEight ≡ eightOf s
+unfolding eightOf
+eight-other s h = sym (pick-false _ _ _ (ne-eqb _ _ h))
+
+pub eight-none : (s : List ℕ) → length s ≡ 8 → hexesTo s 8 ≡ false → eight.NoEight ≡ eightOf s
+unfolding eightOf
+eight-none s h e = sym (pick-true _ _ _ (eq-eqb _ _ h) ∙ pick-false _ _ _ e)
+
+pub eight-of : (s : List ℕ) (n : ℕ) → length s ≡ 8 → DigitsOf 8 s n → eight.Of n ≡ eightOf s
+unfolding eightOf
+eight-of s n h w = ap eight.Of (w .value) ∙ sym (pick-true _ _ _ (eq-eqb _ _ h) ∙ pick-true _ _ _ (w .hexes))
+
+pub eight-small : (s : List ℕ) → valueTo s 8 < 4294967296
+eight-small s = value-lt 8 s
+
+-- eight-reads-back: what is spelled reads as the same number
+pub eight-reads-back : (n : ℕ) → n < 4294967296 → eightOf (digits 16 8 n) ≡ eight.Of n
+eight-reads-back n h =
+    let s : List ℕ = digits 16 8 n in
+    let e : hexesTo s 8 ≡ true = ap (λ (x : List ℕ). hexesTo x 8) (sym (append-nil s)) ∙ spelled-hexes 8 n [] in
+    let v : valueTo s 8 ≡ n = ap (λ (x : List ℕ). valueTo x 8) (sym (append-nil s)) ∙ spelled-value 8 n [] h in
+    sym (eight-of s n (digits-length 16 8 n) (record { hexes = e; value = sym v }))
+
+-- What is read of 8 bytes: a number below 2^32, spelled there.
+pub record EightDigits (s : List ℕ) (n : ℕ) : Type 0 where
+  pub small : n < 4294967296
+  pub text : s ≡ digits 16 8 n
+
+-- eight-unique: what reads as n is the spelling of n
+pub eight-unique : (s : List ℕ) (n : ℕ) → eightOf s ≡ eight.Of n → EightDigits s n
+eight-unique s n e = by (eqb (length s) 8) refl (hexesTo s 8) refl
+  where
+    never : eight.NoEight ≡ eightOf s → EightDigits s n
+    never f = let g : eight.NoEight ≡ eight.Of n = f ∙ e in let z : _≡_ {A = ℕ} 0 1 = cc in absurd (omega arith)
+
+    by : (t : Bool) → eqb (length s) 8 ≡ t → (u : Bool) → hexesTo s 8 ≡ u → EightDigits s n
+    by false f u g = never (eight-other s (eqb-false _ _ f))
+    by true f false g = never (eight-none s (eqb-true _ _ f) g)
+    by true f true g =
+        let l : length s ≡ 8 = eqb-true _ _ f in
+        let w : DigitsOf 8 s (valueTo s 8) = record { hexes = g; value = refl } in
+        let o : eight.Of (valueTo s 8) ≡ eight.Of n = eight-of s (valueTo s 8) l w ∙ e in
+        let v : valueTo s 8 ≡ n = cc in
+        record {
+          small = omega (arith, eight-small s);
+          text = sym (take-all 8 s (omega arith)) ∙ value-spells 8 s g ∙ ap (digits 16 8) v;
+        }

@@ -1,12 +1,16 @@
--- A float as 16 hexadecimal digits of its bits. Assumes nothing.
+-- A float as 16 hexadecimal digits of its bits, and a number of 32 bits as 8. Assumes nothing.
 use Prim.Native.Nat.{ℕ, zero, suc, _+_, _*_, _-_, _%_}
 use mathlib.Core.Bool.{Bool, true, _&&_}
 use mathlib.Core.List.{List}
 use lib.Dec.{ltb, eqb}
-use lib.ListN.{getD, drop}
+use lib.ListN.{length, getD, drop}
 use lib.Ieee.{binary64, ofBits}
 use Rattle.text.specs.declared.sixteen.Hex.{Hex}
 use Rattle.text.specs.declared.sixteen.Hex.the-variants.{Of, NoHex}
+use Rattle.text.specs.declared.sixteen.Eight.{Eight}
+use Rattle.text.specs.declared.sixteen.Eight.the-variants as eight
+use Rattle.text.specs.declared.Whole.{Whole}
+use Rattle.text.specs.declared.Whole.the-variants as whole
 use Rattle.floats.specs.Pick.{pick}
 
 -- the value of a digit, `0` to `9` and `A` to `F`, and 16 for any other byte
@@ -23,6 +27,10 @@ unfoldable pub valueTo : List ℕ → ℕ → ℕ
 valueTo s zero = 0
 valueTo s (suc k) = valueTo s k * 16 + nibbleOf (getD s k 0) % 16
 
+-- the first k bytes as a number: none where one is no digit
+unfoldable pub numberAt : ℕ → List ℕ → Whole
+numberAt k s = pick (hexesTo s k) (whole.Of (valueTo s k)) whole.No
+
 -- the first 16 bytes as a float: none where one is no digit, nor for -0.0
 unfoldable pub hexAt : List ℕ → Hex
 hexAt s = pick (hexesTo s 16) (pick (eqb (valueTo s 16) 0x8000000000000000) NoHex (Of (ofBits binary64 (valueTo s 16)))) NoHex
@@ -30,3 +38,7 @@ hexAt s = pick (hexesTo s 16) (pick (eqb (valueTo s 16) 0x8000000000000000) NoHe
 -- a tab and then 16 digits
 unfoldable pub fieldOf : List ℕ → Hex
 fieldOf s = pick (eqb (getD s 0 0) 9) (hexAt (drop 1 s)) NoHex
+
+-- 8 digits and nothing else
+unfoldable pub eightOf : List ℕ → Eight
+eightOf s = pick (eqb (length s) 8) (pick (hexesTo s 8) (eight.Of (valueTo s 8)) eight.NoEight) eight.NoEight

@@ -91,14 +91,29 @@ pub fn put(out: &mut [u8; LINE_ROOM], at: usize, s: &[u8]) -> usize
     o
 }
 
+// The last k digits of n.
+fn put_based(out: &mut [u8; LINE_ROOM], at: usize, base: u64, k: usize, n: u64) -> usize
+    requires { ⌜ (2 ≤ base) × (base ≤ 16) ⌝ }
+    ensures { λ r. ⌜ PutsIn out at (digits base k n) r ⌝ }
+{
+    if has_room(at, k) {
+        return spell(out, at, base, k, n);
+    }
+    at
+}
+
 // The last k decimal digits of n.
 pub fn put_digits(out: &mut [u8; LINE_ROOM], at: usize, k: usize, n: u64) -> usize
     ensures { λ r. ⌜ PutsIn out at (digits 10 k n) r ⌝ }
 {
-    if has_room(at, k) {
-        return spell(out, at, 10, k, n);
-    }
-    at
+    put_based(out, at, 10, k, n)
+}
+
+// The 8 hexadecimal digits of n.
+pub fn put_eight(out: &mut [u8; LINE_ROOM], at: usize, n: u32) -> usize
+    ensures { λ r. ⌜ PutsIn out at (digits 16 8 n) r ⌝ }
+{
+    put_based(out, at, 16, 8, n as u64)
 }
 
 // A number in decimal, with no leading zeros.

@@ -1,7 +1,7 @@
 // Text in bytes: parts and numbers read, words and numbers put into a lent buffer.
 //
 // What is read is parted at a byte, a line at its tabs and a file at its newlines; a whole number is in
-// decimal, and an f64 in the 16 hexadecimal digits of its bits (`sixteen`). A line is put together in a
+// decimal, an f64 in the 16 hexadecimal digits of its bits, and an edition in 8 (`sixteen`). A line is put together in a
 // buffer of 128 bytes, each text whole or not at all (`digits`); what is for a person goes into any
 // buffer as far as there is room (`plain`).
 mod digits;
@@ -12,6 +12,7 @@ pub use digits::LINE_ROOM;
 pub use digits::put;
 pub use digits::put_decimal;
 pub use digits::put_digits;
+pub use digits::put_eight;
 pub use digits::put_four;
 pub use digits::put_hex;
 pub use digits::ring_line;
@@ -19,8 +20,10 @@ pub use plain::front;
 pub use plain::put_count;
 pub use plain::put_millimetres;
 pub use plain::put_text;
+pub use sixteen::Eight;
 pub use sixteen::Hex;
 pub use sixteen::float;
+pub use sixteen::read_eight;
 pub use sixteen::read_hex;
 ghost use mathlib.Core.Path.{_≡_};
 ghost use mathlib.Core.List.{[]};

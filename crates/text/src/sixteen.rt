@@ -1,16 +1,24 @@
-// Sixteen hexadecimal digits in capitals, read as the f64 whose bits they spell.
+// Hexadecimal digits in capitals: sixteen, read as the f64 whose bits they spell, and eight, read as a
+// number of 32 bits.
 //
 // Every pattern of a NaN reads as one; the digits of -0.0 read as no number.
 ghost use mathlib.Core.Path.{_≡_};
 ghost use Prim.Native.Nat.{_+_, _≤_};
 ghost use lib.ListN.{length, drop};
 ghost use lib.Ieee.{ofBits, binary64};
-ghost use Rattle.text.specs.Hex.{nibbleOf, hexAt, fieldOf};
+ghost use Rattle.text.specs.Hex.{nibbleOf, numberAt, hexAt, fieldOf, eightOf};
+use crate::Whole;
 
 // What 16 digits say.
 pub enum Hex {
     Of(f64),
     NoHex,
+}
+
+// What 8 digits say.
+pub enum Eight {
+    Of(u32),
+    NoEight,
 }
 
 // The bits of -0.0.
@@ -45,27 +53,38 @@ pub fn float(bits: u64) -> f64
     0.0 / 0.0
 }
 
-// The 16 digits from a place on.
-fn digits_at(s: &[u8], at: usize) -> Hex
-    requires { ⌜ at + 16 ≤ length (now s) ⌝ }
-    ensures { λ r. ⌜ r ≡ hexAt (drop at (now (s .entry))) ⌝ }
+// The k digits from a place on.
+fn digits_at(s: &[u8], at: usize, k: usize) -> Whole
+    requires { ⌜ (k ≤ 16) × (at + k ≤ length (now s)) ⌝ }
+    ensures { λ r. ⌜ r ≡ numberAt k (drop at (now (s .entry))) ⌝ }
 {
     let mut ok = true;
     let mut n: u64 = 0;
     let mut i: usize = 0;
-    while i < 16 {
+    while i < k {
         let d = nibble(s[at + i]);
         ok = ok & (d < 16);
         n = n * 16 + d % 16;
         i += 1;
     }
     if ok {
-        if n == MINUS_ZERO_BITS {
-            return Hex::NoHex;
-        }
-        return Hex::Of(float(n));
+        return Whole::Of(n);
     }
-    Hex::NoHex
+    Whole::No
+}
+
+// The 16 digits from a place on.
+fn hex_at(s: &[u8], at: usize) -> Hex
+    requires { ⌜ at + 16 ≤ length (now s) ⌝ }
+    ensures { λ r. ⌜ r ≡ hexAt (drop at (now (s .entry))) ⌝ }
+{
+    let Whole::Of(n) = digits_at(s, at, 16) else {
+        return Hex::NoHex;
+    };
+    if n == MINUS_ZERO_BITS {
+        return Hex::NoHex;
+    }
+    Hex::Of(float(n))
 }
 
 // A tab and the 16 digits behind it, from a place on.
@@ -80,7 +99,20 @@ pub fn read_hex(s: &[u8], at: usize) -> Hex
         return Hex::NoHex;
     }
     if s[at] == b'\t' {
-        return digits_at(s, at + 1);
+        return hex_at(s, at + 1);
     }
     Hex::NoHex
+}
+
+// Eight digits and nothing else.
+pub fn read_eight(s: &[u8]) -> Eight
+    ensures { λ r. ⌜ r ≡ eightOf (now (s .entry)) ⌝ }
+{
+    if s.len() != 8 {
+        return Eight::NoEight;
+    }
+    let Whole::Of(n) = digits_at(s, 0, 8) else {
+        return Eight::NoEight;
+    };
+    Eight::Of(n as u32)
 }

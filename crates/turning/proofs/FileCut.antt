@@ -2,9 +2,9 @@
 use mathlib.Core.Path.{_≡_, refl, sym, ap, _∙_, subst}
 use mathlib.Core.Bool.{Bool, true, false, not}
 use mathlib.Core.List.{List, [], _∷_, _++_}
-use Prim.Native.Nat.{ℕ, _≤_, _<_, min}
+use Prim.Native.Nat.{ℕ, _≤_, _<_, min, _^_, _%_}
 use native.Mathlib.Omega.{arith}
-use native.Mathlib.Nat.{min-le-right}
+use native.Mathlib.Nat.{min-le-right, mod-eq-of-lt, mod-lt}
 use lib.Dec.{eqb, ltb}
 use lib.ListN.{length, drop, getD, take}
 use lib.Seq.{sets-eq, length-sets, length-take-le}
@@ -16,16 +16,24 @@ use Rattle.refusals.specs.Paper.{Paper}
 use Rattle.refusals.proofs.Written.{length-over}
 use Rattle.lines.specs.File.{joined, piecesOf, overPieces}
 use Rattle.lines.specs.File as file
-use Rattle.lines.specs.Hands.{Hand, hand, takes, inTurn}
+use Rattle.text.proofs.Chosen.{yes, no}
+use Rattle.lines.specs.Hands.{Hand, hand, byteOn, takes, inTurn}
 use Rattle.lines.proofs.Parts.{stopped-takes}
 use Rattle.lines.proofs.AnyCut.{any-cut}
 use Rattle.stock_lines.specs.declared.Reading.{Reading}
 use Rattle.stock_lines.specs.Form.{barNumbers}
-use Rattle.stock_lines.specs.Reading.{State, state, refusing, onLine}
+use Rattle.stock_lines.specs.declared.form.First.{First}
+use Rattle.stock_lines.specs.declared.form.First.the-variants.{Says, NoFirst}
+use Rattle.stock_lines.specs.declared.room.Took.{Took}
+use Rattle.stock_lines.specs.declared.room.Took.the-variants.{Cell, Ring, End, NoLine}
+use Rattle.stock_lines.specs.First.{firstOf, CanSay, one, two}
+use Rattle.stock_lines.specs.Reading.{State, state, refusing, begun, onwardTo, went, onBody, onLine}
+use Rattle.stock_lines.proofs.Firsts.{first-spelled}
 use Rattle.stock_file.specs.Read.{freshReading, stopped, onLong, onEnd, heldIn, ended, Stocked, toldAs, fileIn, readOf}
 use Rattle.stock_file.proofs.Cut.{long-stops, takes-few, found-again, end-is}
 use Rattle.stock_file.proofs.AnyBar.{fresh, any-bar}
 use Rattle.turning.specs.JobCalls.{Flat}
+use Rattle.turning.specs.Jobs.{wordAt}
 use Rattle.turning.specs.Files.{refusedIn, heldFrom, barIn, readingFrom, wordsOf, takingIn, putInto, afterPart, TakesFile, toldFrom}
 use Rattle.turning.specs.FileCalls.{TookFile, start, part}
 
@@ -49,16 +57,16 @@ refused-again true = ap (λ (n : ℕ). not (eqb n 0)) (pick-true true 16 0 refl)
 refused-again false = ap (λ (n : ℕ). not (eqb n 0)) (pick-false false 16 0 refl)
 
 module _ (f : Flat) (s : Sized f) (h : Hand State) where
-  words-are : putInto f h .words ≡ wordsOf (h .job .reading) (length (h .held)) ++ drop 7 (f .words)
+  words-are : putInto f h .words ≡ wordsOf (h .job .reading) (length (h .held)) ++ drop 8 (f .words)
   words-are = sets-eq (wordsOf (h .job .reading) (length (h .held))) (f .words) 0 (omega (arith, s .words))
 
   bar-is : putInto f h .bar ≡ barNumbers (h .job .reading .bar) ++ drop 5 (f .bar)
   bar-is = sets-eq (barNumbers (h .job .reading .bar)) (f .bar) 0 (omega (arith, s .bar))
 
-  reading-is : readingFrom (putInto f h .words) (putInto f h .bar) ≡ h .job .reading
-  reading-is =
+  reading-is : h .job .reading .edition < 2 ^ 32 → readingFrom (putInto f h .words) (putInto f h .bar) ≡ h .job .reading
+  reading-is w =
       (λ j. readingFrom (words-are j) (bar-is j))
-      ∙ (λ j. record { stage = h .job .reading .stage; form = h .job .reading .form; bar = h .job .reading .bar; cells = h .job .reading .cells; rings = h .job .reading .rings; lines = h .job .reading .lines; refused = refused-again (h .job .reading .refused) j })
+      ∙ (λ j. record { stage = h .job .reading .stage; form = h .job .reading .form; edition = mod-eq-of-lt w j; bar = h .job .reading .bar; cells = h .job .reading .cells; rings = h .job .reading .rings; lines = h .job .reading .lines; refused = refused-again (h .job .reading .refused) j })
 
   held-is : length (h .held) ≤ 127 → heldIn (heldFrom (putInto f h .words)) (putInto f h .line) ≡ h .held
   held-is w = found-again (h .held) (f .line) _ w (ap heldFrom words-are)
@@ -69,6 +77,48 @@ module _ (f : Flat) (s : Sized f) (h : Hand State) where
     bar = length-sets (f .bar) 0 (barNumbers (h .job .reading .bar)) ∙ s .bar;
     line = length-over (h .held) (f .line) (omega (arith, s .line)) ∙ s .line;
   }
+
+-- ---- an edition is a number of 32 bits
+
+begun-small : (r : Reading) (s : List ℕ) (a : First) → firstOf s ≡ a → r .edition < 2 ^ 32 → begun r a .edition < 2 ^ 32
+unfolding begun refusing
+begun-small r s (Says k e b) h w = by (first-spelled s k e b h .says)
+  where
+    by : {k e : ℕ} → CanSay k e → e < 2 ^ 32
+    by one = omega arith
+    by (two v) = v
+begun-small r s NoFirst h w = w
+
+went-small : (r : Reading) (t : Took) → r .edition < 2 ^ 32 → went r t .edition < 2 ^ 32
+unfolding went onwardTo refusing
+went-small r Cell w = w
+went-small r Ring w = w
+went-small r End w = w
+went-small r NoLine w = w
+
+line-small : (st : State) (s : List ℕ) → st .reading .edition < 2 ^ 32 → onLine st s .reading .edition < 2 ^ 32
+unfolding onLine onBody refusing
+line-small st s w = by (eqb (st .reading .stage) 0) refl (eqb (st .reading .stage) 1) refl
+  where
+    by : (t : Bool) → eqb (st .reading .stage) 0 ≡ t → (u : Bool) → eqb (st .reading .stage) 1 ≡ u → onLine st s .reading .edition < 2 ^ 32
+    by true e u f = simp (e, yes) (begun-small (st .reading) s (firstOf s) refl w)
+    by false e true f = simp (e, f, no, yes) (went-small (st .reading) _ w)
+    by false e false f = simp (e, f, no) w
+
+byte-small : (j : Hand State) (b : ℕ) → j .job .reading .edition < 2 ^ 32 → byteOn stopped onLine onLong j b .job .reading .edition < 2 ^ 32
+unfolding byteOn refusing
+byte-small j b w = by (stopped (j .job)) refl (eqb b 10) refl (ltb (length (j .held)) 127) refl
+  where
+    by : (t : Bool) → stopped (j .job) ≡ t → (u : Bool) → eqb b 10 ≡ u → (v : Bool) → ltb (length (j .held)) 127 ≡ v → byteOn stopped onLine onLong j b .job .reading .edition < 2 ^ 32
+    by true e u f v g = simp (e, yes) w
+    by false e true f v g = simp (e, f, no, yes) (line-small (j .job) (j .held) w)
+    by false e false f true g = simp (e, f, g, no, yes) w
+    by false e false f false g = simp (e, f, g, no) w
+
+takes-small : (s : List ℕ) (j : Hand State) → j .job .reading .edition < 2 ^ 32 → takes stopped onLine onLong j s .job .reading .edition < 2 ^ 32
+unfolding takes
+takes-small [] j w = w
+takes-small (b ∷ s) j w = takes-small s (byteOn stopped onLine onLong j b) (byte-small j b w)
 
 -- a part taken
 record Next (f g : Flat) (p : List ℕ) : Type 0 where
@@ -84,8 +134,9 @@ next-is f p s = by (refusedIn (f .words)) refl
     by false e =
         let h : Hand State = takingIn f p in
         let w : length (h .held) ≤ 127 = takes-few p (inFile f) (few-held f (s .line)) in
+        let small : h .job .reading .edition < 2 ^ 32 = takes-small p (inFile f) (mod-lt (wordAt (f .words) 7) {m = 2 ^ 32} (omega arith)) in
         subst (λ (g : Flat). Next f g p) (sym (pick-false _ _ _ e))
-        (record { sized = put-sized f s h w; same = λ j. hand (state (reading-is f s h j) (h .job .cells) (h .job .rings)) (held-is f s h w j) })
+        (record { sized = put-sized f s h w; same = λ j. hand (state (reading-is f s h small j) (h .job .cells) (h .job .rings)) (held-is f s h w j) })
 
 record Parts (f k : Flat) (ps : List (List ℕ)) : Type 0 where
   sized : Sized k

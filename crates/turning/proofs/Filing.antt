@@ -8,8 +8,10 @@ use lib.Seq.{sets}
 use lib.Ieee.{Float}
 use Rattle.floats.specs.Pick.{pick, pick-true, pick-false}
 use Rattle.refusals.specs.Lent.{over}
+use Rattle.refusals.specs.declared.Refusal.{Refusal}
+use Rattle.refusals.specs.Number.{numberOf, reasonOf, reasonAt}
 use Rattle.refusals.specs.Paper.{Paper, answers, refuses}
-use Rattle.stock.specs.declared.TurnStockSpec.{TurnStockSpec}
+use Rattle.stock.specs.declared.TurnStock.{TurnStock}
 use Rattle.lines.specs.Hands.{Hand}
 use Rattle.lines.proofs.Parts.{stopped-takes}
 use Rattle.stock_lines.specs.declared.Reading.{Reading}
@@ -18,33 +20,38 @@ use Rattle.stock_lines.specs.Reading.{State, state, onLine}
 use Rattle.stock_file.specs.declared.written.Spelled.{Spelled}
 use Rattle.stock_file.specs.Read.{stopped, onLong, heldIn, taking, ended, toldAs, Stocked}
 use Rattle.stock_file.specs.Write.{linePaper, lengthOf, lineOver, WroteFileLine}
-use Rattle.turning.specs.Boundary.{codeOf, outOf, placeOut, Gives, GivesTwoPlace}
+use Rattle.turning.specs.Boundary.{editionIn, codeOf, outOf, Gives}
 use Rattle.turning.specs.Jobs.{wordAt}
 use Rattle.turning.specs.JobCalls.{Flat}
-use Rattle.turning.specs.Files.{refusedIn, heldFrom, barIn, readingFrom, wordsOf, KeptReading, takingIn, putInto, afterPart, TakesFile, flatOf, toldFrom, GivesFileLine}
+use Rattle.turning.specs.Files.{refusedIn, heldFrom, barIn, readingFrom, wordsOf, KeptReading, takingIn, putInto, afterPart, TakesFile, flatOf, toldFrom, GivesKept, GivesFileLine}
 
 -- the reading that the words and the bar are
-pub reading-is : (ws : List ℕ) (bar : List Float) (t : Bool) → t ≡ refusedIn ws
-    → _≡_ {A = Reading} (record { stage = wordAt ws 0; form = wordAt ws 6; bar = barIn bar; cells = wordAt ws 1; rings = wordAt ws 2; lines = wordAt ws 3; refused = t }) (readingFrom ws bar)
-reading-is ws bar t e = ap (λ (x : Bool). record { stage = wordAt ws 0; form = wordAt ws 6; bar = barIn bar; cells = wordAt ws 1; rings = wordAt ws 2; lines = wordAt ws 3; refused = x }) e
+pub reading-is : (ws : List ℕ) (bar : List Float) (t : Bool) (e : ℕ) → t ≡ refusedIn ws → e ≡ editionIn (wordAt ws 7)
+    → _≡_ {A = Reading} (record { stage = wordAt ws 0; form = wordAt ws 6; edition = e; bar = barIn bar; cells = wordAt ws 1; rings = wordAt ws 2; lines = wordAt ws 3; refused = t }) (readingFrom ws bar)
+reading-is ws bar t e et ee = λ i. record { stage = wordAt ws 0; form = wordAt ws 6; edition = ee i; bar = barIn bar; cells = wordAt ws 1; rings = wordAt ws 2; lines = wordAt ws 3; refused = et i }
 
 -- put into them
 pub kept-reading : (r : Reading) (n : ℕ) (ws : List ℕ) (bar : List Float) (v : ℕ) → v ≡ pick (r .refused) 16 0
-    → KeptReading r n ws (sets ws 0 (r .stage ∷ r .cells ∷ r .rings ∷ r .lines ∷ n ∷ v ∷ r .form ∷ [])) bar (sets bar 0 (barNumbers (r .bar)))
-kept-reading r n ws bar v e = record { words = ap (λ (x : ℕ). sets ws 0 (r .stage ∷ r .cells ∷ r .rings ∷ r .lines ∷ n ∷ x ∷ r .form ∷ [])) e; numbers = refl }
+    → KeptReading r n ws (sets ws 0 (r .stage ∷ r .cells ∷ r .rings ∷ r .lines ∷ n ∷ v ∷ r .form ∷ r .edition ∷ [])) bar (sets bar 0 (barNumbers (r .bar)))
+kept-reading r n ws bar v e = record { words = ap (λ (x : ℕ). sets ws 0 (r .stage ∷ r .cells ∷ r .rings ∷ r .lines ∷ n ∷ x ∷ r .form ∷ r .edition ∷ [])) e; numbers = refl }
+
+-- what the end hands out, case by case
+pub kept-given : (p : Paper Stocked) (s : Stocked) (n m e l : ℕ) → p ≡ answers s → GivesKept p 0 n (s .cells) m (s .stock .rings) e (s .stock .stamp .edition) l l
+kept-given p s n m e l h = rw h (record { code = refl; cells = refl; rings = refl; edition = refl; line = refl })
+
+pub kept-refused : (p : Paper Stocked) (c : Refusal) (r n m e l : ℕ) → p ≡ refuses (reasonOf c) → r ≡ numberOf c → GivesKept p r n n m m e e l l
+kept-refused p c r n m e l h q = rw h (record { code = q; cells = refl; rings = refl; edition = refl; line = refl })
+
+pub kept-refused-at : (p : Paper Stocked) (c : Refusal) (k r n m e l : ℕ) → p ≡ refuses (reasonAt c k) → r ≡ numberOf c → GivesKept p r n n m m e e l k
+kept-refused-at p c k r n m e l h q = rw h (record { code = q; cells = refl; rings = refl; edition = refl; line = refl })
 
 -- an answer that says what the rule says
-pub gives-two-place : {A B C : Type 0} (f : A → B) (h : A → C) (p q : Paper A) (r : ℕ) (x x' : B) (y y' : C) (k k' : ℕ) → p ≡ q → GivesTwoPlace f h p r x x' y y' k k' → GivesTwoPlace f h q r x x' y y' k k'
-gives-two-place f h p q r x x' y y' k k' e g = subst (λ z. GivesTwoPlace f h z r x x' y y' k k') e g
-
--- a stock
-pub two-told : {A B C : Type 0} (f : A → B) (g : A → C) (p : Paper A) (a : A) (x : B) (y : C) (k : ℕ) → p ≡ answers a → GivesTwoPlace f g p 0 x (f a) y (g a) k k
-two-told {A} f g p a x y k e =
-    record { code = ap codeOf (sym e); one = ap (λ (q : Paper A). outOf f q x) (sym e); other = ap (λ (q : Paper A). outOf g q y) (sym e); position = ap (λ (q : Paper A). placeOut q k) (sym e) }
+pub gives-kept : (p q : Paper Stocked) (r n n' m m' e e' l l' : ℕ) → p ≡ q → GivesKept p r n n' m m' e e' l l' → GivesKept q r n n' m m' e e' l l'
+gives-kept p q r n n' m m' e e' l l' h g = subst (λ (x : Paper Stocked). GivesKept x r n n' m m' e e' l l') h g
 
 -- a line of the file of a stock
-pub same-file-line : (s s' : TurnStockSpec) (f : TurnStockSpec → Paper (List ℕ)) (a : Spelled) (l l' : List ℕ) → s ≡ s' → WroteFileLine l (f s) a l' → WroteFileLine l (f s') a l'
-same-file-line s s' f a l l' e q = subst (λ (x : TurnStockSpec). WroteFileLine l (f x) a l') e q
+pub same-file-line : (s s' : TurnStock) (f : TurnStock → Paper (List ℕ)) (a : Spelled) (l l' : List ℕ) → s ≡ s' → WroteFileLine l (f s) a l' → WroteFileLine l (f s') a l'
+same-file-line s s' f a l l' e q = subst (λ (x : TurnStock). WroteFileLine l (f x) a l') e q
 
 pub gives-file-line : (p : Paper (List ℕ)) (a : Spelled) (r n n' : ℕ) (l l' : List ℕ) → Gives (linePaper a) r n n' → WroteFileLine l p a l' → GivesFileLine p r n n' l l'
 gives-file-line p a r n n' l l' g w = record {

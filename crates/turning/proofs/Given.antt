@@ -11,6 +11,7 @@ use Rattle.refusals.specs.declared.Refusal.{Refusal}
 use Rattle.refusals.specs.Number.{numberOf, reasonOf, reasonAt}
 use Rattle.refusals.specs.Paper.{Paper, answers, refuses, only, onward}
 use Rattle.stock.specs.declared.TurnStockSpec.{TurnStockSpec}
+use Rattle.stock.specs.declared.Stamp.{Stamp}
 use Rattle.stock.specs.declared.TurnStock.{TurnStock}
 use Rattle.stock.specs.declared.TurnChange.{TurnChange}
 use Rattle.stock.specs.declared.Made.{Made}
@@ -18,11 +19,15 @@ use Rattle.stock.specs.declared.ZRange.{ZRange}
 use Rattle.stock.specs.declared.TurnSide.{TurnSide}
 use Rattle.stock.specs.declared.TurnSide.the-variants.{Outer, Inner}
 use Rattle.stock.specs.Cell.{newOf, stockOf}
-use Rattle.stock.specs.Stock.{madePaper, stockMade, Filled}
+use Rattle.stock.specs.Stock.{stockFrom, madePaper, stockMade, Filled}
+use Rattle.changes.specs.declared.Tally.the-variants as tally
+use Rattle.changes.specs.declared.ChangeList.{ChangeList}
 use Rattle.changes.specs.declared.Previewed.{Previewed}
-use Rattle.changes.specs.Change.{countOf, previewedPaper, Proposed}
+use Rattle.changes.specs.declared.Previewed.the-variants as previewed
+use Rattle.changes.specs.Change.{previewedPaper, Proposed}
+use Rattle.changes.proofs.Proposals.{left, as-list}
 use Rattle.changes.specs.declared.Applied.{Applied}
-use Rattle.changes.specs.Commit.{Committed, appliedPaper, generationOf, applyOf, Applies}
+use Rattle.changes.specs.Commit.{Committed, appliedPaper, generationOf, stockAt, applyOf, Applies}
 use Rattle.changes.specs.Difference.{differenceOf}
 use Rattle.cuts.specs.declared.Cut.{Cut}
 use Rattle.cuts.specs.Preview.{previewCut}
@@ -37,7 +42,7 @@ use Rattle.moves.specs.declared.Moved.{Moved}
 use Rattle.moves.specs.Move as Move
 use Rattle.moves.specs.declared.Rebuilt.{Rebuilt}
 use Rattle.moves.specs.Move.{Left, movedPaper, Moves, stockStored, rebuiltPaper, Rebuilds}
-use Rattle.turning.specs.Boundary.{codeOf, outOf, placeOut, Gives, GivesPlace, GivesBin, GivesCells, GivesChanges, GivesStock, bySide, GivesTwo, GivesTwoPlace, ringsIn, GivesRings, GivesMove, GivesStore, GivesChords, GivesFound, GivesFoundTwo}
+use Rattle.turning.specs.Boundary.{codeOf, outOf, placeOut, Gives, GivesPlace, GivesBin, GivesCells, GivesList, GivesChanges, GivesStock, bySide, GivesTwo, GivesTwoPlace, generationIn, GivesRings, GivesMove, GivesStore, GivesChords, GivesFound, GivesFoundTwo}
 
 -- a refusal hands out its number and nothing else, whatever its number is
 pub gives-refused : {A : Type 0} (p : Paper A) (c : Refusal) (r : ℕ) (x : A) → p ≡ refuses (reasonOf c) → r ≡ numberOf c → Gives p r x x
@@ -63,6 +68,13 @@ module _ {A B C : Type 0} (f : A → B) (g : A → C) where
   two-given p c j r x y k e h =
       record { code = h ∙ ap codeOf (sym e); one = ap (λ (q : Paper A). outOf f q x) (sym e); other = ap (λ (q : Paper A). outOf g q y) (sym e); position = ap (λ (q : Paper A). placeOut q k) (sym e) }
 
+-- a list that is answered hands out its count and its stamp, a refusal its number alone
+pub list-given : (p : Paper ChangeList) (l : ChangeList) (k e g : ℕ) → p ≡ answers l → GivesList p 0 k (l .count) e (l .stamp .edition) g (l .stamp .generation)
+list-given p l k e g h = rw h (record { code = refl; count = refl; edition = refl; generation = refl })
+
+pub list-refused : (p : Paper ChangeList) (c : Refusal) (r k e g : ℕ) → p ≡ refuses (reasonOf c) → r ≡ numberOf c → GivesList p r k k e e g g
+list-refused p c r k e g h n = rw h (record { code = n; count = refl; edition = refl; generation = refl })
+
 -- an answer that says what the rule says
 pub gives : {A : Type 0} (p q : Paper A) (r : ℕ) (x x' : A) → p ≡ q → Gives p r x x' → Gives q r x x'
 gives p q r x x' e g = subst (λ z. Gives z r x x') e g
@@ -70,46 +82,45 @@ gives p q r x x' e g = subst (λ z. Gives z r x x') e g
 pub gives-bin : (p q : Paper ZRange) (r : ℕ) (za za' zb zb' : Float) → p ≡ q → GivesBin p r za za' zb zb' → GivesBin q r za za' zb zb'
 gives-bin p q r za za' zb zb' e g = subst (λ z. GivesBin z r za za' zb zb') e g
 
-pub gives-cells : (spec : TurnStockSpec) (a : Made) (r : ℕ) (cs cs' : List Float) → r ≡ codeOf (madePaper a) → Filled spec a cs cs' → GivesCells spec (newOf spec (length cs)) r cs cs'
-gives-cells spec a r cs cs' e f = record { code = e ∙ ap codeOf (f .answer) ∙ same-code (newOf spec (length cs)); cells = f .cells }
+pub gives-cells : (spec : TurnStockSpec) (edition : ℕ) (a : Made) (r : ℕ) (cs cs' : List Float) (g g' : ℕ) → Gives (generationIn (madePaper a)) r g g' → Filled spec edition a cs cs' → GivesCells spec (newOf spec (length cs)) r cs cs' g g'
+gives-cells spec edition a r cs cs' g g' h f = record {
+  code = h .code ∙ ap (λ (z : Paper TurnStock). codeOf (generationIn z)) (f .answer) ∙ same-code (newOf spec (length cs));
+  cells = f .cells;
+  generation = h .out ∙ ap (λ (z : Paper TurnStock). outOf (λ (n : ℕ). n) (generationIn z) g) (f .answer) ∙ same-generation (newOf spec (length cs));
+}
   where
-    same-code : (p : Paper ℕ) → codeOf (stockMade spec p) ≡ codeOf p
+    same-code : (p : Paper ℕ) → codeOf (generationIn (stockMade spec edition p)) ≡ codeOf p
     same-code (answers n) = refl
     same-code (refuses n) = refl
 
-pub gives-changes : (p : Paper (List TurnChange)) (a : Previewed) (r k k' : ℕ) (is is' : List ℕ) (xs xs' : List Float) → Gives (previewedPaper a) r k k' → Proposed p a is is' xs xs' → GivesChanges p r k k' is is' xs xs'
-gives-changes p a r k k' is is' xs xs' g q = record {
-  code = g .code ∙ ap codeOf (q .answer) ∙ same-code p;
-  count = g .out ∙ ap (λ (z : Paper ℕ). outOf (λ (n : ℕ). n) z k) (q .answer) ∙ same-count p;
+    same-generation : (p : Paper ℕ) → outOf (λ (n : ℕ). n) (generationIn (stockMade spec edition p)) g ≡ outOf (λ (n : ℕ). 0) p g
+    same-generation (answers n) = refl
+    same-generation (refuses n) = refl
+
+pub gives-changes : (st : Stamp) (p : Paper (List TurnChange)) (a : Previewed) (r k k' e e' g g' : ℕ) (is is' : List ℕ) (xs xs' : List Float) → GivesList (previewedPaper a) r k k' e e' g g' → Proposed st p a is is' xs xs' → GivesChanges st p r k k' e e' g g' is is' xs xs'
+gives-changes st p a r k k' e e' g g' is is' xs xs' h q = record {
+  list = subst (λ (z : Paper ChangeList). GivesList z r k k' e e' g g') (q .answer) h;
   indices = q .indices;
   numbers = q .numbers;
 }
-  where
-    same-code : (p : Paper (List TurnChange)) → codeOf (countOf p) ≡ codeOf p
-    same-code (answers l) = refl
-    same-code (refuses n) = refl
 
-    same-count : (p : Paper (List TurnChange)) → outOf (λ (n : ℕ). n) (countOf p) k ≡ outOf (λ (l : List TurnChange). length l) p k
-    same-count (answers l) = refl
-    same-count (refuses n) = refl
-
-pub gives-stock : (p : Paper Committed) (a : Applied) (r : ℕ) (cs cs' : List Float) (g g' j j' : ℕ) → GivesPlace (appliedPaper a) r g g' j j' → Applies p a cs cs' → GivesStock p r cs cs' g g' j j'
-gives-stock p a r cs cs' g g' j j' h q = record {
-  code = h .code ∙ ap codeOf (q .answer) ∙ same-code p;
+pub gives-stock : (s : TurnStock) (p : Paper Committed) (a : Applied) (r : ℕ) (cs cs' : List Float) (g g' j j' : ℕ) → GivesPlace (generationIn (appliedPaper a)) r g g' j j' → Applies s p a cs cs' → GivesStock p r cs cs' g g' j j'
+gives-stock s p a r cs cs' g g' j j' h q = record {
+  code = h .code ∙ ap (λ (z : Paper TurnStock). codeOf (generationIn z)) (q .answer) ∙ same-code p;
   cells = q .cells;
-  generation = h .out ∙ ap (λ (z : Paper ℕ). outOf (λ (n : ℕ). n) z g) (q .answer) ∙ same-generation p;
-  position = h .position ∙ ap (λ (z : Paper ℕ). placeOut z j) (q .answer) ∙ same-place p;
+  generation = h .out ∙ ap (λ (z : Paper TurnStock). outOf (λ (n : ℕ). n) (generationIn z) g) (q .answer) ∙ same-generation p;
+  position = h .position ∙ ap (λ (z : Paper TurnStock). placeOut (generationIn z) j) (q .answer) ∙ same-place p;
 }
   where
-    same-place : (p : Paper Committed) → placeOut (generationOf p) j ≡ placeOut p j
+    same-place : (p : Paper Committed) → placeOut (generationIn (stockAt s (generationOf p))) j ≡ placeOut p j
     same-place (answers k) = refl
     same-place (refuses n) = refl
 
-    same-code : (p : Paper Committed) → codeOf (generationOf p) ≡ codeOf p
+    same-code : (p : Paper Committed) → codeOf (generationIn (stockAt s (generationOf p))) ≡ codeOf p
     same-code (answers k) = refl
     same-code (refuses n) = refl
 
-    same-generation : (p : Paper Committed) → outOf (λ (n : ℕ). n) (generationOf p) g ≡ outOf (λ (k : Committed). k .generation) p g
+    same-generation : (p : Paper Committed) → outOf (λ (n : ℕ). n) (generationIn (stockAt s (generationOf p))) g ≡ outOf (λ (k : Committed). k .generation) p g
     same-generation (answers k) = refl
     same-generation (refuses n) = refl
 
@@ -174,26 +185,31 @@ gives-move s p a r cs cs' xs xs' k k' g g' j j' h q = record {
     same-generation (answers a) = refl
     same-generation (refuses n) = refl
 
-pub gives-store : (spec : TurnStockSpec) (p : Paper (List Ring)) (a : Rebuilt) (r : ℕ) (xs xs' : List Float) (k k' j j' : ℕ) → GivesPlace (ringsIn (rebuiltPaper a)) r k k' j j' → Rebuilds spec xs p a xs' → GivesStore p r xs xs' k k' j j'
+pub gives-store : (spec : TurnStockSpec) (edition : ℕ) (p : Paper (List Ring)) (a : Rebuilt) (r : ℕ) (xs xs' : List Float) (k k' g g' j j' : ℕ) → GivesTwoPlace (λ (k : TurnStock). k .rings) (λ (k : TurnStock). k .stamp .generation) (rebuiltPaper a) r k k' g g' j j' → Rebuilds spec edition xs p a xs' → GivesStore p r xs xs' k k' g g' j j'
 unfolding Remove.countOf onward
-gives-store spec p a r xs xs' k k' j j' h q = record {
-  code = h .code ∙ ap (λ (z : Paper TurnStock). codeOf (ringsIn z)) (q .answer) ∙ same-code p;
+gives-store spec edition p a r xs xs' k k' g g' j j' h q = record {
+  code = h .code ∙ ap codeOf (q .answer) ∙ same-code p;
   rings = q .store;
-  count = h .out ∙ ap (λ (z : Paper TurnStock). outOf (λ (n : ℕ). n) (ringsIn z) k) (q .answer) ∙ same-count p;
-  position = h .position ∙ ap (λ (z : Paper TurnStock). placeOut (ringsIn z) j) (q .answer) ∙ same-place p;
+  count = h .one ∙ ap (λ (z : Paper TurnStock). outOf (λ (c : TurnStock). c .rings) z k) (q .answer) ∙ same-count p;
+  generation = h .other ∙ ap (λ (z : Paper TurnStock). outOf (λ (c : TurnStock). c .stamp .generation) z g) (q .answer) ∙ same-generation p;
+  position = h .position ∙ ap (λ (z : Paper TurnStock). placeOut z j) (q .answer) ∙ same-place p;
 }
   where
-    same-place : (p : Paper (List Ring)) → placeOut (ringsIn (stockStored spec (Remove.countOf p))) j ≡ placeOut p j
+    same-place : (p : Paper (List Ring)) → placeOut (stockStored spec edition (Remove.countOf p)) j ≡ placeOut p j
     same-place (answers l) = refl
     same-place (refuses n) = refl
 
-    same-code : (p : Paper (List Ring)) → codeOf (ringsIn (stockStored spec (Remove.countOf p))) ≡ codeOf p
+    same-code : (p : Paper (List Ring)) → codeOf (stockStored spec edition (Remove.countOf p)) ≡ codeOf p
     same-code (answers l) = refl
     same-code (refuses n) = refl
 
-    same-count : (p : Paper (List Ring)) → outOf (λ (n : ℕ). n) (ringsIn (stockStored spec (Remove.countOf p))) k ≡ outOf (λ (l : List Ring). length l) p k
+    same-count : (p : Paper (List Ring)) → outOf (λ (c : TurnStock). c .rings) (stockStored spec edition (Remove.countOf p)) k ≡ outOf (λ (l : List Ring). length l) p k
     same-count (answers l) = refl
     same-count (refuses n) = refl
+
+    same-generation : (p : Paper (List Ring)) → outOf (λ (c : TurnStock). c .stamp .generation) (stockStored spec edition (Remove.countOf p)) g ≡ outOf (λ (l : List Ring). 0) p g
+    same-generation (answers l) = refl
+    same-generation (refuses n) = refl
 
 pub gives-chords : (ps : List Float) (tol : Float) (a : Chopped) (r : ℕ) (xs xs' : List Float) (k k' : ℕ) → Gives (choppedPaper a) r k k' → Segmented ps tol a xs xs' → GivesChords (segmentsOf ps tol (length xs / 5)) r xs xs' k k'
 unfolding Profile.countOf
@@ -225,28 +241,37 @@ module _ (spec : TurnStockSpec) (cs : List Float) (side : ℕ) (p : TurnSide →
   unfolding bySide
   by-none e f = simp (picks, ne-eqb side 0 e, ne-eqb side 1 f)
 
--- ---- the spec that a call makes of its six numbers
+-- ---- the spec that a call makes of its six numbers, and the stock of it
 module _ (s s' : TurnStockSpec) where
-  pub same-new : (a : Made) (cs cs' : List Float) → s ≡ s' → Filled s a cs cs' → Filled s' a cs cs'
-  same-new a cs cs' e f = subst (λ (x : TurnStockSpec). Filled x a cs cs') e f
+  pub same-new : (edition : ℕ) (a : Made) (cs cs' : List Float) → s ≡ s' → Filled s edition a cs cs' → Filled s' edition a cs cs'
+  same-new edition a cs cs' e f = subst (λ (x : TurnStockSpec). Filled x edition a cs cs') e f
 
-  pub same-preview : (cs : List Float) (u : Cut) (room : ℕ) (a : Previewed) (is is' : List ℕ) (xs xs' : List Float) → s ≡ s' → Proposed (previewCut s cs u room) a is is' xs xs' → Proposed (previewCut s' cs u room) a is is' xs xs'
-  same-preview cs u room a is is' xs xs' e q = subst (λ (x : TurnStockSpec). Proposed (previewCut x cs u room) a is is' xs xs') e q
+  pub same-store : (edition : ℕ) (f : TurnStockSpec → Paper (List Ring)) (a : Rebuilt) (xs xs' : List Float) → s ≡ s' → Rebuilds s edition xs (f s) a xs' → Rebuilds s' edition xs (f s') a xs'
+  same-store edition f a xs xs' e q = subst (λ (x : TurnStockSpec). Rebuilds x edition xs (f x) a xs') e q
 
-  pub same-by : (f : TurnStockSpec → Paper (List TurnChange)) (a : Previewed) (is is' : List ℕ) (xs xs' : List Float) → s ≡ s' → Proposed (f s) a is is' xs xs' → Proposed (f s') a is is' xs xs'
-  same-by f a is is' xs xs' e q = subst (λ (x : TurnStockSpec). Proposed (f x) a is is' xs xs') e q
+  pub same-stock : (k : TurnStock) (edition rings g : ℕ) → k ≡ stockFrom s edition rings g → s ≡ s' → k ≡ stockFrom s' edition rings g
+  same-stock k edition rings g h e = h ∙ ap (λ (x : TurnStockSpec). stockFrom x edition rings g) e
 
-  pub same-ring : (k : TurnStock) (f : TurnStockSpec → Paper RingStore) (a : Removed) (xs xs' : List Float) → s ≡ s' → Removes k xs (f s) a xs' → Removes k xs (f s') a xs'
-  same-ring k f a xs xs' e q = subst (λ (x : TurnStockSpec). Removes k xs (f x) a xs') e q
+-- ---- what is said of one stock is said of the same
+module _ (k k' : TurnStock) where
+  pub same-preview : (cs : List Float) (u : Cut) (room : ℕ) (a : Previewed) (is is' : List ℕ) (xs xs' : List Float) → k ≡ k' → Proposed (k .stamp) (previewCut (k .spec) cs u room) a is is' xs xs' → Proposed (k' .stamp) (previewCut (k' .spec) cs u room) a is is' xs xs'
+  same-preview cs u room a is is' xs xs' e q = subst (λ (x : TurnStock). Proposed (x .stamp) (previewCut (x .spec) cs u room) a is is' xs xs') e q
 
-  pub same-move : (k : TurnStock) (f : TurnStockSpec → Paper Left) (a : Moved) (cs cs' xs xs' : List Float) → s ≡ s' → Moves k (f s) a cs cs' xs xs' → Moves k (f s') a cs cs' xs xs'
-  same-move k f a cs cs' xs xs' e q = subst (λ (x : TurnStockSpec). Moves k (f x) a cs cs' xs xs') e q
+  pub same-by : (f : TurnStockSpec → Paper (List TurnChange)) (a : Previewed) (is is' : List ℕ) (xs xs' : List Float) → k ≡ k' → Proposed (k .stamp) (f (k .spec)) a is is' xs xs' → Proposed (k' .stamp) (f (k' .spec)) a is is' xs xs'
+  same-by f a is is' xs xs' e q = subst (λ (x : TurnStock). Proposed (x .stamp) (f (x .spec)) a is is' xs xs') e q
 
-  pub same-store : (k : TurnStockSpec) (f : TurnStockSpec → Paper (List Ring)) (a : Rebuilt) (xs xs' : List Float) → s ≡ s' → Rebuilds k xs (f s) a xs' → Rebuilds k xs (f s') a xs'
-  same-store k f a xs xs' e q = subst (λ (x : TurnStockSpec). Rebuilds k xs (f x) a xs') e q
+  pub same-difference : (cs ds : List Float) (room : ℕ) (a : Previewed) (is is' : List ℕ) (xs xs' : List Float) → k ≡ k' → Proposed (k .stamp) (differenceOf (k .spec) cs ds room) a is is' xs xs' → Proposed (k' .stamp) (differenceOf (k' .spec) cs ds room) a is is' xs xs'
+  same-difference cs ds room a is is' xs xs' e q = subst (λ (x : TurnStock). Proposed (x .stamp) (differenceOf (x .spec) cs ds room) a is is' xs xs') e q
 
-  pub same-difference : (cs ds : List Float) (room : ℕ) (a : Previewed) (is is' : List ℕ) (xs xs' : List Float) → s ≡ s' → Proposed (differenceOf s cs ds room) a is is' xs xs' → Proposed (differenceOf s' cs ds room) a is is' xs xs'
-  same-difference cs ds room a is is' xs xs' e q = subst (λ (x : TurnStockSpec). Proposed (differenceOf x cs ds room) a is is' xs xs') e q
+  pub same-commit : (l l' : ChangeList) (cs : List Float) (is : List ℕ) (xs : List Float) (a : Applied) (ds ds' : List Float) → k ≡ k' → l ≡ l' → Applies k (applyOf k cs l is xs) a ds ds' → Applies k' (applyOf k' cs l' is xs) a ds ds'
+  same-commit l l' cs is xs a ds ds' e f q = subst (λ (y : ChangeList). Applies k' (applyOf k' cs y is xs) a ds ds') f (subst (λ (x : TurnStock). Applies x (applyOf x cs l is xs) a ds ds') e q)
 
-  pub same-commit : (cs : List Float) (g : ℕ) (is : List ℕ) (xs : List Float) (k : ℕ) (a : Applied) (ds ds' : List Float) → s ≡ s' → Applies (applyOf s cs g is xs k) a ds ds' → Applies (applyOf s' cs g is xs k) a ds ds'
-  same-commit cs g is xs k a ds ds' e q = subst (λ (x : TurnStockSpec). Applies (applyOf x cs g is xs k) a ds ds') e q
+  pub same-move : (l l' : ChangeList) (f : TurnStock → ChangeList → Paper Left) (a : Moved) (cs cs' xs xs' : List Float) → k ≡ k' → l ≡ l' → Moves k (f k l) a cs cs' xs xs' → Moves k' (f k' l') a cs cs' xs xs'
+  same-move l l' f a cs cs' xs xs' e h q = subst (λ (y : ChangeList). Moves k' (f k' y) a cs cs' xs xs') h (subst (λ (x : TurnStock). Moves x (f x l) a cs cs' xs xs') e q)
+
+  pub same-ring : (f : TurnStock → Paper RingStore) (a : Removed) (xs xs' : List Float) → k ≡ k' → Removes k xs (f k) a xs' → Removes k' xs (f k') a xs'
+  same-ring f a xs xs' e q = subst (λ (x : TurnStock). Removes x xs (f x) a xs') e q
+
+-- a refusal in place of a list
+pub no-list : (st : Stamp) (p : Paper (List TurnChange)) (r : Refusal) (is : List ℕ) (xs : List Float) → p ≡ refuses (reasonOf r) → Proposed st p (previewed.Refused r) is is xs xs
+no-list st p r is xs e = as-list {t = tally.Refused r} refl (left p r is xs e)

@@ -7,15 +7,19 @@ use lib.Ieee.{Float}
 use borrow.Author.Tests.{eq-eqb, ne-eqb}
 use Rattle.floats.specs.Pick.{picks}
 use Rattle.stock.specs.declared.TurnStockSpec.{TurnStockSpec}
+use Rattle.stock.specs.declared.TurnStock.{TurnStock}
+use Rattle.stock.specs.Stock.{stockFrom}
 use Rattle.text.specs.Wrote.{WroteLine}
 use Rattle.job_run.specs.declared.Run.{Run}
 use Rattle.job_run.specs.Run.{state, Hold, hold, byteOn, finishOf, outputOf}
+use Rattle.turning.specs.Boundary.{editionIn}
 use Rattle.turning.specs.Jobs.{wordAt, barFrom, runFrom, heldIn, Kept, TakesJob, noBar, endFrom, endState, EndsJob, WritesJob}
 
 -- the run that the words and the bar are
-pub run-is : (ws : List ℕ) (bar : List Float) (s : TurnStockSpec) → s ≡ barFrom bar (wordAt ws 0)
-    → _≡_ {A = Run} (record { job = record { spec = s; cells = wordAt ws 1; rings = wordAt ws 2; generation = wordAt ws 3 }; lines = wordAt ws 4; refused = wordAt ws 5 }) (runFrom ws bar)
-run-is ws bar s e = ap (λ (x : TurnStockSpec). record { job = record { spec = x; cells = wordAt ws 1; rings = wordAt ws 2; generation = wordAt ws 3 }; lines = wordAt ws 4; refused = wordAt ws 5 }) e
+pub run-is : (ws : List ℕ) (bar : List Float) (s : TurnStockSpec) (e : ℕ) (k : TurnStock) → s ≡ barFrom bar (wordAt ws 0) → e ≡ editionIn (wordAt ws 7) → k ≡ stockFrom s e (wordAt ws 2) (wordAt ws 3)
+    → _≡_ {A = Run} (record { job = record { stock = k; cells = wordAt ws 1 }; lines = wordAt ws 4; refused = wordAt ws 5 }) (runFrom ws bar)
+run-is ws bar s e k es ee ek =
+    ap (λ (x : TurnStock). record { job = record { stock = x; cells = wordAt ws 1 }; lines = wordAt ws 4; refused = wordAt ws 5 }) (ek ∙ (λ i. stockFrom (es i) (ee i) (wordAt ws 2) (wordAt ws 3)))
 
 -- bytes taken
 pub takes-job : (ws ws' : List ℕ) (bar bar' cs cs' rs rs' : List Float) (l l' bytes : List ℕ) (a b : Run) (m n : ℕ) → a ≡ runFrom ws bar → m ≡ heldIn ws

@@ -1,20 +1,20 @@
 -- A REFUSAL LEAVES EVERY BUFFER AND EVERY OUT-PARAMETER of a call of the C boundary: a law for each kind of promise that proofs/Once lists the calls of. A call that returns a number
 -- other than 0 is refused, with that number (`refused`), and all that it was lent to write is as it was. What it is lent to read alone it cannot write.
 -- `turning_read_part` alone writes where it is refused: beside the caller's own reading state (state, bar, held line) the lent room, into which the lines before the refused one were read, is the only place where a refusal
--- writes. What that call leaves is said of it below (`part-left`, `part-spare`), and of the room by `file-room-left` (`demands`, `proofs/Files`). Assumes nothing.
+-- writes. What that call leaves is said of it below (`part-left`), and of the room by `file-room-left` (`demands`, `proofs/Files`). Assumes nothing.
 use mathlib.Core.Path.{_≡_, refl, sym, ap, _∙_}
 use mathlib.Core.Bool.{Bool, true, false}
 use mathlib.Core.List.{List, [], _∷_}
 use mathlib.Core.Option.{Option}
 use Prim.Native.Nat.{ℕ, _≤_, _<_}
 use native.Mathlib.Omega.{arith}
-use lib.ListN.{length, getD, set}
-use lib.Seq.{sets, getD-set-other}
+use lib.ListN.{length}
 use lib.Ieee.{Float}
-use Rattle.floats.specs.Pick.{pick-true, pick-false}
+use Rattle.floats.specs.Pick.{pick-true}
 use Rattle.refusals.specs.Paper.{Paper, Reason, answers, refuses, only, at, onward}
 use Rattle.refusals.specs.Lent.{over}
 use Rattle.stock.specs.declared.TurnStockSpec.{TurnStockSpec}
+use Rattle.stock.specs.declared.Stamp.{Stamp}
 use Rattle.stock.specs.declared.TurnChange.{TurnChange}
 use Rattle.stock.specs.declared.ZRange.{ZRange}
 use Rattle.changes.specs.Change.{numbersOf}
@@ -26,9 +26,9 @@ use Rattle.profile.specs.Chords.{Chord, flatOf, writtenOf}
 use Rattle.lines.specs.Hands.{Hand}
 use Rattle.lines.proofs.Parts.{stopped-takes}
 use Rattle.stock_lines.specs.Reading.{State, state, onLine}
-use Rattle.stock_file.specs.Read.{stopped, onLong, heldIn}
+use Rattle.stock_file.specs.Read.{stopped, onLong, heldIn, Stocked}
 use Rattle.turning.specs.JobCalls.{Flat}
-use Rattle.turning.specs.Files.{refusedIn, heldFrom, readingFrom, takingIn, afterPart, TakesFile, GivesFileLine}
+use Rattle.turning.specs.Files.{refusedIn, heldFrom, readingFrom, takingIn, afterPart, TakesFile, GivesKept, GivesFileLine}
 use Rattle.turning.specs.Boundary.{codeOf, placeOut, Gives, GivesBin, GivesCells, GivesChanges, GivesStock, GivesTwo, GivesTwoPlace, GivesRings, GivesMove, GivesStore, GivesChords, GivesFound, GivesFoundTwo}
 
 no-code : {r : ℕ} → r ≡ 0 → 0 < r → ⊥
@@ -54,16 +54,16 @@ pub bin-left : (p : Paper ZRange) (r : ℕ) (za za' zb zb' : Float) → GivesBin
 bin-left (answers z) r za za' zb zb' g h = absurd (no-code (g .code) h)
 bin-left (refuses n) r za za' zb zb' g h = (g .start, g .end)
 
--- `turning_new`: the cells
-pub cells-left : (spec : TurnStockSpec) (p : Paper ℕ) (r : ℕ) (cs cs' : List Float) → GivesCells spec p r cs cs' → 0 < r → cs' ≡ cs
-cells-left spec (answers k) r cs cs' g h = absurd (no-code (g .code) h)
-cells-left spec (refuses n) r cs cs' g h = g .cells
+-- `turning_new`: the cells and the generation
+pub cells-left : (spec : TurnStockSpec) (p : Paper ℕ) (r : ℕ) (cs cs' : List Float) (k k' : ℕ) → GivesCells spec p r cs cs' k k' → 0 < r → (cs' ≡ cs) × (k' ≡ k)
+cells-left spec (answers n) r cs cs' k k' g h = absurd (no-code (g .code) h)
+cells-left spec (refuses n) r cs cs' k k' g h = (g .cells, g .generation)
 
--- the previews and `turning_changes_to`: the count and both lists
-pub changes-left : (p : Paper (List TurnChange)) (r k k' : ℕ) (is is' : List ℕ) (xs xs' : List Float) → GivesChanges p r k k' is is' xs xs' → 0 < r → (k' ≡ k) × (is' ≡ is) × (xs' ≡ xs)
+-- the previews and `turning_changes_to`: the count, the list's edition and generation, and both lists
+pub changes-left : (st : Stamp) (p : Paper (List TurnChange)) (r k k' e e' j j' : ℕ) (is is' : List ℕ) (xs xs' : List Float) → GivesChanges st p r k k' e e' j j' is is' xs xs' → 0 < r → (k' ≡ k) × (e' ≡ e) × (j' ≡ j) × (is' ≡ is) × (xs' ≡ xs)
 unfolding over numbersOf
-changes-left (answers l) r k k' is is' xs xs' g h = absurd (no-code (g .code) h)
-changes-left (refuses n) r k k' is is' xs xs' g h = (g .count, g .indices, g .numbers)
+changes-left st (answers l) r k k' e e' j j' is is' xs xs' g h = absurd (no-code (g .list .code) h)
+changes-left st (refuses n) r k k' e e' j j' is is' xs xs' g h = (g .list .count, g .list .edition, g .list .generation, g .indices, g .numbers)
 
 -- *position alone is written by a refusal: with the place of one that has it, else it stays, and where a call is accepted too
 pub place-stays : {A : Type 0} (p : Paper A) (a : A) (q : ℕ) → p ≡ answers a → placeOut p q ≡ q
@@ -91,10 +91,10 @@ pub move-left : (p : Paper Left) (r : ℕ) (cs cs' xs xs' : List Float) (k k' j 
 move-left (answers a) r cs cs' xs xs' k k' j j' q q' g h = absurd (no-code (g .code) h)
 move-left (refuses n) r cs cs' xs xs' k k' j j' q q' g h = (g .cells, g .rings, g .count, g .generation)
 
--- `turning_from_parts`: the rings and their count
-pub store-left : (p : Paper (List Ring)) (r : ℕ) (xs xs' : List Float) (k k' q q' : ℕ) → GivesStore p r xs xs' k k' q q' → 0 < r → (xs' ≡ xs) × (k' ≡ k)
-store-left (answers l) r xs xs' k k' q q' g h = absurd (no-code (g .code) h)
-store-left (refuses n) r xs xs' k k' q q' g h = (g .rings, g .count)
+-- `turning_from_parts`: the rings, their count and the generation
+pub store-left : (p : Paper (List Ring)) (r : ℕ) (xs xs' : List Float) (k k' j j' q q' : ℕ) → GivesStore p r xs xs' k k' j j' q q' → 0 < r → (xs' ≡ xs) × (k' ≡ k) × (j' ≡ j)
+store-left (answers l) r xs xs' k k' j j' q q' g h = absurd (no-code (g .code) h)
+store-left (refuses n) r xs xs' k k' j j' q q' g h = (g .rings, g .count, g .generation)
 
 -- `turning_segments`: the chords and their count
 pub chords-left : (p : Paper (List Chord)) (r : ℕ) (xs xs' : List Float) (k k' : ℕ) → GivesChords p r xs xs' k k' → 0 < r → (xs' ≡ xs) × (k' ≡ k)
@@ -117,10 +117,10 @@ pub file-line-left : (p : Paper (List ℕ)) (r n n' : ℕ) (l l' : List ℕ) →
 file-line-left (answers s) r n n' l l' g h = absurd (no-code (g .code) h)
 file-line-left (refuses c) r n n' l l' g h = (g .len, g .line)
 
--- `turning_read_end`: both counts; *line is its place
-pub counts-left : {A B C : Type 0} {first : A → B} {second : A → C} (p : Paper A) (r : ℕ) (x x' : B) (y y' : C) (q q' : ℕ) → GivesTwoPlace first second p r x x' y y' q q' → 0 < r → (x' ≡ x) × (y' ≡ y)
-counts-left (answers a) r x x' y y' q q' g h = absurd (no-code (g .code) h)
-counts-left (refuses n) r x x' y y' q q' g h = (g .one, g .other)
+-- `turning_read_end`: both counts and the edition; *line is its place
+pub kept-left : (p : Paper Stocked) (r n n' m m' e e' l l' : ℕ) → GivesKept p r n n' m m' e e' l l' → 0 < r → (n' ≡ n) × (m' ≡ m) × (e' ≡ e)
+kept-left (answers s) r n n' m m' e e' l l' g h = absurd (no-code (g .code) h)
+kept-left (refuses c) r n n' m m' e e' l l' g h = (g .cells, g .rings, g .edition)
 
 -- `turning_read_part` behind a refused line: 16, and all that is lent
 pub part-left : (f g : Flat) (s : List ℕ) (r : ℕ) → TakesFile f g s r → refusedIn (f .words) ≡ true → (g ≡ f) × (r ≡ 16)
@@ -129,29 +129,3 @@ part-left f g s r t e =
     let st : State = state (readingFrom (f .words) (f .bar)) (f .cells) (f .rings) in
     let q : takingIn f s .job .reading .refused ≡ true = ap (λ (j : Hand State). j .job .reading .refused) (stopped-takes stopped onLine onLong s st (heldIn (heldFrom (f .words)) (f .line)) e) ∙ e in
     (t .left ∙ pick-true _ _ _ e, t .code ∙ pick-true _ _ _ q)
-
--- seven words put in front leave those behind
-behind-seven : (ws : List ℕ) (a b c d e f g k : ℕ) → 7 ≤ k → getD (sets ws 0 (a ∷ b ∷ c ∷ d ∷ e ∷ f ∷ g ∷ [])) k 0 ≡ getD ws k 0
-behind-seven ws a b c d e f g k h =
-    let w1 : List ℕ = set ws 0 a in
-    let w2 : List ℕ = set w1 1 b in
-    let w3 : List ℕ = set w2 2 c in
-    let w4 : List ℕ = set w3 3 d in
-    let w5 : List ℕ = set w4 4 e in
-    let w6 : List ℕ = set w5 5 f in
-    getD-set-other w6 6 k g 0 (λ q. omega arith)
-    ∙ getD-set-other w5 5 k f 0 (λ q. omega arith)
-    ∙ getD-set-other w4 4 k e 0 (λ q. omega arith)
-    ∙ getD-set-other w3 3 k d 0 (λ q. omega arith)
-    ∙ getD-set-other w2 2 k c 0 (λ q. omega arith)
-    ∙ getD-set-other w1 1 k b 0 (λ q. omega arith)
-    ∙ getD-set-other ws 0 k a 0 (λ q. omega arith)
-
--- and always the word that is spare
-pub part-spare : (f g : Flat) (s : List ℕ) (r : ℕ) (k : ℕ) → 7 ≤ k → TakesFile f g s r → getD (g .words) k 0 ≡ getD (f .words) k 0
-unfolding afterPart
-part-spare f g s r k h t = ap (λ (x : Flat). getD (x .words) k 0) (t .left) ∙ by (refusedIn (f .words)) refl
-  where
-    by : (u : Bool) → refusedIn (f .words) ≡ u → getD (afterPart f s .words) k 0 ≡ getD (f .words) k 0
-    by true e = ap (λ (x : Flat). getD (x .words) k 0) (pick-true _ _ _ e)
-    by false e = ap (λ (x : Flat). getD (x .words) k 0) (pick-false _ _ _ e) ∙ behind-seven (f .words) _ _ _ _ _ _ _ k h

@@ -21,7 +21,7 @@
 --   gives-once            turning_stock_lines
 --   gives-file-line-once  turning_stock_line
 --   takes-file-once       turning_read_part
---   gives-two-place-once  turning_read_end
+--   gives-kept-once       turning_read_end
 -- A buffer that is lent to be read only is as it was.
 use mathlib.Core.Path.{_≡_, sym, _∙_}
 use mathlib.Core.List.{List}
@@ -30,8 +30,10 @@ use Prim.Native.Nat.{ℕ}
 use lib.Ieee.{Float}
 use Rattle.refusals.specs.Paper.{Paper}
 use Rattle.stock.specs.declared.TurnStockSpec.{TurnStockSpec}
+use Rattle.stock.specs.declared.Stamp.{Stamp}
 use Rattle.stock.specs.declared.TurnChange.{TurnChange}
 use Rattle.stock.specs.declared.ZRange.{ZRange}
+use Rattle.changes.specs.declared.ChangeList.{ChangeList}
 use Rattle.changes.specs.Commit.{Committed}
 use Rattle.rings.specs.declared.Ring.{Ring}
 use Rattle.rings.specs.Remove.{RingStore}
@@ -39,13 +41,14 @@ use Rattle.moves.specs.Move.{Left}
 use Rattle.profile.specs.Chords.{Chord}
 use Rattle.job_run.specs.declared.Run.{Run}
 use Rattle.job_run.specs.Run.{State, Hold}
+use Rattle.stock_file.specs.Read.{Stocked}
 use Rattle.turning.specs.Jobs.{TakesJob, EndsJob, WritesJob}
 use Rattle.turning.specs.JobCalls.{Flat}
-use Rattle.turning.specs.Files.{TakesFile, GivesFileLine}
-use Rattle.turning.specs.Boundary.{Gives, GivesTwo, GivesTwoPlace, GivesBin, GivesCells, GivesChanges, GivesStock, GivesRings, GivesMove, GivesStore, GivesChords, GivesFound, GivesFoundTwo}
+use Rattle.turning.specs.Files.{TakesFile, GivesKept, GivesFileLine}
+use Rattle.turning.specs.Boundary.{Gives, GivesTwo, GivesTwoPlace, GivesBin, GivesCells, GivesList, GivesChanges, GivesStock, GivesRings, GivesMove, GivesStore, GivesChords, GivesFound, GivesFoundTwo}
 
 -- the number of the header
-pub header-once : (r r' : ℕ) → r ≡ 3 → r' ≡ 3 → r ≡ r'
+pub header-once : (r r' : ℕ) → r ≡ 4 → r' ≡ 4 → r ≡ r'
 header-once r r' a b = a ∙ sym b
 
 -- one number
@@ -60,13 +63,20 @@ gives-two-once f g p r r' x x₁ x₂ y y₁ y₂ a b = (a .code ∙ sym (b .cod
 pub gives-bin-once : (p : Paper ZRange) (r r' : ℕ) (x x₁ x₂ y y₁ y₂ : Float) → GivesBin p r x x₁ y y₁ → GivesBin p r' x x₂ y y₂ → (r ≡ r') × (x₁ ≡ x₂) × (y₁ ≡ y₂)
 gives-bin-once p r r' x x₁ x₂ y y₁ y₂ a b = (a .code ∙ sym (b .code), a .start ∙ sym (b .start), a .end ∙ sym (b .end))
 
--- fresh cells
-pub gives-cells-once : (spec : TurnStockSpec) (p : Paper ℕ) (r r' : ℕ) (cs cs₁ cs₂ : List Float) → GivesCells spec p r cs cs₁ → GivesCells spec p r' cs cs₂ → (r ≡ r') × (cs₁ ≡ cs₂)
-gives-cells-once spec p r r' cs cs₁ cs₂ a b = (a .code ∙ sym (b .code), a .cells ∙ sym (b .cells))
+-- fresh cells and the generation
+pub gives-cells-once : (spec : TurnStockSpec) (p : Paper ℕ) (r r' : ℕ) (cs cs₁ cs₂ : List Float) (g g₁ g₂ : ℕ) → GivesCells spec p r cs cs₁ g g₁ → GivesCells spec p r' cs cs₂ g g₂ → (r ≡ r') × (cs₁ ≡ cs₂) × (g₁ ≡ g₂)
+gives-cells-once spec p r r' cs cs₁ cs₂ g g₁ g₂ a b = (a .code ∙ sym (b .code), a .cells ∙ sym (b .cells), a .generation ∙ sym (b .generation))
 
--- changes: their count, the indices and the numbers
-pub gives-changes-once : (p : Paper (List TurnChange)) (r r' k k₁ k₂ : ℕ) (is is₁ is₂ : List ℕ) (xs xs₁ xs₂ : List Float) → GivesChanges p r k k₁ is is₁ xs xs₁ → GivesChanges p r' k k₂ is is₂ xs xs₂ → (r ≡ r') × (k₁ ≡ k₂) × (is₁ ≡ is₂) × (xs₁ ≡ xs₂)
-gives-changes-once p r r' k k₁ k₂ is is₁ is₂ xs xs₁ xs₂ a b = (a .code ∙ sym (b .code), a .count ∙ sym (b .count), a .indices ∙ sym (b .indices), a .numbers ∙ sym (b .numbers))
+-- a list: its count, its edition and its generation
+pub gives-list-once : (p : Paper ChangeList) (r r' k k₁ k₂ e e₁ e₂ g g₁ g₂ : ℕ) → GivesList p r k k₁ e e₁ g g₁ → GivesList p r' k k₂ e e₂ g g₂ → (r ≡ r') × (k₁ ≡ k₂) × (e₁ ≡ e₂) × (g₁ ≡ g₂)
+gives-list-once p r r' k k₁ k₂ e e₁ e₂ g g₁ g₂ a b = (a .code ∙ sym (b .code), a .count ∙ sym (b .count), a .edition ∙ sym (b .edition), a .generation ∙ sym (b .generation))
+
+-- changes: their list, the indices and the numbers
+pub gives-changes-once : (st : Stamp) (p : Paper (List TurnChange)) (r r' k k₁ k₂ e e₁ e₂ g g₁ g₂ : ℕ) (is is₁ is₂ : List ℕ) (xs xs₁ xs₂ : List Float) → GivesChanges st p r k k₁ e e₁ g g₁ is is₁ xs xs₁ → GivesChanges st p r' k k₂ e e₂ g g₂ is is₂ xs xs₂
+    → (r ≡ r') × (k₁ ≡ k₂) × (e₁ ≡ e₂) × (g₁ ≡ g₂) × (is₁ ≡ is₂) × (xs₁ ≡ xs₂)
+gives-changes-once st p r r' k k₁ k₂ e e₁ e₂ g g₁ g₂ is is₁ is₂ xs xs₁ xs₂ a b =
+    let l = gives-list-once _ r r' k k₁ k₂ e e₁ e₂ g g₁ g₂ (a .list) (b .list) in
+    (l .0, l .1, l .2, l .3, a .indices ∙ sym (b .indices), a .numbers ∙ sym (b .numbers))
 
 -- the cells and the generation
 pub gives-stock-once : (p : Paper Committed) (r r' : ℕ) (cs cs₁ cs₂ : List Float) (g g₁ g₂ q q₁ q₂ : ℕ) → GivesStock p r cs cs₁ g g₁ q q₁ → GivesStock p r' cs cs₂ g g₂ q q₂ → (r ≡ r') × (cs₁ ≡ cs₂) × (g₁ ≡ g₂) × (q₁ ≡ q₂)
@@ -82,9 +92,10 @@ pub gives-move-once : (p : Paper Left) (r r' : ℕ) (cs cs₁ cs₂ xs xs₁ xs�
 gives-move-once p r r' cs cs₁ cs₂ xs xs₁ xs₂ k k₁ k₂ g g₁ g₂ q q₁ q₂ a b =
     (a .code ∙ sym (b .code), a .cells ∙ sym (b .cells), a .rings ∙ sym (b .rings), a .count ∙ sym (b .count), a .generation ∙ sym (b .generation), a .position ∙ sym (b .position))
 
--- the rings and their count
-pub gives-store-once : (p : Paper (List Ring)) (r r' : ℕ) (xs xs₁ xs₂ : List Float) (k k₁ k₂ q q₁ q₂ : ℕ) → GivesStore p r xs xs₁ k k₁ q q₁ → GivesStore p r' xs xs₂ k k₂ q q₂ → (r ≡ r') × (xs₁ ≡ xs₂) × (k₁ ≡ k₂) × (q₁ ≡ q₂)
-gives-store-once p r r' xs xs₁ xs₂ k k₁ k₂ q q₁ q₂ a b = (a .code ∙ sym (b .code), a .rings ∙ sym (b .rings), a .count ∙ sym (b .count), a .position ∙ sym (b .position))
+-- the rings, their count and the generation, of a rebuilt stock
+pub gives-store-once : (p : Paper (List Ring)) (r r' : ℕ) (xs xs₁ xs₂ : List Float) (k k₁ k₂ g g₁ g₂ q q₁ q₂ : ℕ) → GivesStore p r xs xs₁ k k₁ g g₁ q q₁ → GivesStore p r' xs xs₂ k k₂ g g₂ q q₂ → (r ≡ r') × (xs₁ ≡ xs₂) × (k₁ ≡ k₂) × (g₁ ≡ g₂) × (q₁ ≡ q₂)
+gives-store-once p r r' xs xs₁ xs₂ k k₁ k₂ g g₁ g₂ q q₁ q₂ a b =
+    (a .code ∙ sym (b .code), a .rings ∙ sym (b .rings), a .count ∙ sym (b .count), a .generation ∙ sym (b .generation), a .position ∙ sym (b .position))
 
 -- the chords and their count
 pub gives-chords-once : (p : Paper (List Chord)) (r r' : ℕ) (xs xs₁ xs₂ : List Float) (k k₁ k₂ : ℕ) → GivesChords p r xs xs₁ k k₁ → GivesChords p r' xs xs₂ k k₂ → (r ≡ r') × (xs₁ ≡ xs₂) × (k₁ ≡ k₂)
@@ -120,6 +131,6 @@ gives-file-line-once p r r' n n₁ n₂ l l₁ l₂ a b = (a .code ∙ sym (b .c
 pub takes-file-once : (f g g' : Flat) (s : List ℕ) (r r' : ℕ) → TakesFile f g s r → TakesFile f g' s r' → (r ≡ r') × (g ≡ g')
 takes-file-once f g g' s r r' a b = (a .code ∙ sym (b .code), a .left ∙ sym (b .left))
 
--- two numbers, and the place of a refusal
-pub gives-two-place-once : {A B C : Type 0} (f : A → B) (g : A → C) (p : Paper A) (r r' : ℕ) (x x₁ x₂ : B) (y y₁ y₂ : C) (q q₁ q₂ : ℕ) → GivesTwoPlace f g p r x x₁ y y₁ q q₁ → GivesTwoPlace f g p r' x x₂ y y₂ q q₂ → (r ≡ r') × (x₁ ≡ x₂) × (y₁ ≡ y₂) × (q₁ ≡ q₂)
-gives-two-place-once f g p r r' x x₁ x₂ y y₁ y₂ q q₁ q₂ a b = (a .code ∙ sym (b .code), a .one ∙ sym (b .one), a .other ∙ sym (b .other), a .position ∙ sym (b .position))
+-- what a file tells: two counts, an edition, and the line of a refusal
+pub gives-kept-once : (p : Paper Stocked) (r r' n n₁ n₂ m m₁ m₂ e e₁ e₂ l l₁ l₂ : ℕ) → GivesKept p r n n₁ m m₁ e e₁ l l₁ → GivesKept p r' n n₂ m m₂ e e₂ l l₂ → (r ≡ r') × (n₁ ≡ n₂) × (m₁ ≡ m₂) × (e₁ ≡ e₂) × (l₁ ≡ l₂)
+gives-kept-once p r r' n n₁ n₂ m m₁ m₂ e e₁ e₂ l l₁ l₂ a b = (a .code ∙ sym (b .code), a .cells ∙ sym (b .cells), a .rings ∙ sym (b .rings), a .edition ∙ sym (b .edition), a .line ∙ sym (b .line))

@@ -1,7 +1,7 @@
 -- What a call of the C boundary returns, and what it leaves in its out-parameters. Assumes nothing.
 use mathlib.Core.Path.{_≡_}
 use mathlib.Core.List.{List}
-use Prim.Native.Nat.{ℕ, _/_}
+use Prim.Native.Nat.{ℕ, _/_, _%_, _^_}
 use lib.ListN.{length}
 use lib.Ieee.{Float}
 use mathlib.Core.Option.{Option, none, some}
@@ -14,13 +14,16 @@ use Rattle.refusals.specs.Number.{reasonOf}
 use Rattle.refusals.specs.Paper.{Paper, answers, refuses, only, placeOr, onward}
 use Rattle.refusals.specs.Lent.{Lent, over}
 use Rattle.stock.specs.declared.TurnStockSpec.{TurnStockSpec}
+use Rattle.stock.specs.declared.Stamp.{Stamp}
 use Rattle.stock.specs.declared.TurnStock.{TurnStock}
 use Rattle.stock.specs.declared.TurnChange.{TurnChange}
 use Rattle.stock.specs.declared.ZRange.{ZRange}
 use Rattle.stock.specs.declared.TurnSide.{TurnSide}
 use Rattle.stock.specs.declared.TurnSide.the-variants.{Outer, Inner}
 use Rattle.stock.specs.Cell.{newOf, newCells, stockOf}
-use Rattle.changes.specs.Change.{roomIn, indicesOf, numbersOf, writtenOf}
+use Rattle.stock.specs.Stock.{stampOf}
+use Rattle.changes.specs.declared.ChangeList.{ChangeList}
+use Rattle.changes.specs.Change.{roomIn, indicesOf, numbersOf, countOf, writtenOf, stamped}
 use Rattle.changes.specs.Commit.{Committed, cellsAfter}
 use Rattle.cuts.specs.Preview.{previewNose, previewPolygon}
 use Rattle.rings.specs.declared.Ring.{Ring}
@@ -57,6 +60,14 @@ specFrom zmin zmax outer bore cell most =
       «max_cells» = most;
     }
 
+-- an edition kept in a word: its lower half
+abbrev pub editionIn : ℕ → ℕ
+editionIn w = w % 2 ^ 32
+
+-- a list of so many changes, of a stock of that edition at that generation
+abbrev pub listFrom : ℕ → ℕ → ℕ → ChangeList
+listFrom count edition g = record { count = count; stamp = stampOf edition g }
+
 -- one number out
 pub record Gives {A : Type 0} (p : Paper A) (r : ℕ) (x x' : A) : Type 0 where
   pub code : r ≡ codeOf p
@@ -74,15 +85,22 @@ pub record GivesBin (p : Paper ZRange) (r : ℕ) (za za' zb zb' : Float) : Type 
   pub start : za' ≡ outOf (λ (z : ZRange). z .za) p za
   pub end : zb' ≡ outOf (λ (z : ZRange). z .zb) p zb
 
--- fresh cells out
-pub record GivesCells (spec : TurnStockSpec) (p : Paper ℕ) (r : ℕ) (cs cs' : List Float) : Type 0 where
+-- fresh cells out, at generation 0
+pub record GivesCells (spec : TurnStockSpec) (p : Paper ℕ) (r : ℕ) (cs cs' : List Float) (g g' : ℕ) : Type 0 where
   pub code : r ≡ codeOf p
   pub cells : cs' ≡ newCells spec p cs
+  pub generation : g' ≡ outOf (λ (n : ℕ). 0) p g
 
--- changes out: their count, and the two lists with them over their fronts
-pub record GivesChanges (p : Paper (List TurnChange)) (r k k' : ℕ) (is is' : List ℕ) (xs xs' : List Float) : Type 0 where
+-- a list out: the count of its changes, and the edition and the generation of its stamp
+pub record GivesList (p : Paper ChangeList) (r k k' e e' g g' : ℕ) : Type 0 where
   pub code : r ≡ codeOf p
-  pub count : k' ≡ outOf (λ (l : List TurnChange). length l) p k
+  pub count : k' ≡ outOf (λ (l : ChangeList). l .count) p k
+  pub edition : e' ≡ outOf (λ (l : ChangeList). l .stamp .edition) p e
+  pub generation : g' ≡ outOf (λ (l : ChangeList). l .stamp .generation) p g
+
+-- changes out, as the list of a stock with this stamp, and the two lists with them over their fronts
+pub record GivesChanges (st : Stamp) (p : Paper (List TurnChange)) (r k k' e e' g g' : ℕ) (is is' : List ℕ) (xs xs' : List Float) : Type 0 where
+  pub list : GivesList (stamped st (countOf p)) r k k' e e' g g'
   pub indices : is' ≡ over (indicesOf (writtenOf p)) is
   pub numbers : xs' ≡ over (numbersOf (writtenOf p)) xs
 
@@ -125,10 +143,10 @@ pub record GivesTwoPlace {A B C : Type 0} (first : A → B) (second : A → C) (
   pub other : y' ≡ outOf second p y
   pub position : q' ≡ placeOut p q
 
--- how many rings a stock has
-abbrev pub ringsIn : Paper TurnStock → Paper ℕ
-ringsIn (answers k) = answers (k .rings)
-ringsIn (refuses r) = refuses r
+-- the generation of a stock
+abbrev pub generationIn : Paper TurnStock → Paper ℕ
+generationIn (answers k) = answers (k .stamp .generation)
+generationIn (refuses r) = refuses r
 
 -- the rings, their count and the generation, and the place of a refusal
 pub record GivesRings (p : Paper RingStore) (r : ℕ) (xs xs' : List Float) (k k' g g' q q' : ℕ) : Type 0 where
@@ -147,11 +165,12 @@ pub record GivesMove (p : Paper Left) (r : ℕ) (cs cs' xs xs' : List Float) (k 
   pub generation : g' ≡ outOf (λ (a : Left). a .generation) p g
   pub position : q' ≡ placeOut p q
 
--- the rings and their count, and the place of a refusal
-pub record GivesStore (p : Paper (List Ring)) (r : ℕ) (xs xs' : List Float) (k k' q q' : ℕ) : Type 0 where
+-- the rings and their count, at generation 0, and the place of a refusal
+pub record GivesStore (p : Paper (List Ring)) (r : ℕ) (xs xs' : List Float) (k k' g g' q q' : ℕ) : Type 0 where
   pub code : r ≡ codeOf p
   pub rings : xs' ≡ storeAfter xs p
   pub count : k' ≡ outOf (λ (l : List Ring). length l) p k
+  pub generation : g' ≡ outOf (λ (l : List Ring). 0) p g
   pub position : q' ≡ placeOut p q
 
 -- the chords of a profile, over the beginning of the lent numbers, and their count
@@ -207,13 +226,16 @@ HandsTwoPlace first second p r x y q = GivesTwoPlace first second p r (now (x .e
 abbrev pub HandsBin : Paper ZRange → ℕ → Out Float → Out Float → Type 0
 HandsBin p r za zb = GivesBin p r (now (za .entry)) (now (za .exit)) (now (zb .entry)) (now (zb .exit))
 
-abbrev pub HandsCells : TurnStockSpec → ℕ → Lent Float → Type 0
-HandsCells spec r cells = GivesCells spec (newOf spec (length (now (cells .entry)))) r (now (cells .entry)) (now (cells .exit))
+abbrev pub HandsCells : TurnStockSpec → ℕ → Lent Float → Out ℕ → Type 0
+HandsCells spec r cells generation = GivesCells spec (newOf spec (length (now (cells .entry)))) r (now (cells .entry)) (now (cells .exit)) (now (generation .entry)) (now (generation .exit))
+
+abbrev pub HandsList : Paper ChangeList → ℕ → Out ℕ → Out ℕ → Out ℕ → Type 0
+HandsList p r count edition generation = GivesList p r (now (count .entry)) (now (count .exit)) (now (edition .entry)) (now (edition .exit)) (now (generation .entry)) (now (generation .exit))
 
 -- with as much room for changes as the two lists have
-abbrev pub HandsChanges : (ℕ → Paper (List TurnChange)) → ℕ → Out ℕ → Lent ℕ → Lent Float → Type 0
-HandsChanges rule r count indices records =
-    GivesChanges (rule (roomIn indices records)) r (now (count .entry)) (now (count .exit)) (now (indices .entry)) (now (indices .exit)) (now (records .entry)) (now (records .exit))
+abbrev pub HandsChanges : Stamp → (ℕ → Paper (List TurnChange)) → ℕ → Lent ℕ → Lent Float → Out ℕ → Out ℕ → Out ℕ → Type 0
+HandsChanges st rule r indices records count edition generation =
+    GivesChanges st (rule (roomIn indices records)) r (now (count .entry)) (now (count .exit)) (now (edition .entry)) (now (edition .exit)) (now (generation .entry)) (now (generation .exit)) (now (indices .entry)) (now (indices .exit)) (now (records .entry)) (now (records .exit))
 
 abbrev pub HandsStock : Paper Committed → ℕ → Lent Float → Out ℕ → Out ℕ → Type 0
 HandsStock p r cells generation q = GivesStock p r (now (cells .entry)) (now (cells .exit)) (now (generation .entry)) (now (generation .exit)) (now (q .entry)) (now (q .exit))
@@ -226,8 +248,9 @@ abbrev pub HandsMove : Paper Left → ℕ → Lent Float → Lent Float → Out 
 HandsMove p r cells rings count generation q =
     GivesMove p r (now (cells .entry)) (now (cells .exit)) (now (rings .entry)) (now (rings .exit)) (now (count .entry)) (now (count .exit)) (now (generation .entry)) (now (generation .exit)) (now (q .entry)) (now (q .exit))
 
-abbrev pub HandsStore : Paper (List Ring) → ℕ → Lent Float → Out ℕ → Out ℕ → Type 0
-HandsStore p r rings count q = GivesStore p r (now (rings .entry)) (now (rings .exit)) (now (count .entry)) (now (count .exit)) (now (q .entry)) (now (q .exit))
+abbrev pub HandsStore : Paper (List Ring) → ℕ → Lent Float → Out ℕ → Out ℕ → Out ℕ → Type 0
+HandsStore p r rings count generation q =
+    GivesStore p r (now (rings .entry)) (now (rings .exit)) (now (count .entry)) (now (count .exit)) (now (generation .entry)) (now (generation .exit)) (now (q .entry)) (now (q .exit))
 
 -- with as much room for chords as the list has
 abbrev pub HandsChords : (ℕ → Paper (List Chord)) → ℕ → Lent Float → Out ℕ → Type 0

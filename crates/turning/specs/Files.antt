@@ -18,11 +18,11 @@ use Rattle.stock_lines.specs.Form.{barNumbers}
 use Rattle.stock_lines.specs.Reading.{State, state}
 use Rattle.stock_file.specs.Read.{heldIn, taking, ended, toldAs, Stocked}
 use Rattle.stock_file.specs.Write.{lineOver}
-use Rattle.turning.specs.Boundary.{Out, codeOf, outOf}
+use Rattle.turning.specs.Boundary.{Out, editionIn, codeOf, outOf, placeOut}
 use Rattle.turning.specs.Jobs.{wordAt}
 use Rattle.turning.specs.JobCalls.{Flat}
 
--- ---- a reading's words: stage, cell lines, ring lines, lines, held, refused, form; the eighth is spare
+-- ---- a reading's words: stage, cell lines, ring lines, lines, held, refused, form, edition
 
 -- any number but 0 is a refusal
 abbrev pub refusedIn : List ℕ → Bool
@@ -45,13 +45,13 @@ barIn bar =
 
 -- the reading that they are
 abbrev pub readingFrom : List ℕ → List Float → Reading
-readingFrom ws bar = record { stage = wordAt ws 0; form = wordAt ws 6; bar = barIn bar; cells = wordAt ws 1; rings = wordAt ws 2; lines = wordAt ws 3; refused = refusedIn ws }
+readingFrom ws bar = record { stage = wordAt ws 0; form = wordAt ws 6; edition = editionIn (wordAt ws 7); bar = barIn bar; cells = wordAt ws 1; rings = wordAt ws 2; lines = wordAt ws 3; refused = refusedIn ws }
 
 -- the words of a reading that holds n bytes
 abbrev pub wordsOf : Reading → ℕ → List ℕ
-wordsOf r n = r .stage ∷ r .cells ∷ r .rings ∷ r .lines ∷ n ∷ pick (r .refused) 16 0 ∷ r .form ∷ []
+wordsOf r n = r .stage ∷ r .cells ∷ r .rings ∷ r .lines ∷ n ∷ pick (r .refused) 16 0 ∷ r .form ∷ r .edition ∷ []
 
--- the words and the bar hold a reading that holds n bytes, from their first place on; the spare word what it held
+-- the words and the bar hold a reading that holds n bytes, from their first place on
 pub record KeptReading (r : Reading) (n : ℕ) (ws ws' : List ℕ) (bar bar' : List Float) : Type 0 where
   pub words : ws' ≡ sets ws 0 (wordsOf r n)
   pub numbers : bar' ≡ sets bar 0 (barNumbers (r .bar))
@@ -88,6 +88,14 @@ pub record TakesFile (f g : Flat) (s : List ℕ) (r : ℕ) : Type 0 where
 abbrev pub toldFrom : List ℕ → List Float → ℕ → List Float → List Float → Paper Stocked
 toldFrom ws bar most cs rs = toldAs (ended (readingFrom ws bar) (heldFrom ws)) most cs rs
 
+-- what the end hands out: how many cells and rings the room holds and the edition, or the refusal, and its line where it has one
+pub record GivesKept (p : Paper Stocked) (r n n' m m' e e' l l' : ℕ) : Type 0 where
+  pub code : r ≡ codeOf p
+  pub cells : n' ≡ outOf (λ (s : Stocked). s .cells) p n
+  pub rings : m' ≡ outOf (λ (s : Stocked). s .stock .rings) p m
+  pub edition : e' ≡ outOf (λ (s : Stocked). s .stock .stamp .edition) p e
+  pub line : l' ≡ placeOut p l
+
 -- ---- a line of the file of a stock, and its length
 
 pub record GivesFileLine (p : Paper (List ℕ)) (r n n' : ℕ) (l l' : List ℕ) : Type 0 where
@@ -107,6 +115,9 @@ abbrev pub HandsPart : ℕ → Lent ℕ → Lent Float → Lent Float → Lent F
 HandsPart r ws bar cells rings line s =
     TakesFile (flatOf (now (ws .entry)) (now (bar .entry)) (now (cells .entry)) (now (rings .entry)) (now (line .entry)))
     (flatOf (now (ws .exit)) (now (bar .exit)) (now (cells .exit)) (now (rings .exit)) (now (line .exit))) s r
+
+abbrev pub HandsKept : Paper Stocked → ℕ → Out ℕ → Out ℕ → Out ℕ → Out ℕ → Type 0
+HandsKept p r n m e line = GivesKept p r (now (n .entry)) (now (n .exit)) (now (m .entry)) (now (m .exit)) (now (e .entry)) (now (e .exit)) (now (line .entry)) (now (line .exit))
 
 abbrev pub HandsFileLine : Paper (List ℕ) → ℕ → Lent ℕ → Out ℕ → Type 0
 HandsFileLine p r line len = GivesFileLine p r (now (len .entry)) (now (len .exit)) (now (line .entry)) (now (line .exit))

@@ -11,12 +11,13 @@ use Rattle.refusals.specs.Lent.{Lent}
 use Rattle.floats.specs.Pick.{pick}
 use Rattle.floats.specs.Numbers.{zero64}
 use Rattle.stock.specs.declared.TurnStockSpec.{TurnStockSpec}
+use Rattle.stock.specs.Stock.{stockFrom}
 use Rattle.text.specs.Wrote.{WroteLine}
 use Rattle.job_run.specs.declared.Run.{Run}
 use Rattle.job_run.specs.Run.{State, state, Hold, hold, byteOn, finishOf, outputOf}
-use Rattle.turning.specs.Boundary.{Out, specFrom}
+use Rattle.turning.specs.Boundary.{Out, specFrom, editionIn}
 
--- ---- a job's words: max_cells, cells, rings, generation, lines, refused, held; the eighth is spare
+-- ---- a job's words: max_cells, cells, rings, generation, lines, refused, held, and the edition, which no line changes
 
 abbrev pub wordAt : List ℕ → ℕ → ℕ
 wordAt ws k = getD ws k 0
@@ -29,7 +30,7 @@ barFrom bar most = specFrom (getD bar 0 nan) (getD bar 1 nan) (getD bar 2 nan) (
 abbrev pub runFrom : List ℕ → List Float → Run
 runFrom ws bar =
     record {
-      job = record { spec = barFrom bar (wordAt ws 0); cells = wordAt ws 1; rings = wordAt ws 2; generation = wordAt ws 3 };
+      job = record { stock = stockFrom (barFrom bar (wordAt ws 0)) (editionIn (wordAt ws 7)) (wordAt ws 2) (wordAt ws 3); cells = wordAt ws 1 };
       lines = wordAt ws 4;
       refused = wordAt ws 5;
     }
@@ -40,17 +41,19 @@ heldIn ws = wordAt ws 6
 
 -- the words and the bar of a run that holds n bytes
 abbrev pub wordsOf : Run → ℕ → List ℕ
-wordsOf r n = r .job .spec .«max_cells» ∷ r .job .cells ∷ r .job .rings ∷ r .job .generation ∷ r .lines ∷ r .refused ∷ n ∷ []
+wordsOf r n =
+    let k = r .job .stock in
+    k .spec .«max_cells» ∷ r .job .cells ∷ k .rings ∷ k .stamp .generation ∷ r .lines ∷ r .refused ∷ n ∷ []
 
 abbrev pub barOf : TurnStockSpec → List Float
 barOf s = s .«z_min_mm» ∷ s .«z_max_mm» ∷ s .«outer_radius_mm» ∷ s .«bore_radius_mm» ∷ s .«cell_mm» ∷ []
 
 -- ---- bytes taken
 
--- the words and the bar hold a run that holds n bytes, from their first place on; the spare word what it held
+-- the words and the bar hold a run that holds n bytes, from their first place on; the edition stays as it was
 pub record Kept (r : Run) (n : ℕ) (ws ws' : List ℕ) (bar bar' : List Float) : Type 0 where
   pub words : ws' ≡ sets ws 0 (wordsOf r n)
-  pub numbers : bar' ≡ sets bar 0 (barOf (r .job .spec))
+  pub numbers : bar' ≡ sets bar 0 (barOf (r .job .stock .spec))
 
 -- a job in hand, kept in lent memory
 pub record TakesJob (h : Hold) (r : ℕ) (ws ws' : List ℕ) (bar bar' cs' rs' : List Float) (l' : List ℕ) : Type 0 where

@@ -1,31 +1,54 @@
 // Previews, commits and the difference of two stocks.
 ghost use mathlib.Core.Path.{_≡_};
+ghost use Rattle.stock.specs.Stock.{stampOf, stockFrom};
 ghost use Rattle.changes.specs.Change.{previewedPaper};
 ghost use Rattle.changes.specs.Commit.{appliedPaper, applyOf};
 ghost use Rattle.changes.specs.Difference.{differenceOf};
 ghost use Rattle.cuts.specs.declared.Cut.the-variants.{Thread, ThreadInner, Drill};
 ghost use Rattle.cuts.specs.Preview.{previewCut};
-ghost use Rattle.turning.specs.Boundary.{specFrom, Hands, HandsPlace, HandsChanges, HandsStock};
+ghost use Rattle.turning.specs.Boundary.{specFrom, listFrom, generationIn, HandsPlace, HandsList, HandsChanges, HandsStock};
 use crate::stock_c;
 use changes::Applied;
+use changes::ChangeList;
 use changes::Previewed;
+use stock::Stamp;
 
-// How many changes were written, or the number of the refusal.
-pub fn give_changes(answer: Previewed, count: &mut usize) -> u32
-    ensures { λ r. ⌜ Hands (previewedPaper answer) r count ⌝ }
+// How many changes were written and the stamp of their list, or the number of the refusal.
+pub fn give_changes(
+    answer: Previewed,
+    count: &mut usize,
+    edition: &mut u32,
+    generation: &mut u64,
+) -> u32
+    ensures { λ r. ⌜ HandsList (previewedPaper answer) r count edition generation ⌝ }
 {
     match answer {
         Previewed::Refused(r) => refusals::number(r),
-        Previewed::Changes(k) => {
-            *count = k;
+        Previewed::Listed(list) => {
+            *count = list.count;
+            *edition = list.stamp.edition;
+            *generation = list.stamp.generation;
             0
         }
     }
 }
 
+// A list of so many changes, with its stamp.
+pub fn list_of(count: usize, edition: u32, generation: u64) -> ChangeList
+    ensures { λ r. ⌜ r ≡ listFrom count edition generation ⌝ }
+{
+    ChangeList {
+        count,
+        stamp: Stamp {
+            edition,
+            generation,
+        },
+    }
+}
+
 // The generation after a commit, or the number of the refusal, with its place where it has one.
 fn give_generation(answer: Applied, generation: &mut u64, position: &mut usize) -> u32
-    ensures { λ r. ⌜ HandsPlace (appliedPaper answer) r generation position ⌝ }
+    ensures { λ r. ⌜ HandsPlace (generationIn (appliedPaper answer)) r generation position ⌝ }
 {
     match answer {
         Applied::Refused(r) => refusals::number(r),
@@ -33,8 +56,8 @@ fn give_generation(answer: Applied, generation: &mut u64, position: &mut usize) 
             *position = k;
             refusals::number(r)
         }
-        Applied::Generation(g) => {
-            *generation = g;
+        Applied::Stock(after) => {
+            *generation = after.stamp.generation;
             0
         }
     }
@@ -48,6 +71,8 @@ pub extern "C" fn turning_thread_cut(
     bore: f64,
     cell: f64,
     max_cells: usize,
+    edition: u32,
+    generation: u64,
     cells: &[f64],
     z0: f64,
     z1: f64,
@@ -55,14 +80,17 @@ pub extern "C" fn turning_thread_cut(
     indices: &mut [usize],
     records: &mut [f64],
     count: &mut usize,
+    list_edition: &mut u32,
+    list_generation: &mut u64,
 ) -> u32
-    ensures { λ r. ⌜ HandsChanges
-        (previewCut (specFrom «z_min» «z_max» outer bore cell «max_cells») (now (cells .entry)) (Thread z0 z1 radius))
-        r count indices records ⌝ }
+    ensures { λ r. ⌜ HandsChanges (stampOf edition generation)
+        (previewCut (specFrom «z_min» «z_max» outer bore cell «max_cells») (now (cells .entry))
+        (Thread z0 z1 radius)) r indices records count «list_edition» «list_generation» ⌝ }
 {
     let spec = stock_c::spec_of(z_min, z_max, outer, bore, cell, max_cells);
-    let answer = cuts::thread_cut(spec, cells, z0, z1, radius, indices, records);
-    give_changes(answer, count)
+    let stock = stock_c::stock_of(spec, edition, generation, 0);
+    let answer = cuts::thread_cut(stock, cells, z0, z1, radius, indices, records);
+    give_changes(answer, count, list_edition, list_generation)
 }
 
 #[no_mangle]
@@ -73,6 +101,8 @@ pub extern "C" fn turning_thread_cut_inner(
     bore: f64,
     cell: f64,
     max_cells: usize,
+    edition: u32,
+    generation: u64,
     cells: &[f64],
     z0: f64,
     z1: f64,
@@ -80,14 +110,17 @@ pub extern "C" fn turning_thread_cut_inner(
     indices: &mut [usize],
     records: &mut [f64],
     count: &mut usize,
+    list_edition: &mut u32,
+    list_generation: &mut u64,
 ) -> u32
-    ensures { λ r. ⌜ HandsChanges
+    ensures { λ r. ⌜ HandsChanges (stampOf edition generation)
         (previewCut (specFrom «z_min» «z_max» outer bore cell «max_cells») (now (cells .entry))
-        (ThreadInner z0 z1 radius)) r count indices records ⌝ }
+        (ThreadInner z0 z1 radius)) r indices records count «list_edition» «list_generation» ⌝ }
 {
     let spec = stock_c::spec_of(z_min, z_max, outer, bore, cell, max_cells);
-    let answer = cuts::thread_cut_inner(spec, cells, z0, z1, radius, indices, records);
-    give_changes(answer, count)
+    let stock = stock_c::stock_of(spec, edition, generation, 0);
+    let answer = cuts::thread_cut_inner(stock, cells, z0, z1, radius, indices, records);
+    give_changes(answer, count, list_edition, list_generation)
 }
 
 #[no_mangle]
@@ -98,6 +131,8 @@ pub extern "C" fn turning_drill(
     bore: f64,
     cell: f64,
     max_cells: usize,
+    edition: u32,
+    generation: u64,
     cells: &[f64],
     tip_z: f64,
     radius: f64,
@@ -105,14 +140,17 @@ pub extern "C" fn turning_drill(
     indices: &mut [usize],
     records: &mut [f64],
     count: &mut usize,
+    list_edition: &mut u32,
+    list_generation: &mut u64,
 ) -> u32
-    ensures { λ r. ⌜ HandsChanges
+    ensures { λ r. ⌜ HandsChanges (stampOf edition generation)
         (previewCut (specFrom «z_min» «z_max» outer bore cell «max_cells») (now (cells .entry))
-        (Drill «tip_z» radius cone)) r count indices records ⌝ }
+        (Drill «tip_z» radius cone)) r indices records count «list_edition» «list_generation» ⌝ }
 {
     let spec = stock_c::spec_of(z_min, z_max, outer, bore, cell, max_cells);
-    let answer = cuts::drill(spec, cells, tip_z, radius, cone, indices, records);
-    give_changes(answer, count)
+    let stock = stock_c::stock_of(spec, edition, generation, 0);
+    let answer = cuts::drill(stock, cells, tip_z, radius, cone, indices, records);
+    give_changes(answer, count, list_edition, list_generation)
 }
 
 #[no_mangle]
@@ -123,19 +161,26 @@ pub extern "C" fn turning_apply(
     bore: f64,
     cell: f64,
     max_cells: usize,
-    cells: &mut [f64],
+    edition: u32,
     generation: &mut u64,
+    cells: &mut [f64],
     indices: &[usize],
     records: &[f64],
     changes: usize,
+    list_edition: u32,
+    list_generation: u64,
     position: &mut usize,
 ) -> u32
-    ensures { λ r. ⌜ HandsStock (applyOf (specFrom «z_min» «z_max» outer bore cell «max_cells») (now (cells .entry))
-        (now (generation .entry)) (now (indices .entry)) (now (records .entry)) changes) r cells generation position ⌝ }
+    ensures { λ r. ⌜ HandsStock
+        (applyOf (stockFrom (specFrom «z_min» «z_max» outer bore cell «max_cells») edition 0 (now (generation .entry))) (now (cells .entry))
+        (listFrom changes «list_edition» «list_generation») (now (indices .entry)) (now (records .entry)))
+        r cells generation position ⌝ }
 {
     let spec = stock_c::spec_of(z_min, z_max, outer, bore, cell, max_cells);
     let before = *generation;
-    let answer = changes::apply(spec, cells, before, indices, records, changes);
+    let stock = stock_c::stock_of(spec, edition, before, 0);
+    let list = list_of(changes, list_edition, list_generation);
+    let answer = changes::apply(stock, cells, list, indices, records);
     give_generation(answer, generation, position)
 }
 
@@ -147,17 +192,22 @@ pub extern "C" fn turning_changes_to(
     bore: f64,
     cell: f64,
     max_cells: usize,
+    edition: u32,
+    generation: u64,
     cells: &[f64],
     after: &[f64],
     indices: &mut [usize],
     records: &mut [f64],
     count: &mut usize,
+    list_edition: &mut u32,
+    list_generation: &mut u64,
 ) -> u32
-    ensures { λ r. ⌜ HandsChanges
+    ensures { λ r. ⌜ HandsChanges (stampOf edition generation)
         (differenceOf (specFrom «z_min» «z_max» outer bore cell «max_cells») (now (cells .entry))
-        (now (after .entry))) r count indices records ⌝ }
+        (now (after .entry))) r indices records count «list_edition» «list_generation» ⌝ }
 {
     let spec = stock_c::spec_of(z_min, z_max, outer, bore, cell, max_cells);
-    let answer = changes::changes_to(spec, cells, after, indices, records);
-    give_changes(answer, count)
+    let first = stock_c::stock_of(spec, edition, generation, 0);
+    let answer = changes::changes_to(first, cells, after, indices, records);
+    give_changes(answer, count, list_edition, list_generation)
 }

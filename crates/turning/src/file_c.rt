@@ -1,15 +1,17 @@
 // A stock file's bytes as they come, cut anywhere, and the lines of the file of a stock.
 //
 // Between two calls a reading stands in eight lent words (stage, cell lines, ring lines, lines, held,
-// refused, form, and one that is spare) and five lent numbers, those of its bar, beside the lent room and the
-// unfinished line. Words that are all 0 are a file before its first byte. Words of any other kind are
-// read as they stand: of the held bytes 127 at most, and any number but 0 is a refusal.
+// refused, form, edition) and five lent numbers, those of its bar, beside the lent room and the unfinished
+// line. Words that are all 0 are a file before its first byte. Words of any other kind are
+// read as they stand: of the held bytes 127 at most, of the edition its lower half, and any number but 0
+// is a refusal.
 ghost use mathlib.Core.Path.{_≡_};
 ghost use Rattle.floats.specs.Pick.{pick};
-ghost use Rattle.stock_file.specs.Read.{Stocked, keptPaper};
+ghost use Rattle.stock.specs.Stock.{stockFrom};
+ghost use Rattle.stock_file.specs.Read.{keptPaper};
 ghost use Rattle.stock_file.specs.Write.{lineCount, linesPaper, linePaper, lineFor};
-ghost use Rattle.turning.specs.Boundary.{specFrom, Hands, HandsTwoPlace};
-ghost use Rattle.turning.specs.Files.{readingFrom, refusedIn, heldFrom, KeepsReading, HandsPart, toldFrom, HandsFileLine};
+ghost use Rattle.turning.specs.Boundary.{specFrom, Hands};
+ghost use Rattle.turning.specs.Files.{readingFrom, refusedIn, heldFrom, KeepsReading, HandsPart, toldFrom, HandsKept, HandsFileLine};
 use crate::stock_c;
 use refusals::Refusal;
 use stock_file::Kept;
@@ -79,6 +81,7 @@ pub extern "C" fn turning_stock_line(
     bore: f64,
     cell: f64,
     max_cells: usize,
+    edition: u32,
     cells: &[f64],
     rings: &[f64],
     rings_count: usize,
@@ -86,11 +89,12 @@ pub extern "C" fn turning_stock_line(
     line: &mut [u8; LINE_ROOM],
     len: &mut usize,
 ) -> u32
-    ensures { λ r. ⌜ HandsFileLine (lineFor (specFrom «z_min» «z_max» outer bore cell «max_cells») (now (cells .entry))
-        (now (rings .entry)) «rings_count» k) r line len ⌝ }
+    ensures { λ r. ⌜ HandsFileLine (lineFor (stockFrom (specFrom «z_min» «z_max» outer bore cell «max_cells») edition «rings_count» 0)
+        (now (cells .entry)) (now (rings .entry)) k) r line len ⌝ }
 {
     let spec = stock_c::spec_of(z_min, z_max, outer, bore, cell, max_cells);
-    let answer = stock_file::file_line(line, spec, cells, rings, rings_count, k);
+    let stock = stock_c::stock_of(spec, edition, 0, rings_count);
+    let answer = stock_file::file_line(line, stock, cells, rings, k);
     give_length(answer, len)
 }
 
@@ -113,9 +117,11 @@ fn reading_of(words: &[u64; WORDS], bar: &[f64; BAR]) -> Reading
     ensures { λ r. ⌜ r ≡ readingFrom (now (words .entry)) (now (bar .entry)) ⌝ }
 {
     let refused = refused_in(words);
+    let edition = stock_c::edition_in(words[7]);
     Reading {
         stage: words[0],
         form: words[6],
+        edition,
         bar: Bar {
             z_min_mm: bar[0],
             z_max_mm: bar[1],
@@ -152,6 +158,7 @@ fn keep(reading: Reading, held: usize, words: &mut [u64; WORDS], bar: &mut [f64;
     words[4] = held as u64;
     words[5] = code_of(reading.refused) as u64;
     words[6] = reading.form;
+    words[7] = reading.edition as u64;
     bar[0] = now.z_min_mm;
     bar[1] = now.z_max_mm;
     bar[2] = now.outer_radius_mm;
@@ -182,10 +189,15 @@ pub extern "C" fn turning_read_part(
     code_of(after.refused)
 }
 
-// The counts of a stock handed out, or the number of the refusal, with its line where it has one.
-fn give_kept(answer: Kept, n: &mut usize, rings_count: &mut usize, line: &mut usize) -> u32
-    ensures { λ r. ⌜ HandsTwoPlace (λ (s : Stocked). s .cells) (λ (s : Stocked). s .rings) (keptPaper answer) r
-        n «rings_count» line ⌝ }
+// The counts and the edition of a stock handed out, or the number of the refusal, with its line where it has one.
+fn give_kept(
+    answer: Kept,
+    n: &mut usize,
+    rings_count: &mut usize,
+    edition: &mut u32,
+    line: &mut usize,
+) -> u32
+    ensures { λ r. ⌜ HandsKept (keptPaper answer) r n «rings_count» edition line ⌝ }
 {
     match answer {
         Kept::Refused(r) => refusals::number(r),
@@ -193,9 +205,10 @@ fn give_kept(answer: Kept, n: &mut usize, rings_count: &mut usize, line: &mut us
             *line = k;
             refusals::number(r)
         }
-        Kept::Stock(_, cells, rings) => {
+        Kept::Stock(stock, cells) => {
             *n = cells;
-            *rings_count = rings;
+            *rings_count = stock.rings;
+            *edition = stock.stamp.edition;
             0
         }
     }
@@ -210,14 +223,14 @@ pub extern "C" fn turning_read_end(
     rings: &[f64],
     n: &mut usize,
     rings_count: &mut usize,
+    edition: &mut u32,
     line: &mut usize,
 ) -> u32
-    ensures { λ r. ⌜ HandsTwoPlace (λ (s : Stocked). s .cells) (λ (s : Stocked). s .rings)
-        (toldFrom (now (state .entry)) (now (bar .entry)) «max_cells» (now (cells .entry)) (now (rings .entry))) r
-        n «rings_count» line ⌝ }
+    ensures { λ r. ⌜ HandsKept (toldFrom (now (state .entry)) (now (bar .entry)) «max_cells» (now (cells .entry))
+        (now (rings .entry))) r n «rings_count» edition line ⌝ }
 {
     let reading = reading_of(state, bar);
     let held = held_in(state);
     let answer = stock_file::finish(reading, held, max_cells, cells, rings);
-    give_kept(answer, n, rings_count, line)
+    give_kept(answer, n, rings_count, edition, line)
 }

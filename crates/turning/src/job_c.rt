@@ -1,9 +1,10 @@
 // A job's bytes as they come, cut anywhere, and the lines of its answer.
 //
 // Between two calls a job stands in eight lent words (max_cells, cells, rings, generation, lines,
-// refused, held, and one that is spare) and five lent numbers, those of its bar, beside its cells, its
-// rings and the unfinished line. Words that are all 0 are a job before its first byte. Words of any
-// other kind are read as they stand: what becomes of them is said by the same rules.
+// refused, held, edition) and five lent numbers, those of its bar, beside its cells, its rings and the
+// unfinished line. Words that are all 0, or 0 up to the edition, are a job before its first byte. Words
+// of any other kind are read as they stand: of the edition its lower half, and what becomes of them is
+// said by the same rules.
 ghost use mathlib.Core.Path.{_≡_};
 ghost use Prim.Native.Nat.{min};
 ghost use Rattle.turning.specs.Jobs.{runFrom, heldIn, endFrom, endState, KeepsRun, HandsJob, HandsEnd, HandsLine};
@@ -25,12 +26,12 @@ fn run_of(words: &[u64; WORDS], bar: &[f64; BAR]) -> Run
     ensures { λ r. ⌜ r ≡ runFrom (now (words .entry)) (now (bar .entry)) ⌝ }
 {
     let spec = stock_c::spec_of(bar[0], bar[1], bar[2], bar[3], bar[4], words[0] as usize);
+    let edition = stock_c::edition_in(words[7]);
+    let stock = stock_c::stock_of(spec, edition, words[3], words[2] as usize);
     Run {
         job: Job {
-            spec,
+            stock,
             cells: words[1] as usize,
-            rings: words[2] as usize,
-            generation: words[3],
         },
         lines: words[4],
         refused: words[5],
@@ -44,16 +45,18 @@ fn held_in(words: &[u64; WORDS]) -> usize
     words[6] as usize
 }
 
-// A run that holds so many bytes, put into the words and the bar.
+// A run that holds so many bytes, put into the words and the bar. Its edition stands in the last word
+// already: no line changes it.
 fn keep(run: Run, held: usize, words: &mut [u64; WORDS], bar: &mut [f64; BAR])
     ensures { λ _. ⌜ KeepsRun run held words bar ⌝ }
 {
     let job = run.job;
-    let spec = job.spec;
+    let stock = job.stock;
+    let spec = stock.spec;
     words[0] = spec.max_cells as u64;
     words[1] = job.cells as u64;
-    words[2] = job.rings as u64;
-    words[3] = job.generation;
+    words[2] = stock.rings as u64;
+    words[3] = stock.stamp.generation;
     words[4] = run.lines;
     words[5] = run.refused;
     words[6] = held as u64;

@@ -1,8 +1,9 @@
 // The C boundary: libturning.a, whose interface is include/turning.h.
 //
 // Every call returns 0 where it is accepted, else the refusal number of document 01, and a refusal
-// writes nothing but *position, where its number has one. The calls are thin: each makes the spec, calls the library, and turns its answer
-// into a number and out-parameters. Their promises cite the library's own rules.
+// writes nothing but *position, where its number has one. The calls are thin: each makes the spec, and
+// of it with an edition and a generation the stock, calls the library, and turns its answer into a
+// number and out-parameters. Their promises cite the library's own rules.
 // `turning_job_finish` alone tells a refusal that is not its own: that of the job, with its line.
 // `turning_read_part` alone writes where it is refused: what it read before the refused line.
 // Each promise allows one outcome (`proofs/Once`).

@@ -2,16 +2,16 @@
 ghost use mathlib.Core.Path.{_≡_};
 ghost use Rattle.rings.specs.Ring.{ring};
 ghost use Rattle.stock.specs.declared.TurnStock.{TurnStock};
+ghost use Rattle.stock.specs.Stock.{stockFrom};
 ghost use Rattle.rings.specs.Remove.{removedPaper, removeRing};
 ghost use Rattle.moves.specs.Move.{movedPaper, moveOf, partsOf, rebuiltPaper};
-ghost use Rattle.turning.specs.Boundary.{specFrom, ringsIn, HandsPlace, HandsTwoPlace, HandsRings, HandsMove, HandsStore};
+ghost use Rattle.turning.specs.Boundary.{specFrom, listFrom, HandsTwoPlace, HandsRings, HandsMove, HandsStore};
+use crate::cuts_c;
 use crate::stock_c;
 use moves::Moved;
 use moves::Rebuilt;
 use rings::Removed;
 use rings::Ring;
-use stock::Stamp;
-use stock::TurnStock;
 
 // The count of rings and the generation afterwards, or the number of the refusal, with its place where
 // it has one.
@@ -62,11 +62,7 @@ pub extern "C" fn turning_remove_ring(
     let spec = stock_c::spec_of(z_min, z_max, outer, bore, cell, max_cells);
     let count = *rings_count;
     let before = *generation;
-    let stock = TurnStock {
-        spec,
-        stamp: Stamp { generation: before },
-        rings: count,
-    };
+    let stock = stock_c::stock_of(spec, 0, before, count);
     let answer = rings::remove_ring(stock, rings, Ring { z0, z1, r0, r1 });
     give_removed(answer, rings_count, generation, position)
 }
@@ -99,35 +95,43 @@ pub extern "C" fn turning_apply_move(
     bore: f64,
     cell: f64,
     max_cells: usize,
+    edition: u32,
+    generation: &mut u64,
     cells: &mut [f64],
     rings: &mut [f64],
     rings_count: &mut usize,
-    generation: &mut u64,
     indices: &[usize],
     records: &[f64],
     changes: usize,
+    list_edition: u32,
+    list_generation: u64,
     removed: &[f64],
     position: &mut usize,
 ) -> u32
-    ensures { λ r. ⌜ HandsMove (moveOf (specFrom «z_min» «z_max» outer bore cell «max_cells») (now (cells .entry))
-        (now (rings .entry)) (now («rings_count» .entry)) (now (generation .entry)) (now (indices .entry))
-        (now (records .entry)) changes (now (removed .entry))) r cells rings «rings_count» generation position ⌝ }
+    ensures { λ r. ⌜ HandsMove
+        (moveOf (stockFrom (specFrom «z_min» «z_max» outer bore cell «max_cells») edition (now («rings_count» .entry))
+        (now (generation .entry))) (now (cells .entry)) (now (rings .entry)) (listFrom changes «list_edition» «list_generation»)
+        (now (indices .entry)) (now (records .entry)) (now (removed .entry))) r cells rings «rings_count» generation position ⌝ }
 {
     let spec = stock_c::spec_of(z_min, z_max, outer, bore, cell, max_cells);
     let count = *rings_count;
     let before = *generation;
-    let stock = TurnStock {
-        spec,
-        stamp: Stamp { generation: before },
-        rings: count,
-    };
-    let answer = moves::apply_move(stock, cells, rings, indices, records, changes, removed);
+    let stock = stock_c::stock_of(spec, edition, before, count);
+    let list = cuts_c::list_of(changes, list_edition, list_generation);
+    let answer = moves::apply_move(stock, cells, rings, list, indices, records, removed);
     give_moved(answer, rings_count, generation, position)
 }
 
-// The count of rings of a rebuilt stock, or the number of the refusal, with its place where it has one.
-fn give_rebuilt(answer: Rebuilt, count: &mut usize, position: &mut usize) -> u32
-    ensures { λ r. ⌜ HandsPlace (ringsIn (rebuiltPaper answer)) r count position ⌝ }
+// The count of rings and the generation of a rebuilt stock, or the number of the refusal, with its
+// place where it has one.
+fn give_rebuilt(
+    answer: Rebuilt,
+    count: &mut usize,
+    generation: &mut u64,
+    position: &mut usize,
+) -> u32
+    ensures { λ r. ⌜ HandsTwoPlace (λ (k : TurnStock). k .rings) (λ (k : TurnStock). k .stamp .generation) (rebuiltPaper answer) r
+        count generation position ⌝ }
 {
     match answer {
         Rebuilt::Refused(r) => refusals::number(r),
@@ -137,6 +141,7 @@ fn give_rebuilt(answer: Rebuilt, count: &mut usize, position: &mut usize) -> u32
         }
         Rebuilt::Stock(kept) => {
             *count = kept.rings;
+            *generation = kept.stamp.generation;
             0
         }
     }
@@ -150,6 +155,8 @@ pub extern "C" fn turning_from_parts(
     bore: f64,
     cell: f64,
     max_cells: usize,
+    edition: u32,
+    generation: &mut u64,
     cells: &[f64],
     given: &[f64],
     rings: &mut [f64],
@@ -157,9 +164,9 @@ pub extern "C" fn turning_from_parts(
     position: &mut usize,
 ) -> u32
     ensures { λ r. ⌜ HandsStore (partsOf (specFrom «z_min» «z_max» outer bore cell «max_cells») (now (cells .entry))
-        (now (given .entry)) (now (rings .entry))) r rings «rings_count» position ⌝ }
+        (now (given .entry)) (now (rings .entry))) r rings «rings_count» generation position ⌝ }
 {
     let spec = stock_c::spec_of(z_min, z_max, outer, bore, cell, max_cells);
-    let answer = moves::from_parts(spec, cells, given, rings);
-    give_rebuilt(answer, rings_count, position)
+    let answer = moves::from_parts(spec, edition, cells, given, rings);
+    give_rebuilt(answer, rings_count, generation, position)
 }

@@ -1,12 +1,14 @@
-// Spec, bins, cells.
+// Spec, stamp, bins, cells.
 ghost use mathlib.Core.Path.{_≡_};
 ghost use Rattle.stock.specs.Spec.{cellsOf, countedPaper};
 ghost use Rattle.stock.specs.Bin.{binFor, binnedPaper};
-ghost use Rattle.stock.specs.Stock.{madePaper};
-ghost use Rattle.turning.specs.Boundary.{specFrom, codeOf, Hands, HandsBin, HandsCells};
+ghost use Rattle.stock.specs.Stock.{stockFrom, madePaper};
+ghost use Rattle.turning.specs.Boundary.{specFrom, editionIn, generationIn, Hands, HandsBin, HandsCells};
 use stock::Binned;
 use stock::Counted;
 use stock::Made;
+use stock::Stamp;
+use stock::TurnStock;
 use stock::TurnStockSpec;
 
 // A spec's six numbers.
@@ -28,6 +30,27 @@ pub fn spec_of(
         cell_mm: cell,
         max_cells,
     }
+}
+
+// A stock with so many rings, which are lent beside it.
+pub fn stock_of(spec: TurnStockSpec, edition: u32, generation: u64, rings: usize) -> TurnStock
+    ensures { λ r. ⌜ r ≡ stockFrom spec edition rings generation ⌝ }
+{
+    TurnStock {
+        spec,
+        stamp: Stamp {
+            edition,
+            generation,
+        },
+        rings,
+    }
+}
+
+// An edition kept in a word: its lower half.
+pub fn edition_in(word: u64) -> u32
+    ensures { λ r. ⌜ r ≡ editionIn word ⌝ }
+{
+    (word % 4294967296) as u32
 }
 
 // A count handed out, or the number of the refusal.
@@ -57,13 +80,16 @@ fn give_bin(answer: Binned, za: &mut f64, zb: &mut f64) -> u32
     }
 }
 
-// 0, or the number of the refusal.
-fn code_of(answer: Made) -> u32
-    ensures { λ r. ⌜ r ≡ codeOf (madePaper answer) ⌝ }
+// The generation of a new stock, or the number of the refusal.
+fn give_new(answer: Made, generation: &mut u64) -> u32
+    ensures { λ r. ⌜ Hands (generationIn (madePaper answer)) r generation ⌝ }
 {
     match answer {
         Made::Refused(r) => refusals::number(r),
-        Made::Stock(_) => 0,
+        Made::Stock(k) => {
+            *generation = k.stamp.generation;
+            0
+        }
     }
 }
 
@@ -109,10 +135,12 @@ pub extern "C" fn turning_new(
     bore: f64,
     cell: f64,
     max_cells: usize,
+    edition: u32,
+    generation: &mut u64,
     cells: &mut [f64],
 ) -> u32
-    ensures { λ r. ⌜ HandsCells (specFrom «z_min» «z_max» outer bore cell «max_cells») r cells ⌝ }
+    ensures { λ r. ⌜ HandsCells (specFrom «z_min» «z_max» outer bore cell «max_cells») r cells generation ⌝ }
 {
     let spec = spec_of(z_min, z_max, outer, bore, cell, max_cells);
-    code_of(stock::fill(spec, cells))
+    give_new(stock::fill(spec, edition, cells), generation)
 }

@@ -2,6 +2,7 @@
 ghost use mathlib.Core.Path.{_≡_};
 ghost use Rattle.refusals.specs.Paper.{refuses, only, onward};
 ghost use Rattle.stock.specs.Cell.{stockOf};
+ghost use Rattle.stock.specs.Stock.{stampOf};
 ghost use Rattle.changes.specs.Change.{Proposes};
 ghost use Rattle.turning.specs.Boundary.{specFrom, noseBySide, polygonBySide, noChanges, HandsChanges};
 use crate::cuts_c;
@@ -10,6 +11,7 @@ use changes::Previewed;
 use refusals::Refusal;
 use stock::Counted;
 use stock::TurnSide;
+use stock::TurnStock;
 use stock::TurnStockSpec;
 
 // How a number that is no side is refused: 1, 2, 3, then 5.
@@ -24,7 +26,7 @@ fn no_side(spec: TurnStockSpec, cells: &[f64]) -> Refusal
 }
 
 fn nose_by(
-    spec: TurnStockSpec,
+    stock: TurnStock,
     cells: &[f64],
     side: u32,
     rn: f64,
@@ -32,19 +34,36 @@ fn nose_by(
     indices: &mut [usize],
     records: &mut [f64],
 ) -> Previewed
-    ensures { λ r. ⌜ Proposes (noseBySide spec (now (cells .entry)) side rn (now (segments .entry))) r indices records ⌝ }
+    ensures { λ r. ⌜ Proposes (stock .stamp)
+        (noseBySide (stock .spec) (now (cells .entry)) side rn (now (segments .entry))) r indices records ⌝ }
 {
     if side == 0 {
-        return cuts::preview(spec, cells, TurnSide::Outer, rn, segments, indices, records);
+        return cuts::preview(
+            stock,
+            cells,
+            TurnSide::Outer,
+            rn,
+            segments,
+            indices,
+            records,
+        );
     }
     if side == 1 {
-        return cuts::preview(spec, cells, TurnSide::Inner, rn, segments, indices, records);
+        return cuts::preview(
+            stock,
+            cells,
+            TurnSide::Inner,
+            rn,
+            segments,
+            indices,
+            records,
+        );
     }
-    Previewed::Refused(no_side(spec, cells))
+    Previewed::Refused(no_side(stock.spec, cells))
 }
 
 fn polygon_by(
-    spec: TurnStockSpec,
+    stock: TurnStock,
     cells: &[f64],
     side: u32,
     excess: f64,
@@ -52,11 +71,12 @@ fn polygon_by(
     indices: &mut [usize],
     records: &mut [f64],
 ) -> Previewed
-    ensures { λ r. ⌜ Proposes (polygonBySide spec (now (cells .entry)) side excess (now (points .entry))) r indices records ⌝ }
+    ensures { λ r. ⌜ Proposes (stock .stamp)
+        (polygonBySide (stock .spec) (now (cells .entry)) side excess (now (points .entry))) r indices records ⌝ }
 {
     if side == 0 {
         return cuts::preview_polygon(
-            spec,
+            stock,
             cells,
             TurnSide::Outer,
             excess,
@@ -67,7 +87,7 @@ fn polygon_by(
     }
     if side == 1 {
         return cuts::preview_polygon(
-            spec,
+            stock,
             cells,
             TurnSide::Inner,
             excess,
@@ -76,7 +96,7 @@ fn polygon_by(
             records,
         );
     }
-    Previewed::Refused(no_side(spec, cells))
+    Previewed::Refused(no_side(stock.spec, cells))
 }
 
 #[no_mangle]
@@ -87,6 +107,8 @@ pub extern "C" fn turning_preview(
     bore: f64,
     cell: f64,
     max_cells: usize,
+    edition: u32,
+    generation: u64,
     cells: &[f64],
     side: u32,
     rn: f64,
@@ -94,14 +116,17 @@ pub extern "C" fn turning_preview(
     indices: &mut [usize],
     records: &mut [f64],
     count: &mut usize,
+    list_edition: &mut u32,
+    list_generation: &mut u64,
 ) -> u32
-    ensures { λ r. ⌜ HandsChanges
+    ensures { λ r. ⌜ HandsChanges (stampOf edition generation)
         (noseBySide (specFrom «z_min» «z_max» outer bore cell «max_cells») (now (cells .entry)) side rn
-        (now (segments .entry))) r count indices records ⌝ }
+        (now (segments .entry))) r indices records count «list_edition» «list_generation» ⌝ }
 {
     let spec = stock_c::spec_of(z_min, z_max, outer, bore, cell, max_cells);
-    let answer = nose_by(spec, cells, side, rn, segments, indices, records);
-    cuts_c::give_changes(answer, count)
+    let stock = stock_c::stock_of(spec, edition, generation, 0);
+    let answer = nose_by(stock, cells, side, rn, segments, indices, records);
+    cuts_c::give_changes(answer, count, list_edition, list_generation)
 }
 
 #[no_mangle]
@@ -112,6 +137,8 @@ pub extern "C" fn turning_preview_polygon(
     bore: f64,
     cell: f64,
     max_cells: usize,
+    edition: u32,
+    generation: u64,
     cells: &[f64],
     side: u32,
     excess: f64,
@@ -119,12 +146,15 @@ pub extern "C" fn turning_preview_polygon(
     indices: &mut [usize],
     records: &mut [f64],
     count: &mut usize,
+    list_edition: &mut u32,
+    list_generation: &mut u64,
 ) -> u32
-    ensures { λ r. ⌜ HandsChanges
+    ensures { λ r. ⌜ HandsChanges (stampOf edition generation)
         (polygonBySide (specFrom «z_min» «z_max» outer bore cell «max_cells») (now (cells .entry)) side excess
-        (now (points .entry))) r count indices records ⌝ }
+        (now (points .entry))) r indices records count «list_edition» «list_generation» ⌝ }
 {
     let spec = stock_c::spec_of(z_min, z_max, outer, bore, cell, max_cells);
-    let answer = polygon_by(spec, cells, side, excess, points, indices, records);
-    cuts_c::give_changes(answer, count)
+    let stock = stock_c::stock_of(spec, edition, generation, 0);
+    let answer = polygon_by(stock, cells, side, excess, points, indices, records);
+    cuts_c::give_changes(answer, count, list_edition, list_generation)
 }

@@ -3,7 +3,7 @@ use super::{bar_of, lent, pair, stock_of};
 use crate::bench::library_side;
 use crate::bench::rows::room;
 use crate::bench::time::{Sides, side};
-use crate::call::{Call, Simple};
+use crate::call::{Call, Simple, Stamp};
 use crate::oracle::cuts::{segment, stock_with_length};
 use crate::oracle::stock::{Bar, fresh};
 use length::turning::stock as with_length;
@@ -14,6 +14,7 @@ use std::hint::black_box;
 fn simple(bar: &Bar, cut: Simple) -> Call {
     Call::Cut {
         spec: bar.spec,
+        stamp: Stamp::default(),
         cells: lent(bar),
         cut,
         room: room(bar.n),
@@ -83,6 +84,7 @@ fn nose(bins: usize, segments: usize) -> Sides<'static> {
         }),
         library_side(Call::Preview {
             spec: bar.spec,
+            stamp: Stamp::default(),
             cells: lent(&bar),
             side: 0,
             rn,
@@ -116,6 +118,7 @@ fn polygon(bins: usize, count: usize) -> Sides<'static> {
     let go = move || stock.preview_polygon(black_box(&points), TurnSide::Outer, 0.01);
     let call = Call::PreviewPolygon {
         spec: bar.spec,
+        stamp: Stamp::default(),
         cells: lent(&bar),
         side: 0,
         excess: 0.01,

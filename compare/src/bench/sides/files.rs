@@ -1,7 +1,7 @@
 //! A stock file read and written, beside a plain reader and writer in std Rust. One call is the whole file.
 use crate::bench::time::{Sides, side};
 use crate::call::{Spec, Store};
-use crate::files::bench::{plain_read, plain_write, read, stock, write};
+use crate::files::bench::{EDITION, plain_read, plain_write, read, stock, write};
 use crate::files::run::{Reading, Writing};
 
 const RINGS: usize = 256;
@@ -36,6 +36,7 @@ pub fn stock_lines(n: usize) -> Sides<'static> {
     let count = move || {
         let writing = Writing {
             spec,
+            edition: EDITION,
             cells: &cells,
             store: &store,
         };
@@ -51,6 +52,7 @@ pub fn stock_line(n: usize) -> Sides<'static> {
     let ours = move || {
         let writing = Writing {
             spec,
+            edition: EDITION,
             cells: &cells,
             store: &store,
         };

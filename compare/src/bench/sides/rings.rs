@@ -3,7 +3,7 @@ use super::{bar_of, lent, pair};
 use crate::bench::queries;
 use crate::bench::rows::spec;
 use crate::bench::time::{Sides, side};
-use crate::call::{Call, List};
+use crate::call::{Call, List, Stamp};
 use crate::oracle::stock::{bar, camlib_spec, camlib_stock, fresh, to_camlib};
 use plain::turning::stock::TurnStock;
 use std::hint::black_box;
@@ -61,9 +61,9 @@ pub fn apply_move(stored: usize) -> Sides<'static> {
     };
     let call = Call::ApplyMove {
         spec: bar.spec,
+        stamp: Stamp::default(),
         cells: lent(&bar),
         store: queries::store(&kept),
-        generation: 0,
         list: List::default(),
         removed: flat,
     };
@@ -79,6 +79,7 @@ pub fn from_parts(rings: usize) -> Sides<'static> {
     let go = move || TurnStock::from_parts(camlib_spec(&bar.spec), cells.clone(), given.clone());
     let call = Call::FromParts {
         spec: bar.spec,
+        stamp: Stamp::default(),
         cells: lent(&bar),
         given: flat,
         rings_len: 1024,

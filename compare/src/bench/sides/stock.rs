@@ -2,7 +2,7 @@
 use super::{bar_of, lent, pair, stock_of};
 use crate::bench::rows::room;
 use crate::bench::time::Sides;
-use crate::call::{Call, List};
+use crate::call::{Call, List, Stamp};
 use crate::oracle::stock::{camlib_spec, camlib_stock, fresh, to_camlib};
 use plain::turning::stock::{TurnChange, TurnStock};
 use std::hint::black_box;
@@ -25,8 +25,12 @@ pub fn new(bins: usize) -> Sides<'static> {
     let spec = bar_of(bins).spec;
     let rust = camlib_spec(&spec);
     let go = move || TurnStock::new(black_box(&rust).clone());
-    let cells_len = 4 * bins;
-    pair(go, Call::New { spec, cells_len })
+    let call = Call::New {
+        spec,
+        stamp: Stamp::default(),
+        cells_len: 4 * bins,
+    };
+    pair(go, call)
 }
 
 /// A change of every cell to itself, so that the list can be committed again.
@@ -45,11 +49,12 @@ pub fn apply(bins: usize) -> Sides<'static> {
         indices: (0..bins).collect(),
         records: cells.iter().flat_map(|c| [*c, *c]).flatten().collect(),
         changes: bins,
+        stamp: Stamp::default(),
     };
     let call = Call::Apply {
         spec: bar.spec,
+        stamp: Stamp::default(),
         cells: lent(&bar),
-        generation: 0,
         list,
     };
     pair(go, call)
@@ -64,6 +69,7 @@ pub fn changes_to(bins: usize) -> Sides<'static> {
     let go = move || from.changes_to(black_box(&to));
     let call = Call::ChangesTo {
         spec: bar.spec,
+        stamp: Stamp::default(),
         cells: lent(&bar),
         after: after.as_flattened().to_vec(),
         room: room(bar.n),

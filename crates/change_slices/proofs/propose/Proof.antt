@@ -46,10 +46,10 @@ use denote.Triple.Clauses.{ensured, lasts}
 use denote.Exit.{yes}
 use Rattle.refusals.specs.Paper.{Paper}
 use Rattle.floats.specs.Numbers.{zero64}
-use Rattle.stock.specs.declared.TurnStockSpec.{TurnStockSpec}
+use Rattle.stock.specs.declared.TurnStock.{TurnStock}
 use Rattle.stock.specs.declared.TurnChange.{TurnChange}
-use Rattle.stock.proofs.TurnStockSpec as S
-use Rattle.stock.proofs.TurnStockSpec.Laws as S′
+use Rattle.stock.proofs.TurnStock as S
+use Rattle.stock.proofs.TurnStock.Laws as S′
 use Rattle.stock.proofs.TurnChange as T
 use Rattle.changes.specs.declared.Previewed.{Previewed}
 use Rattle.changes.specs.Change.{roomOf}
@@ -85,8 +85,8 @@ use Rattle.change_slices.proofs.propose.Code.Mir as mir
 abbrev stayed : Stays (f.ended .signature .params) (f.ended .kept)
 stayed = (stay-dropped (plain (λ _. S.the-row)) yes, (stay-dropped (shrSliceOf (0 ∷ []) tt (plain (λ _. f64))) yes, (stay-dropped (plain (λ _. P.the-row)) yes, (stay-dropped (shrSliceOf (1 ∷ []) tt (plain (λ _. f64))) yes, (gave-slice (2 ∷ []) tt (plain (λ _. T.the-row)), tt)))))
 
--- the machine values of a spec and of a kind, and the types of the locals
-abbrev pv : TurnStockSpec → Val
+-- the machine values of a stock and of a tool, and the types of the locals
+abbrev pv : TurnStock → Val
 pv = LL.val S.the-type S′.the-laws
 
 abbrev kv : Tool → Val
@@ -153,8 +153,8 @@ module _ {M : Type 1} (𝓤 : URA M) (H : Heap 𝓤) (A : Atoms 𝓤) (mem : Mem
   abbrev ReadC : Contract 𝓤
   ReadC = tripleOf 𝓤 H A r-fn.signature (r-fn.spec 𝓤 H A mem run)
 
-module _ {M : Type 1} (𝓤 : URA M) (H : Heap 𝓤) (A : Atoms 𝓤) (W : Given 𝓤 H A) (mem : Memory → SProp 𝓤) (run : Routine → Fun 𝓤) (κ₀ κ₁ κ₂ : Lft) (q₀ q₁ q₂ : Share) (spec : TurnStockSpec) (p : RefT (List Float)) (tool : Tool) (v : RefT (List Float)) (b o : ℕ) (γ : GName) (ys : List TurnChange)
-    (gs : Is S.the-row spec (pv spec ∷ [])) (gp : length (now p) < 2 ^ 64) (gk : Is P.the-row tool (kv tool ∷ [])) (gv : length (now v) < 2 ^ 64) (gn : Room T.the-row (length ys)) where
+module _ {M : Type 1} (𝓤 : URA M) (H : Heap 𝓤) (A : Atoms 𝓤) (W : Given 𝓤 H A) (mem : Memory → SProp 𝓤) (run : Routine → Fun 𝓤) (κ₀ κ₁ κ₂ : Lft) (q₀ q₁ q₂ : Share) (stock : TurnStock) (p : RefT (List Float)) (tool : Tool) (v : RefT (List Float)) (b o : ℕ) (γ : GName) (ys : List TurnChange)
+    (gs : Is S.the-row stock (pv stock ∷ [])) (gp : length (now p) < 2 ^ 64) (gk : Is P.the-row tool (kv tool ∷ [])) (gv : length (now v) < 2 ^ 64) (gn : Room T.the-row (length ys)) where
   abbrev n : ℕ
   n = length ys
 
@@ -162,13 +162,13 @@ module _ {M : Type 1} (𝓤 : URA M) (H : Heap 𝓤) (A : Atoms 𝓤) (W : Given
   s = record { ptr = (b, o); name = γ; now = ys }
 
   abbrev at : Vals f.signature (κ₀, (κ₁, (κ₂, tt)))
-  at = (pv spec ∷ [], (slice-vals p, (kv tool ∷ [], (slice-vals v, (sliceVal (b, o) n ∷ [], tt)))))
+  at = (pv stock ∷ [], (slice-vals p, (kv tool ∷ [], (slice-vals v, (sliceVal (b, o) n ∷ [], tt)))))
 
   abbrev Post : Val → SProp 𝓤
-  Post = walkOf 𝓤 H A f.ended stayed (f.clauses 𝓤 H A mem run) .post ((((κ₀, (κ₁, (κ₂, tt))), (q₀, (q₁, (q₂, tt))), tt, (spec, (p, (tool, (v, (s, tt))))), at), tt))
+  Post = walkOf 𝓤 H A f.ended stayed (f.clauses 𝓤 H A mem run) .post ((((κ₀, (κ₁, (κ₂, tt))), (q₀, (q₁, (q₂, tt))), tt, (stock, (p, (tool, (v, (s, tt))))), at), tt))
 
   abbrev Rule : ℕ → Paper (List TurnChange)
-  Rule = previewTool spec (now p) tool (now v)
+  Rule = previewTool (stock .spec) (now p) tool (now v)
 
   abbrev Cells : Fml
   Cells = ShrSlice (named 0) κ₀ f64 .own p (slice-vals p)
@@ -179,10 +179,10 @@ module _ {M : Type 1} (𝓤 : URA M) (H : Heap 𝓤) (A : Atoms 𝓤) (W : Given
   abbrev Ch : Fml
   Ch = MutSlice (named 2) κ₂ T.the-row .own s (sliceVal (b, o) n ∷ [])
 
-  exits : (zs : List TurnChange) (r : Previewed) (u : Val) → length zs ≡ n → Written (Rule n) r ys zs → ent 𝓤 (⋆ 𝓤 H A (‵ (flft κ₀ q₀) ∷ ‵ (flft κ₁ q₁) ∷ ‵ (flft κ₂ q₂) ∷ ‵ (finally T.the-row γ zs) ∷ ‵ (R.the-row .own r (u ∷ [])) ∷ [])) (Post u)
+  exits : (zs : List TurnChange) (r : Previewed) (u : Val) → length zs ≡ n → Written (stock .stamp) (Rule n) r ys zs → ent 𝓤 (⋆ 𝓤 H A (‵ (flft κ₀ q₀) ∷ ‵ (flft κ₁ q₁) ∷ ‵ (flft κ₂ q₂) ∷ ‵ (finally T.the-row γ zs) ∷ ‵ (R.the-row .own r (u ∷ [])) ∷ [])) (Post u)
   exits zs r u l e =
       qed W (‵ (flft κ₀ q₀) ∷ ‵ (flft κ₁ q₁) ∷ ‵ (flft κ₂ q₂) ∷ ‵ (finally T.the-row γ zs) ∷ ‵ (R.the-row .own r (u ∷ [])) ∷ []) ∵
-      suffices ! _ (ends-at 𝓤 H A f.ended stayed (f.clauses 𝓤 H A mem run) W ((((κ₀, (κ₁, (κ₂, tt))), (q₀, (q₁, (q₂, tt))), tt, (spec, (p, (tool, (v, (s, tt))))), at), tt)) u r (tt, (tt, (tt, (tt, (zs, tt))))) (tt, (tt, (tt, (tt, (l, tt)))))) $ says ! e $
+      suffices ! _ (ends-at 𝓤 H A f.ended stayed (f.clauses 𝓤 H A mem run) W ((((κ₀, (κ₁, (κ₂, tt))), (q₀, (q₁, (q₂, tt))), tt, (stock, (p, (tool, (v, (s, tt))))), at), tt)) u r (tt, (tt, (tt, (tt, (zs, tt))))) (tt, (tt, (tt, (tt, (l, tt)))))) $ says ! e $
       nothing ! $ move ! (3 ∷ 0 ∷ []) $ join ! $ move ! (2 ∷ 0 ∷ []) $ join ! $ move ! (1 ∷ 0 ∷ []) $ join ! $ frame ! $
       nothing ! $ move ! (1 ∷ 0 ∷ []) $ fjoin ! $ nothing ! $ fjoin ! $ nothing ! $ fjoin ! $ nothing ! $ fjoin ! $ nothing ! $ fjoin ! $ frame ! $ done !
 
@@ -207,24 +207,24 @@ module _ {M : Type 1} (𝓤 : URA M) (H : Heap 𝓤) (A : Atoms 𝓤) (W : Given
 
   -- ---- `list`
   abbrev to-list : ℕ → ℕ → ℕ → ℕ → GName → GName → List ℕ → List Float → ListC 𝓤 H A mem run .Ghost
-  to-list li ln ν ν′ δ δ′ is xs = (((κ₀, (κ₁, (ν ∷ [], (ν′ ∷ [], tt)))), (q₀, (q₁, (fullShare, (fullShare, tt)))), tt, (spec, (p, (tool, (v, (n, (at-i li δ is, (at-n ln δ′ xs, tt))))))), (pv spec ∷ [], (slice-vals p, (kv tool ∷ [], (slice-vals v, (vint w64 n ∷ [], (sliceVal (li, 0) (length is) ∷ [], (sliceVal (ln, 0) (length xs) ∷ [], tt)))))))), tt)
+  to-list li ln ν ν′ δ δ′ is xs = (((κ₀, (κ₁, (ν ∷ [], (ν′ ∷ [], tt)))), (q₀, (q₁, (fullShare, (fullShare, tt)))), tt, (stock, (p, (tool, (v, (n, (at-i li δ is, (at-n ln δ′ xs, tt))))))), (pv stock ∷ [], (slice-vals p, (kv tool ∷ [], (slice-vals v, (vint w64 n ∷ [], (sliceVal (li, 0) (length is) ∷ [], (sliceVal (ln, 0) (length xs) ∷ [], tt)))))))), tt)
 
   asks-list : (li ln ν ν′ : ℕ) (δ δ′ : GName) (is : List ℕ) (xs : List Float) → ent 𝓤 (⋆ 𝓤 H A (‵ (LentI li ν δ is) ∷ ‵ (LentN ln ν′ δ′ xs) ∷ ‵ Cells ∷ ‵ Beside ∷ ‵ (flft κ₀ q₀) ∷ ‵ (flft κ₁ q₁) ∷ ‵ (flft (ν ∷ []) fullShare) ∷ ‵ (flft (ν′ ∷ []) fullShare) ∷ [])) (ListC 𝓤 H A mem run .pre (to-list li ln ν ν′ δ δ′ is xs))
   asks-list li ln ν ν′ δ δ′ is xs =
       qed W (‵ (LentI li ν δ is) ∷ ‵ (LentN ln ν′ δ′ xs) ∷ ‵ Cells ∷ ‵ Beside ∷ ‵ (flft κ₀ q₀) ∷ ‵ (flft κ₁ q₁) ∷ ‵ (flft (ν ∷ []) fullShare) ∷ ‵ (flft (ν′ ∷ []) fullShare) ∷ []) ∵
       nothing ! $ move ! (2 ∷ 0 ∷ []) $ fjoin ! $ move ! (1 ∷ 0 ∷ []) $ fjoin ! $ owned ! usize (Is usize) (uint-makes 𝓤 H A W w64) n _ (refl, gn .0) $ fjoin ! $ move ! (2 ∷ 0 ∷ []) $
-      fjoin ! $ owned ! P.the-row (Is P.the-row) (EL.makes P.the-type P′.the-plain 𝓤 H A) tool _ gk $ fjoin ! $ move ! (1 ∷ 0 ∷ []) $ fjoin ! $ owned ! S.the-row (Is S.the-row) (LL.makes S.the-type S′.the-plain 𝓤 H A) spec _ gs $
+      fjoin ! $ owned ! P.the-row (Is P.the-row) (EL.makes P.the-type P′.the-plain 𝓤 H A) tool _ gk $ fjoin ! $ move ! (1 ∷ 0 ∷ []) $ fjoin ! $ owned ! S.the-row (Is S.the-row) (LL.makes S.the-type S′.the-plain 𝓤 H A) stock _ gs $
       fjoin ! $ nothing ! $ move ! (5 ∷ 0 ∷ []) $ join ! $ move ! (4 ∷ 0 ∷ []) $ join ! $ move ! (3 ∷ 0 ∷ []) $ join ! $ move ! (2 ∷ 0 ∷ []) $ join ! $ join ! $ frame ! $ done !
 
   abbrev Listed : List ℕ → List Float → Previewed → List ℕ → List Float → Type 0
-  Listed is xs r is′ xs′ = ListsRecords n (narrowed n (Rule (roomOf (length is) (length xs)))) r is′ xs′
+  Listed is xs r is′ xs′ = ListsRecords (stock .stamp) n (narrowed n (Rule (roomOf (length is) (length xs)))) r is′ xs′
 
   -- the flat lists hold the changes of a proposal that comes to the one with the room that is lent
   abbrev Holding : List ℕ → List Float → Previewed → Type 0
-  Holding is xs r = (q : Paper (List TurnChange)) × (Rule n ≡ q) × ListsRecords n q r is xs
+  Holding is xs r = (q : Paper (List TurnChange)) × (Rule n ≡ q) × ListsRecords (stock .stamp) n q r is xs
 
   held : (is : List ℕ) (xs : List Float) (r : Previewed) (is′ : List ℕ) (xs′ : List Float) → length is ≡ 4096 → length xs ≡ 32768 → Listed is xs r is′ xs′ → Holding is′ xs′ r
-  held is xs r is′ xs′ long wide e = (narrowed n (Rule (roomOf (length is) (length xs))), lists-enough-for spec (now p) tool (now v) (length is) (length xs) long wide n, e)
+  held is xs r is′ xs′ long wide e = (narrowed n (Rule (roomOf (length is) (length xs))), lists-enough-for (stock .spec) (now p) tool (now v) (length is) (length xs) long wide n, e)
 
   -- ---- `count_of`: its argument is plain
   abbrev to-count : Previewed → Val → CountC 𝓤 H A mem run .Ghost
@@ -261,7 +261,7 @@ module _ {M : Type 1} (𝓤 : URA M) (H : Heap 𝓤) (A : Atoms 𝓤) (W : Given
 
     -- the count is in hand
     abbrev Counted : List ℕ → List Float → Val → ℕ → List (Item 𝓤)
-    Counted is xs u k = ‵ (Row f64 l₇ xs) ∷ ‵ (Row usize l₆ is) ∷ ‵ Ch ∷ ‵ (flft κ₂ q₂) ∷ ‵ (flft κ₁ q₁) ∷ ‵ (flft κ₀ q₀) ∷ ‵ (froom msl l₂₀ 0) ∷ ‵ (fdies msl l₂₀) ∷ ‵ (froom mref l₁₉ 0) ∷ ‵ (fdies mref l₁₉) ∷ ‵ (froom nshr l₁₈ 0) ∷ ‵ (fdies nshr l₁₈) ∷ ‵ (froom (tyRef erased imm narr) l₁₇ 0) ∷ ‵ (fdies (tyRef erased imm narr) l₁₇) ∷ ‵ (froom ishr l₁₆ 0) ∷ ‵ (fdies ishr l₁₆) ∷ ‵ (froom (tyRef erased imm iarr) l₁₅ 0) ∷ ‵ (fdies (tyRef erased imm iarr) l₁₅) ∷ ‵ (froom nsl l₁₄ 0) ∷ ‵ (fdies nsl l₁₄) ∷ ‵ (froom (tyRef erased mut narr) l₁₃ 0) ∷ ‵ (fdies (tyRef erased mut narr) l₁₃) ∷ ‵ (froom isl l₁₂ 0) ∷ ‵ (fdies isl l₁₂) ∷ ‵ (froom (tyRef erased mut iarr) l₁₁ 0) ∷ ‵ (fdies (tyRef erased mut iarr) l₁₁) ∷ ‵ (froom word l₁₀ 0) ∷ ‵ (fdies word l₁₀) ∷ ‵ (fat fullShare word l₉ 0 (vint w64 k)) ∷ ‵ (fdies word l₉) ∷ ‵ (fat fullShare R′.mir l₈ 0 (u)) ∷ ‵ (fdies R′.mir l₈) ∷ ‵ (fdies narr l₇) ∷ ‵ (fdies iarr l₆) ∷ ‵ (fat fullShare slice l₅ 0 (sliceVal (b, o) n)) ∷ ‵ (fdies slice l₅) ∷ ‵ (fat fullShare besides l₄ 0 (sliceVal (v .ptr) (length (now v)))) ∷ ‵ (fdies besides l₄) ∷ ‵ (fat fullShare P′.mir l₃ 0 (kv tool)) ∷ ‵ (fdies P′.mir l₃) ∷ ‵ (fat fullShare stores l₂ 0 (sliceVal (p .ptr) (length (now p)))) ∷ ‵ (fdies stores l₂) ∷ ‵ (fat fullShare S′.mir l₁ 0 (pv spec)) ∷ ‵ (fdies S′.mir l₁) ∷ ‵ (froom R′.mir l₀ 0) ∷ ‵ (fdies R′.mir l₀) ∷ []
+    Counted is xs u k = ‵ (Row f64 l₇ xs) ∷ ‵ (Row usize l₆ is) ∷ ‵ Ch ∷ ‵ (flft κ₂ q₂) ∷ ‵ (flft κ₁ q₁) ∷ ‵ (flft κ₀ q₀) ∷ ‵ (froom msl l₂₀ 0) ∷ ‵ (fdies msl l₂₀) ∷ ‵ (froom mref l₁₉ 0) ∷ ‵ (fdies mref l₁₉) ∷ ‵ (froom nshr l₁₈ 0) ∷ ‵ (fdies nshr l₁₈) ∷ ‵ (froom (tyRef erased imm narr) l₁₇ 0) ∷ ‵ (fdies (tyRef erased imm narr) l₁₇) ∷ ‵ (froom ishr l₁₆ 0) ∷ ‵ (fdies ishr l₁₆) ∷ ‵ (froom (tyRef erased imm iarr) l₁₅ 0) ∷ ‵ (fdies (tyRef erased imm iarr) l₁₅) ∷ ‵ (froom nsl l₁₄ 0) ∷ ‵ (fdies nsl l₁₄) ∷ ‵ (froom (tyRef erased mut narr) l₁₃ 0) ∷ ‵ (fdies (tyRef erased mut narr) l₁₃) ∷ ‵ (froom isl l₁₂ 0) ∷ ‵ (fdies isl l₁₂) ∷ ‵ (froom (tyRef erased mut iarr) l₁₁ 0) ∷ ‵ (fdies (tyRef erased mut iarr) l₁₁) ∷ ‵ (froom word l₁₀ 0) ∷ ‵ (fdies word l₁₀) ∷ ‵ (fat fullShare word l₉ 0 (vint w64 k)) ∷ ‵ (fdies word l₉) ∷ ‵ (fat fullShare R′.mir l₈ 0 (u)) ∷ ‵ (fdies R′.mir l₈) ∷ ‵ (fdies narr l₇) ∷ ‵ (fdies iarr l₆) ∷ ‵ (fat fullShare slice l₅ 0 (sliceVal (b, o) n)) ∷ ‵ (fdies slice l₅) ∷ ‵ (fat fullShare besides l₄ 0 (sliceVal (v .ptr) (length (now v)))) ∷ ‵ (fdies besides l₄) ∷ ‵ (fat fullShare P′.mir l₃ 0 (kv tool)) ∷ ‵ (fdies P′.mir l₃) ∷ ‵ (fat fullShare stores l₂ 0 (sliceVal (p .ptr) (length (now p)))) ∷ ‵ (fdies stores l₂) ∷ ‵ (fat fullShare S′.mir l₁ 0 (pv stock)) ∷ ‵ (fdies S′.mir l₁) ∷ ‵ (froom R′.mir l₀ 0) ∷ ‵ (fdies R′.mir l₀) ∷ []
 
     reads : (is : List ℕ) (xs : List Float) → length is ≡ 4096 → length xs ≡ 32768 → (r : Previewed) (u : Val) → Is R.the-row r (u ∷ []) → Holding is xs r → (k : ℕ) → k < 2 ^ 64 → k ≡ countIn r → Sq W (Counted is xs u k) (runs C Λ En mir.t-10 (atRet En Post))
     reads is xs long wide r u is-r e k gk′ is-k =
@@ -287,11 +287,11 @@ module _ {M : Type 1} (𝓤 : URA M) (H : Heap 𝓤) (A : Atoms 𝓤) (W : Given
         free1 ! $ move ! (26 ∷ 27 ∷ []) $ free1 ! $ move ! (24 ∷ 25 ∷ []) $ free1 ! $ move ! (22 ∷ 23 ∷ []) $ free1 ! $ move ! (20 ∷ 21 ∷ []) $ free1 ! $ move ! (18 ∷ 19 ∷ []) $ free1 ! $
         move ! (16 ∷ 17 ∷ []) $ free1 ! $ move ! (14 ∷ 15 ∷ []) $ free1 ! $ move ! (12 ∷ 13 ∷ []) $ free1 ! $ move ! (10 ∷ 11 ∷ []) $ free1 ! $ move ! (8 ∷ 9 ∷ []) $ free1 ! $ move ! (6 ∷ 7 ∷ []) $
         free1 ! $ move ! (4 ∷ 5 ∷ []) $ free1 ! $ free0 ! $ owned ! R.the-row (Is R.the-row) (EL.makes R.the-type R′.the-plain 𝓤 H A) r (u ∷ []) is-r $ keep ! (4 ∷ 3 ∷ 1 ∷ 2 ∷ 0 ∷ []) $
-        by ! (exits (vs .1 .1 .1 .0) r u same (records-hold _ _ r is xs m ys (vs .1 .1 .1 .0) (e .1) (e .2) (subst (λ (j : ℕ). Reads is xs j m ys (vs .1 .1 .1 .0)) is-k d)))))))))))))
+        by ! (exits (vs .1 .1 .1 .0) r u same (records-hold (stock .stamp) _ _ r is xs m ys (vs .1 .1 .1 .0) (e .1) (e .2) (subst (λ (j : ℕ). Reads is xs j m ys (vs .1 .1 .1 .0)) is-k d)))))))))))))
 
     -- the answer is in hand
     abbrev Answered : List ℕ → List Float → Val → List (Item 𝓤)
-    Answered is xs u = ‵ (Row f64 l₇ xs) ∷ ‵ (Row usize l₆ is) ∷ ‵ Ch ∷ ‵ (flft κ₂ q₂) ∷ ‵ (flft κ₁ q₁) ∷ ‵ (flft κ₀ q₀) ∷ ‵ (froom msl l₂₀ 0) ∷ ‵ (fdies msl l₂₀) ∷ ‵ (froom mref l₁₉ 0) ∷ ‵ (fdies mref l₁₉) ∷ ‵ (froom nshr l₁₈ 0) ∷ ‵ (fdies nshr l₁₈) ∷ ‵ (froom (tyRef erased imm narr) l₁₇ 0) ∷ ‵ (fdies (tyRef erased imm narr) l₁₇) ∷ ‵ (froom ishr l₁₆ 0) ∷ ‵ (fdies ishr l₁₆) ∷ ‵ (froom (tyRef erased imm iarr) l₁₅ 0) ∷ ‵ (fdies (tyRef erased imm iarr) l₁₅) ∷ ‵ (froom nsl l₁₄ 0) ∷ ‵ (fdies nsl l₁₄) ∷ ‵ (froom (tyRef erased mut narr) l₁₃ 0) ∷ ‵ (fdies (tyRef erased mut narr) l₁₃) ∷ ‵ (froom isl l₁₂ 0) ∷ ‵ (fdies isl l₁₂) ∷ ‵ (froom (tyRef erased mut iarr) l₁₁ 0) ∷ ‵ (fdies (tyRef erased mut iarr) l₁₁) ∷ ‵ (froom word l₁₀ 0) ∷ ‵ (fdies word l₁₀) ∷ ‵ (froom word l₉ 0) ∷ ‵ (fdies word l₉) ∷ ‵ (fat fullShare R′.mir l₈ 0 (u)) ∷ ‵ (fdies R′.mir l₈) ∷ ‵ (fdies narr l₇) ∷ ‵ (fdies iarr l₆) ∷ ‵ (fat fullShare slice l₅ 0 (sliceVal (b, o) n)) ∷ ‵ (fdies slice l₅) ∷ ‵ (fat fullShare besides l₄ 0 (sliceVal (v .ptr) (length (now v)))) ∷ ‵ (fdies besides l₄) ∷ ‵ (fat fullShare P′.mir l₃ 0 (kv tool)) ∷ ‵ (fdies P′.mir l₃) ∷ ‵ (fat fullShare stores l₂ 0 (sliceVal (p .ptr) (length (now p)))) ∷ ‵ (fdies stores l₂) ∷ ‵ (fat fullShare S′.mir l₁ 0 (pv spec)) ∷ ‵ (fdies S′.mir l₁) ∷ ‵ (froom R′.mir l₀ 0) ∷ ‵ (fdies R′.mir l₀) ∷ []
+    Answered is xs u = ‵ (Row f64 l₇ xs) ∷ ‵ (Row usize l₆ is) ∷ ‵ Ch ∷ ‵ (flft κ₂ q₂) ∷ ‵ (flft κ₁ q₁) ∷ ‵ (flft κ₀ q₀) ∷ ‵ (froom msl l₂₀ 0) ∷ ‵ (fdies msl l₂₀) ∷ ‵ (froom mref l₁₉ 0) ∷ ‵ (fdies mref l₁₉) ∷ ‵ (froom nshr l₁₈ 0) ∷ ‵ (fdies nshr l₁₈) ∷ ‵ (froom (tyRef erased imm narr) l₁₇ 0) ∷ ‵ (fdies (tyRef erased imm narr) l₁₇) ∷ ‵ (froom ishr l₁₆ 0) ∷ ‵ (fdies ishr l₁₆) ∷ ‵ (froom (tyRef erased imm iarr) l₁₅ 0) ∷ ‵ (fdies (tyRef erased imm iarr) l₁₅) ∷ ‵ (froom nsl l₁₄ 0) ∷ ‵ (fdies nsl l₁₄) ∷ ‵ (froom (tyRef erased mut narr) l₁₃ 0) ∷ ‵ (fdies (tyRef erased mut narr) l₁₃) ∷ ‵ (froom isl l₁₂ 0) ∷ ‵ (fdies isl l₁₂) ∷ ‵ (froom (tyRef erased mut iarr) l₁₁ 0) ∷ ‵ (fdies (tyRef erased mut iarr) l₁₁) ∷ ‵ (froom word l₁₀ 0) ∷ ‵ (fdies word l₁₀) ∷ ‵ (froom word l₉ 0) ∷ ‵ (fdies word l₉) ∷ ‵ (fat fullShare R′.mir l₈ 0 (u)) ∷ ‵ (fdies R′.mir l₈) ∷ ‵ (fdies narr l₇) ∷ ‵ (fdies iarr l₆) ∷ ‵ (fat fullShare slice l₅ 0 (sliceVal (b, o) n)) ∷ ‵ (fdies slice l₅) ∷ ‵ (fat fullShare besides l₄ 0 (sliceVal (v .ptr) (length (now v)))) ∷ ‵ (fdies besides l₄) ∷ ‵ (fat fullShare P′.mir l₃ 0 (kv tool)) ∷ ‵ (fdies P′.mir l₃) ∷ ‵ (fat fullShare stores l₂ 0 (sliceVal (p .ptr) (length (now p)))) ∷ ‵ (fdies stores l₂) ∷ ‵ (fat fullShare S′.mir l₁ 0 (pv stock)) ∷ ‵ (fdies S′.mir l₁) ∷ ‵ (froom R′.mir l₀ 0) ∷ ‵ (fdies R′.mir l₀) ∷ []
 
     counts : (is : List ℕ) (xs : List Float) → length is ≡ 4096 → length xs ≡ 32768 → (r : Previewed) (u : Val) → Is R.the-row r (u ∷ []) → Holding is xs r → Sq W (Answered is xs u) (runs C Λ En mir.t-9 (atRet En Post))
     counts is xs long wide r u is-r e =
@@ -301,9 +301,9 @@ module _ {M : Type 1} (𝓤 : URA M) (H : Heap 𝓤) (A : Atoms 𝓤) (W : Given
         land ! (from ! (stop !)) (init ! 29 refl (uint-lawful 𝓤 H A W w64 .typed k _ gk′ .0)) $ drop ! $ rewrite ! 28 (λ (a : Val). ‵ (fat fullShare word l₉ 0 a)) (ap only (gk′ .0)) refl $
         reads is xs long wide r u is-r e k (gk′ .1) is-k))))
 
-    -- the lists are filled with tool they begin with
+    -- the lists are filled with what they begin with
     abbrev Blank : List ℕ → List Float → List (Item 𝓤)
-    Blank is xs = ‵ (Row f64 l₇ xs) ∷ ‵ (Row usize l₆ is) ∷ ‵ (froom msl l₂₀ 0) ∷ ‵ (fdies msl l₂₀) ∷ ‵ (froom mref l₁₉ 0) ∷ ‵ (fdies mref l₁₉) ∷ ‵ (froom nshr l₁₈ 0) ∷ ‵ (fdies nshr l₁₈) ∷ ‵ (froom (tyRef erased imm narr) l₁₇ 0) ∷ ‵ (fdies (tyRef erased imm narr) l₁₇) ∷ ‵ (froom ishr l₁₆ 0) ∷ ‵ (fdies ishr l₁₆) ∷ ‵ (froom (tyRef erased imm iarr) l₁₅ 0) ∷ ‵ (fdies (tyRef erased imm iarr) l₁₅) ∷ ‵ (froom nsl l₁₄ 0) ∷ ‵ (fdies nsl l₁₄) ∷ ‵ (froom (tyRef erased mut narr) l₁₃ 0) ∷ ‵ (fdies (tyRef erased mut narr) l₁₃) ∷ ‵ (froom isl l₁₂ 0) ∷ ‵ (fdies isl l₁₂) ∷ ‵ (froom (tyRef erased mut iarr) l₁₁ 0) ∷ ‵ (fdies (tyRef erased mut iarr) l₁₁) ∷ ‵ (froom word l₁₀ 0) ∷ ‵ (fdies word l₁₀) ∷ ‵ (froom word l₉ 0) ∷ ‵ (fdies word l₉) ∷ ‵ (froom R′.mir l₈ 0) ∷ ‵ (fdies R′.mir l₈) ∷ ‵ (fdies narr l₇) ∷ ‵ (fdies iarr l₆) ∷ ‵ (fat fullShare slice l₅ 0 (sliceVal (b, o) n)) ∷ ‵ (fdies slice l₅) ∷ ‵ (fat fullShare besides l₄ 0 (sliceVal (v .ptr) (length (now v)))) ∷ ‵ (fdies besides l₄) ∷ ‵ (fat fullShare P′.mir l₃ 0 (kv tool)) ∷ ‵ (fdies P′.mir l₃) ∷ ‵ (fat fullShare stores l₂ 0 (sliceVal (p .ptr) (length (now p)))) ∷ ‵ (fdies stores l₂) ∷ ‵ (fat fullShare S′.mir l₁ 0 (pv spec)) ∷ ‵ (fdies S′.mir l₁) ∷ ‵ (froom R′.mir l₀ 0) ∷ ‵ (fdies R′.mir l₀) ∷ (‵ (flft κ₀ q₀) ⊛ (‵ (flft κ₁ q₁) ⊛ (‵ (flft κ₂ q₂) ⊛ ‵ ftrue))) ∷ ‵ (owns (S.the-row ∷ ShrSlice (named 0) κ₀ f64 ∷ P.the-row ∷ ShrSlice (named 1) κ₁ f64 ∷ MutSlice (named 2) κ₂ T.the-row ∷ []) (spec, (p, (tool, (v, (s, tt))))) at) ∷ []
+    Blank is xs = ‵ (Row f64 l₇ xs) ∷ ‵ (Row usize l₆ is) ∷ ‵ (froom msl l₂₀ 0) ∷ ‵ (fdies msl l₂₀) ∷ ‵ (froom mref l₁₉ 0) ∷ ‵ (fdies mref l₁₉) ∷ ‵ (froom nshr l₁₈ 0) ∷ ‵ (fdies nshr l₁₈) ∷ ‵ (froom (tyRef erased imm narr) l₁₇ 0) ∷ ‵ (fdies (tyRef erased imm narr) l₁₇) ∷ ‵ (froom ishr l₁₆ 0) ∷ ‵ (fdies ishr l₁₆) ∷ ‵ (froom (tyRef erased imm iarr) l₁₅ 0) ∷ ‵ (fdies (tyRef erased imm iarr) l₁₅) ∷ ‵ (froom nsl l₁₄ 0) ∷ ‵ (fdies nsl l₁₄) ∷ ‵ (froom (tyRef erased mut narr) l₁₃ 0) ∷ ‵ (fdies (tyRef erased mut narr) l₁₃) ∷ ‵ (froom isl l₁₂ 0) ∷ ‵ (fdies isl l₁₂) ∷ ‵ (froom (tyRef erased mut iarr) l₁₁ 0) ∷ ‵ (fdies (tyRef erased mut iarr) l₁₁) ∷ ‵ (froom word l₁₀ 0) ∷ ‵ (fdies word l₁₀) ∷ ‵ (froom word l₉ 0) ∷ ‵ (fdies word l₉) ∷ ‵ (froom R′.mir l₈ 0) ∷ ‵ (fdies R′.mir l₈) ∷ ‵ (fdies narr l₇) ∷ ‵ (fdies iarr l₆) ∷ ‵ (fat fullShare slice l₅ 0 (sliceVal (b, o) n)) ∷ ‵ (fdies slice l₅) ∷ ‵ (fat fullShare besides l₄ 0 (sliceVal (v .ptr) (length (now v)))) ∷ ‵ (fdies besides l₄) ∷ ‵ (fat fullShare P′.mir l₃ 0 (kv tool)) ∷ ‵ (fdies P′.mir l₃) ∷ ‵ (fat fullShare stores l₂ 0 (sliceVal (p .ptr) (length (now p)))) ∷ ‵ (fdies stores l₂) ∷ ‵ (fat fullShare S′.mir l₁ 0 (pv stock)) ∷ ‵ (fdies S′.mir l₁) ∷ ‵ (froom R′.mir l₀ 0) ∷ ‵ (fdies R′.mir l₀) ∷ (‵ (flft κ₀ q₀) ⊛ (‵ (flft κ₁ q₁) ⊛ (‵ (flft κ₂ q₂) ⊛ ‵ ftrue))) ∷ ‵ (owns (S.the-row ∷ ShrSlice (named 0) κ₀ f64 ∷ P.the-row ∷ ShrSlice (named 1) κ₁ f64 ∷ MutSlice (named 2) κ₂ T.the-row ∷ []) (stock, (p, (tool, (v, (s, tt))))) at) ∷ []
 
     lends : (is : List ℕ) (xs : List Float) → length is ≡ 4096 → length xs ≡ 32768 → Sq W (Blank is xs) (runs C Λ En mir.t-3 (atRet En Post))
     lends is xs long wide =
@@ -319,8 +319,8 @@ module _ {M : Type 1} (𝓤 : URA M) (H : Heap 𝓤) (A : Atoms 𝓤) (W : Given
         await ! tt $ pick ! (λ δ′. split ! $ move ! (5 ∷ 2 ∷ []) $ join ! $ move ! (6 ∷ 0 ∷ []) $ join ! $ move ! (6 ∷ 0 ∷ []) $ join ! $ move ! (7 ∷ 0 ∷ []) $ join ! $ move ! (7 ∷ 0 ∷ []) $
         join ! $ move ! (1 ∷ 0 ∷ []) $ join ! $ move ! (2 ∷ 0 ∷ []) $ join ! $ use1 W (raw (ListC 𝓤 H A mem run .pre (to-list l₆ l₇ ν ν′ δ δ′ is xs))) (asks-list l₆ l₇ ν ν′ δ δ′ is xs) $
         calls-at ! (fmOf 𝓤 H (W .laws) 𝓣) (ListC 𝓤 H A mem run) lists (to-list l₆ l₇ ν ν′ δ δ′ is xs) (and-then ! (load ! (from ! (stop !)) (look ! 41 refl)) (and-then ! (load ! (from ! (stop !)) (look ! 39 refl)) (and-then ! (load ! (from ! (stop !)) (look ! 37 refl)) (and-then ! (load ! (from ! (stop !)) (look ! 35 refl)) (and-then ! (load ! (from ! (stop !)) (look ! 25 refl)) (and-then ! (load ! (from ! (stop !)) (look ! 21 refl)) (and-then ! (load ! (from ! (stop !)) (look ! 17 refl)) (no-more !)))))))) (λ u.
-        use1 W (later (some (λ (r : Previewed). ((‵ (flft κ₀ q₀) ⊛ (‵ (flft κ₁ q₁) ⊛ (‵ (flft (ν ∷ []) fullShare) ⊛ (‵ (flft (ν′ ∷ []) fullShare) ⊛ ‵ ftrue)))) ⊛ ‵ (R.the-row .own r (u ∷ []))) ⊛ raw (ensured 𝓤 H A l-fn.ended (l-fn.clauses 𝓤 H A mem run) (κ₀, (κ₁, (ν ∷ [], (ν′ ∷ [], tt)))) (spec, (p, (tool, (v, (n, (at-i l₆ δ is, (at-n l₇ δ′ xs, tt))))))) tt r)))) (id⊢ 𝓤 _) $
-        await ! tt $ pick ! (λ r. split ! $ move ! (1 ∷ []) $ use1 W (some (λ (vs : Unit {0} × (Unit {0} × (Unit {0} × (Unit {0} × (Unit {0} × (List ℕ × (List Float × Unit {0}))))))). ‵ (lasts l-fn.ended (κ₀, (κ₁, (ν ∷ [], (ν′ ∷ [], tt)))) (spec, (p, (tool, (v, (n, (at-i l₆ δ is, (at-n l₇ δ′ xs, tt))))))) vs) ⊛ raw (fact 𝓤 (Listed is xs r (vs .1 .1 .1 .1 .1 .0) (vs .1 .1 .1 .1 .1 .1 .0))))) (id⊢ 𝓤 _) $
+        use1 W (later (some (λ (r : Previewed). ((‵ (flft κ₀ q₀) ⊛ (‵ (flft κ₁ q₁) ⊛ (‵ (flft (ν ∷ []) fullShare) ⊛ (‵ (flft (ν′ ∷ []) fullShare) ⊛ ‵ ftrue)))) ⊛ ‵ (R.the-row .own r (u ∷ []))) ⊛ raw (ensured 𝓤 H A l-fn.ended (l-fn.clauses 𝓤 H A mem run) (κ₀, (κ₁, (ν ∷ [], (ν′ ∷ [], tt)))) (stock, (p, (tool, (v, (n, (at-i l₆ δ is, (at-n l₇ δ′ xs, tt))))))) tt r)))) (id⊢ 𝓤 _) $
+        await ! tt $ pick ! (λ r. split ! $ move ! (1 ∷ []) $ use1 W (some (λ (vs : Unit {0} × (Unit {0} × (Unit {0} × (Unit {0} × (Unit {0} × (List ℕ × (List Float × Unit {0}))))))). ‵ (lasts l-fn.ended (κ₀, (κ₁, (ν ∷ [], (ν′ ∷ [], tt)))) (stock, (p, (tool, (v, (n, (at-i l₆ δ is, (at-n l₇ δ′ xs, tt))))))) vs) ⊛ raw (fact 𝓤 (Listed is xs r (vs .1 .1 .1 .1 .1 .0) (vs .1 .1 .1 .1 .1 .1 .0))))) (id⊢ 𝓤 _) $
         pick ! (λ vs. split ! $ move ! (1 ∷ []) $ heard ! (Listed is xs r (vs .1 .1 .1 .1 .1 .0) (vs .1 .1 .1 .1 .1 .1 .0)) (λ e. fsplit ! $ drop ! $ fsplit ! $ drop ! $ fsplit ! $
         drop ! $ fsplit ! $ drop ! $ fsplit ! $ drop ! $ fsplit ! $ fsplit ! $ move ! (1 ∷ []) $ feqL ! (λ same. move ! (1 ∷ []) $ fsplit ! $ move ! (1 ∷ []) $ drop ! $ fsplit ! $
         move ! (1 ∷ []) $ feqL ! (λ same′. move ! (2 ∷ []) $ split ! $ move ! (1 ∷ []) $ peeks ! R.the-row (Is R.the-row) (shows 𝓤 H A R.the-row) r (u ∷ []) (λ is-r.
@@ -332,7 +332,7 @@ module _ {M : Type 1} (𝓤 : URA M) (H : Heap 𝓤) (A : Atoms 𝓤) (W : Given
         forget ! 24 refl $ forget ! 22 refl $ forget ! 20 refl $ forget ! 18 refl $ move ! (0 ∷ 1 ∷ 5 ∷ 4 ∷ 2 ∷ 3 ∷ []) $ counts (vs .1 .1 .1 .1 .1 .0) (vs .1 .1 .1 .1 .1 .1 .0) (same ∙ long) (same′ ∙ wide) r u is-r (held is xs r _ _ long wide e))))))))))))
 
     abbrev Entered : List (Item 𝓤)
-    Entered = ‵ (froom msl l₂₀ 0) ∷ ‵ (fdies msl l₂₀) ∷ ‵ (froom mref l₁₉ 0) ∷ ‵ (fdies mref l₁₉) ∷ ‵ (froom nshr l₁₈ 0) ∷ ‵ (fdies nshr l₁₈) ∷ ‵ (froom (tyRef erased imm narr) l₁₇ 0) ∷ ‵ (fdies (tyRef erased imm narr) l₁₇) ∷ ‵ (froom ishr l₁₆ 0) ∷ ‵ (fdies ishr l₁₆) ∷ ‵ (froom (tyRef erased imm iarr) l₁₅ 0) ∷ ‵ (fdies (tyRef erased imm iarr) l₁₅) ∷ ‵ (froom nsl l₁₄ 0) ∷ ‵ (fdies nsl l₁₄) ∷ ‵ (froom (tyRef erased mut narr) l₁₃ 0) ∷ ‵ (fdies (tyRef erased mut narr) l₁₃) ∷ ‵ (froom isl l₁₂ 0) ∷ ‵ (fdies isl l₁₂) ∷ ‵ (froom (tyRef erased mut iarr) l₁₁ 0) ∷ ‵ (fdies (tyRef erased mut iarr) l₁₁) ∷ ‵ (froom word l₁₀ 0) ∷ ‵ (fdies word l₁₀) ∷ ‵ (froom word l₉ 0) ∷ ‵ (fdies word l₉) ∷ ‵ (froom R′.mir l₈ 0) ∷ ‵ (fdies R′.mir l₈) ∷ ‵ (froom narr l₇ 0) ∷ ‵ (fdies narr l₇) ∷ ‵ (froom iarr l₆ 0) ∷ ‵ (fdies iarr l₆) ∷ ‵ (fat fullShare slice l₅ 0 (sliceVal (b, o) n)) ∷ ‵ (fdies slice l₅) ∷ ‵ (fat fullShare besides l₄ 0 (sliceVal (v .ptr) (length (now v)))) ∷ ‵ (fdies besides l₄) ∷ ‵ (fat fullShare P′.mir l₃ 0 (kv tool)) ∷ ‵ (fdies P′.mir l₃) ∷ ‵ (fat fullShare stores l₂ 0 (sliceVal (p .ptr) (length (now p)))) ∷ ‵ (fdies stores l₂) ∷ ‵ (fat fullShare S′.mir l₁ 0 (pv spec)) ∷ ‵ (fdies S′.mir l₁) ∷ ‵ (froom R′.mir l₀ 0) ∷ ‵ (fdies R′.mir l₀) ∷ (‵ (flft κ₀ q₀) ⊛ (‵ (flft κ₁ q₁) ⊛ (‵ (flft κ₂ q₂) ⊛ ‵ ftrue))) ∷ ‵ (owns (S.the-row ∷ ShrSlice (named 0) κ₀ f64 ∷ P.the-row ∷ ShrSlice (named 1) κ₁ f64 ∷ MutSlice (named 2) κ₂ T.the-row ∷ []) (spec, (p, (tool, (v, (s, tt))))) at) ∷ []
+    Entered = ‵ (froom msl l₂₀ 0) ∷ ‵ (fdies msl l₂₀) ∷ ‵ (froom mref l₁₉ 0) ∷ ‵ (fdies mref l₁₉) ∷ ‵ (froom nshr l₁₈ 0) ∷ ‵ (fdies nshr l₁₈) ∷ ‵ (froom (tyRef erased imm narr) l₁₇ 0) ∷ ‵ (fdies (tyRef erased imm narr) l₁₇) ∷ ‵ (froom ishr l₁₆ 0) ∷ ‵ (fdies ishr l₁₆) ∷ ‵ (froom (tyRef erased imm iarr) l₁₅ 0) ∷ ‵ (fdies (tyRef erased imm iarr) l₁₅) ∷ ‵ (froom nsl l₁₄ 0) ∷ ‵ (fdies nsl l₁₄) ∷ ‵ (froom (tyRef erased mut narr) l₁₃ 0) ∷ ‵ (fdies (tyRef erased mut narr) l₁₃) ∷ ‵ (froom isl l₁₂ 0) ∷ ‵ (fdies isl l₁₂) ∷ ‵ (froom (tyRef erased mut iarr) l₁₁ 0) ∷ ‵ (fdies (tyRef erased mut iarr) l₁₁) ∷ ‵ (froom word l₁₀ 0) ∷ ‵ (fdies word l₁₀) ∷ ‵ (froom word l₉ 0) ∷ ‵ (fdies word l₉) ∷ ‵ (froom R′.mir l₈ 0) ∷ ‵ (fdies R′.mir l₈) ∷ ‵ (froom narr l₇ 0) ∷ ‵ (fdies narr l₇) ∷ ‵ (froom iarr l₆ 0) ∷ ‵ (fdies iarr l₆) ∷ ‵ (fat fullShare slice l₅ 0 (sliceVal (b, o) n)) ∷ ‵ (fdies slice l₅) ∷ ‵ (fat fullShare besides l₄ 0 (sliceVal (v .ptr) (length (now v)))) ∷ ‵ (fdies besides l₄) ∷ ‵ (fat fullShare P′.mir l₃ 0 (kv tool)) ∷ ‵ (fdies P′.mir l₃) ∷ ‵ (fat fullShare stores l₂ 0 (sliceVal (p .ptr) (length (now p)))) ∷ ‵ (fdies stores l₂) ∷ ‵ (fat fullShare S′.mir l₁ 0 (pv stock)) ∷ ‵ (fdies S′.mir l₁) ∷ ‵ (froom R′.mir l₀ 0) ∷ ‵ (fdies R′.mir l₀) ∷ (‵ (flft κ₀ q₀) ⊛ (‵ (flft κ₁ q₁) ⊛ (‵ (flft κ₂ q₂) ⊛ ‵ ftrue))) ∷ ‵ (owns (S.the-row ∷ ShrSlice (named 0) κ₀ f64 ∷ P.the-row ∷ ShrSlice (named 1) κ₁ f64 ∷ MutSlice (named 2) κ₂ T.the-row ∷ []) (stock, (p, (tool, (v, (s, tt))))) at) ∷ []
 
     starts : Sq W Entered (runs C Λ En mir.t-1 (atRet En Post))
     starts =
@@ -340,16 +340,16 @@ module _ {M : Type 1} (𝓤 : URA M) (H : Heap 𝓤) (A : Atoms 𝓤) (W : Given
         move ! (28 ∷ []) $ use1 W (some (λ (is : List ℕ). ‵ (Parts usize l₆ 4096 is))) (blank usize 𝓤 H A W tt (uint-makes 𝓤 H A W w64) 0 (vint w64 0) zero-is 4096 l₆) $ pick ! (λ is.
         fsplit ! $ feqL ! (λ long. move ! (27 ∷ []) $ use1 W (some (λ (xs : List Float). ‵ (Parts f64 l₇ 32768 xs))) (blank f64 𝓤 H A W tt (float-makes 𝓤 H A W binary64) zero64 (vfloat binary64 zero64) none-is 32768 l₇) $
         pick ! (λ xs. fsplit ! $ feqL ! (λ wide.
-        -- [the numbers; the indices; the locals; the tokens; tool the arguments own]
+        -- [the numbers; the indices; the locals; the tokens; what the arguments own]
         lends is xs long wide))))
 
   walk : (𝓣 : Tables 𝓤 H) → Triple 𝓤 (𝓣 .C #change_slices·flat·list) (ListC 𝓤 H A mem run) → Triple 𝓤 (𝓣 .C #change_slices·flat·count-of) (CountC 𝓤 H A mem run) → Triple 𝓤 (𝓣 .C #change_slices·read-changes) (ReadC 𝓤 H A mem run)
-      → ent 𝓤 (onEntry 𝓤 H A f.signature (κ₀, (κ₁, (κ₂, tt))) (q₀, (q₁, (q₂, tt))) (spec, (p, (tool, (v, (s, tt))))) at) (WpFn 𝓤 H (𝓣 .C) (𝓣 .Λ) code.function (pv spec ∷ sliceVal (p .ptr) (length (now p)) ∷ kv tool ∷ sliceVal (v .ptr) (length (now v)) ∷ sliceVal (b, o) n ∷ []) Post)
+      → ent 𝓤 (onEntry 𝓤 H A f.signature (κ₀, (κ₁, (κ₂, tt))) (q₀, (q₁, (q₂, tt))) (stock, (p, (tool, (v, (s, tt))))) at) (WpFn 𝓤 H (𝓣 .C) (𝓣 .Λ) code.function (pv stock ∷ sliceVal (p .ptr) (length (now p)) ∷ kv tool ∷ sliceVal (v .ptr) (length (now v)) ∷ sliceVal (b, o) n ∷ []) Post)
   walk 𝓣 lists counting reading =
-      qed W ((‵ (flft κ₀ q₀) ⊛ (‵ (flft κ₁ q₁) ⊛ (‵ (flft κ₂ q₂) ⊛ ‵ ftrue))) ∷ ‵ (owns (S.the-row ∷ ShrSlice (named 0) κ₀ f64 ∷ P.the-row ∷ ShrSlice (named 1) κ₁ f64 ∷ MutSlice (named 2) κ₂ T.the-row ∷ []) (spec, (p, (tool, (v, (s, tt))))) at) ∷ []) ∵
-      enter ! (𝓣 .C) (𝓣 .Λ) code.function (pv spec ∷ sliceVal (p .ptr) (length (now p)) ∷ kv tool ∷ sliceVal (v .ptr) (length (now v)) ∷ sliceVal (b, o) n ∷ []) _ $
+      qed W ((‵ (flft κ₀ q₀) ⊛ (‵ (flft κ₁ q₁) ⊛ (‵ (flft κ₂ q₂) ⊛ ‵ ftrue))) ∷ ‵ (owns (S.the-row ∷ ShrSlice (named 0) κ₀ f64 ∷ P.the-row ∷ ShrSlice (named 1) κ₁ f64 ∷ MutSlice (named 2) κ₂ T.the-row ∷ []) (stock, (p, (tool, (v, (s, tt))))) at) ∷ []) ∵
+      enter ! (𝓣 .C) (𝓣 .Λ) code.function (pv stock ∷ sliceVal (p .ptr) (length (now p)) ∷ kv tool ∷ sliceVal (v .ptr) (length (now v)) ∷ sliceVal (b, o) n ∷ []) _ $
       alloc1 ! (λ l₀. alloc1 ! (λ l₁. alloc1 ! (λ l₂. alloc1 ! (λ l₃. alloc1 ! (λ l₄. alloc1 ! (λ l₅. alloc1 ! (λ l₆. alloc1 ! (λ l₇. alloc1 ! (λ l₈. alloc1 ! (λ l₉. alloc1 ! (λ l₁₀. alloc1 ! (λ l₁₁. alloc1 ! (λ l₁₂. alloc1 ! (λ l₁₃. alloc1 ! (λ l₁₄. alloc1 ! (λ l₁₅. alloc1 ! (λ l₁₆. alloc1 ! (λ l₁₇. alloc1 ! (λ l₁₈. alloc1 ! (λ l₁₉. alloc1 ! (λ l₂₀. alloc0 ! $ params1 ! $
-      pass1 ! (init ! 38 refl (LL.lawful S.the-type S′.the-laws 𝓤 H A W .typed spec _ gs .0)) $ pass1 ! (init ! 36 refl (tt, (tt, (record { fits = gp }, tt)))) $ pass1 ! (init ! 34 refl (EL.lawful P.the-type P′.the-laws 𝓤 H A W tt .typed tool _ gk .0)) $ pass1 ! (init ! 32 refl (tt, (tt, (record { fits = gv }, tt)))) $ pass1 ! (init ! 30 refl (tt, (tt, (record { fits = gn .0 }, tt)))) $ pass0 ! $
+      pass1 ! (init ! 38 refl (LL.lawful S.the-type S′.the-laws 𝓤 H A W .typed stock _ gs .0)) $ pass1 ! (init ! 36 refl (tt, (tt, (record { fits = gp }, tt)))) $ pass1 ! (init ! 34 refl (EL.lawful P.the-type P′.the-laws 𝓤 H A W tt .typed tool _ gk .0)) $ pass1 ! (init ! 32 refl (tt, (tt, (record { fits = gv }, tt)))) $ pass1 ! (init ! 30 refl (tt, (tt, (record { fits = gn .0 }, tt)))) $ pass0 ! $
       starts 𝓣 lists counting reading l₀ l₁ l₂ l₃ l₄ l₅ l₆ l₇ l₈ l₉ l₁₀ l₁₁ l₁₂ l₁₃ l₁₄ l₁₅ l₁₆ l₁₇ l₁₈ l₁₉ l₂₀)))))))))))))))))))))
 
 module _ {M : Type 1} (𝓤 : URA M) (H : Heap 𝓤) (A : Atoms 𝓤) (W : Given 𝓤 H A) (mem : Memory → SProp 𝓤) (run : Routine → Fun 𝓤) (𝓣 : Tables 𝓤 H)

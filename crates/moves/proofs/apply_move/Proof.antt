@@ -8,4 +8,11 @@ returns : tie.Need-returns
 returns c = moves-from (c .with-counts .ensures) (c .before .before .before .before .before .move-from .ensures)
 
 pub apply-move-spec : {M : Type 1} → statement M
-apply-move-spec = tie.close (tie.spec (λ c κs. search needs) (λ c κs. search needs) (λ c. search needs) (λ c. search needs) returns)
+apply-move-spec =
+    tie.close
+    (tie.spec
+    (λ c κs. search needs)
+    (λ c κs. search needs)
+    (λ c. search needs)
+    (λ c. search needs)
+    returns)

@@ -8,4 +8,10 @@ returns : tie.Need-returns
 returns c = rebuilds-from (c .with-rings .ensures) (c .before .before .before .store-parts .ensures)
 
 pub from-parts-spec : {M : Type 1} → statement M
-from-parts-spec = tie.close (tie.spec (λ c κs. search needs) (λ c κs. search needs) (λ c. search needs) returns)
+from-parts-spec =
+    tie.close
+    (tie.spec
+    (λ c κs. search needs)
+    (λ c κs. search needs)
+    (λ c. search needs)
+    returns)

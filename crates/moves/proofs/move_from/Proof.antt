@@ -10,19 +10,18 @@ use Rattle.moves.proofs.move_from.Tie as tie
 
 returns : tie.Need-returns
 returns c =
-    let told = c .before .before .before .counted2 .given in
-    left _ _ _ _ _ (move-short _ _ _ _ _ _ _ _ _ (told .0 .0) (sym (c .before .before .before .before .before .cells-fit .ensures) ∙ ap countedPaper (told .1)) (omega (arith, c .before .room .ensures))) refl
+    let told = c .before .before .before .before .counted2 .given in
+    left _ _ _ _ _ (move-short _ _ _ _ _ _ _ (told .0 .0) (sym (c .before .before .before .before .before .before .cells-fit .ensures) ∙ ap countedPaper (told .1)) (omega (arith, c .before .before .room .ensures))) refl
 
 returns-2 : tie.Need-returns-2
 returns-2 c =
     let told = c .before .counted .given in
-    left _ (told .0 .0) _ _ _ (move-refused _ _ _ _ _ _ _ _ _ (reasonOf (told .0 .0)) (sym (c .before .before .before .cells-fit .ensures) ∙ ap countedPaper (told .1))) refl
+    left _ (told .0 .0) _ _ _ (move-refused _ _ _ _ _ _ _ (reasonOf (told .0 .0)) (sym (c .before .before .before .cells-fit .ensures) ∙ ap countedPaper (told .1))) refl
 
 returns-3 : tie.Need-returns-3
 returns-3 c =
-    let b = c .before .before .before .before .before .before .before in
-    let told = b .before .before .before .counted2 .given in
-    same-outcome _ _ _ _ _ _ _ (move-is _ _ _ _ _ _ _ _ _ (told .0 .0) (sym (b .before .before .before .before .before .cells-fit .ensures) ∙ ap countedPaper (told .1)) (omega (arith, b .before .room .ensures))) (c .before .before .before .before .move-in .ensures)
+    let told = c .before .before .before .before .before .before .before .before .before .before .before .counted2 .given in
+    same-outcome _ _ _ _ _ _ _ (move-is _ _ _ _ _ _ _ (told .0 .0) (sym (c .before .before .before .before .before .before .before .before .before .before .before .before .before .cells-fit .ensures) ∙ ap countedPaper (told .1)) (omega (arith, c .before .before .before .before .before .before .before .before .before .room .ensures))) (c .before .before .before .before .move-in .ensures)
 
 pub move-from-spec : {M : Type 1} → statement M
 move-from-spec =

@@ -20,17 +20,17 @@ returns : tie.Need-returns
 unfolding newOf
 returns c =
     let b = c .before .before .before .before in
-    left _ _ _ (search (papers, ← b .validate .ensures, c .before .before .counted2 .given .1, ne-eqb _ _ (c .if1 .taken)))
+    left _ _ _ _ (search (papers, ← b .validate .ensures, c .before .before .counted2 .given .1, ne-eqb _ _ (c .if1 .taken)))
 
 returns-2 : tie.Need-returns-2
 unfolding newOf
-returns-2 c = left _ _ _ (search (papers, ← c .before .before .before .validate .ensures, c .before .counted .given .1))
+returns-2 c = left _ _ _ _ (search (papers, ← c .before .before .before .validate .ensures, c .before .counted .given .1))
 
 returns-3 : tie.Need-returns-3
 returns-3 c =
     let b = c .before .before .before .before .before .before .before .before .before .before .before in
     let told = c .before .before .before .before .before .before .before .before .before .counted2 .given in
-    made _ _ _ (told .0 .0) _
+    made _ _ _ _ (told .0 .0) _
     (new-is _ _ (told .0 .0) (sym (b .validate .ensures) ∙ ap countedPaper (told .1)) (c .before .before .before .before .before .before .before .if1 .left))
     (simp (c .before .before .before .put-all .ensures, c .before .before .before .before .fresh-cell .ensures, c .before .before .before .before .before .clean-spec .ensures))
     (c .new-stock .ensures)

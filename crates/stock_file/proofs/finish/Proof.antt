@@ -22,7 +22,7 @@ returns-2 c =
     told-stock _ (a .most) (a .cells .now) (a .rings .now) _ _ (f .before .before .before .if1 .left) (f .before .before .spec-of .ensures) (f .before .front .ensures) _ _
     (sym (f .cells-fit .ensures) ∙ ap countedPaper (c .before .before .before .before .counted2 .given .1))
     (sym (c .before .before .rings-fit .ensures) ∙ c .before .if2 .taken)
-    (c .clean-spec .ensures)
+    (c .stock-from .ensures)
     ∙ ap (λ (x : Reading). toldAs x (a .most) (a .cells .now) (a .rings .now)) (o .end .ensures)
 
 returns-3 : tie.Need-returns-3

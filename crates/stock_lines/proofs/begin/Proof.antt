@@ -9,7 +9,7 @@ returns : tie.Need-returns
 returns c = c .refuse .ensures ∙ begun-none _ _ (c .before .enum-told .given .1)
 
 returns-2 : tie.Need-returns-2
-returns-2 c = begun-is (c .before .before .before .before .args .reading) _ _ _ _ _ _ _ (c .before .before .five .given .1) (c .wrapping-add-u64 .ensures)
+returns-2 c = begun-is (c .before .before .before .before .args .reading) _ _ _ _ _ (c .before .before .first .given .1) (c .wrapping-add-u64 .ensures)
 
 pub begin-spec : {M : Type 1} → statement M
 begin-spec = tie.close (tie.spec (λ c. search needs) (λ c κs. search needs) (λ c. search needs) (λ c κs. search needs) returns returns-2)

@@ -1,7 +1,7 @@
 -- `stock_lines::take_line` meets its contract. Assumes nothing.
 use mathlib.Core.Path.{sym, ap, _∙_}
 use Rattle.stock_lines.specs.declared.Reading.{Reading}
-use Rattle.stock_lines.specs.declared.form.Five.{Five}
+use Rattle.stock_lines.specs.declared.form.First.{First}
 use Rattle.stock_lines.specs.Reading.{state, begun}
 use Rattle.stock_lines.proofs.Readings.{body-is, line-first, line-body, line-behind}
 use borrow.Author.Needs.{needs}
@@ -12,7 +12,7 @@ returns : tie.Need-returns
 returns c =
     let a = c .before .before .before .before .before .before .before .args in
     let st = state (a .reading) (a .cells .now) (a .rings .now) in
-    ap (λ (r : Reading). state r (a .cells .now) (a .rings .now)) (c .begin .ensures ∙ ap (λ (f : Five). begun (a .reading) f) (c .before .read-first-line .ensures))
+    ap (λ (r : Reading). state r (a .cells .now) (a .rings .now)) (c .begin .ensures ∙ ap (λ (f : First). begun (a .reading) f) (c .before .read-first-line .ensures))
     ∙ sym (line-first st (a .line .now) (c .before .before .if1 .taken))
 
 returns-2 : tie.Need-returns-2

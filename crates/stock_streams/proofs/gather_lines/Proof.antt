@@ -11,10 +11,10 @@ use Rattle.stock_streams.proofs.gather_lines.Statement.{statement}
 use Rattle.stock_streams.proofs.gather_lines.Tie as tie
 
 abbrev Inv-loop : tie.InvT-loop
-Inv-loop fd gathered₀ spec cells rings count n out₀ k₀ gathered out k = (k ≤ n) × AllPut (linesTo (λ i. textIn (lineFor spec cells rings count i)) k) out gathered
+Inv-loop fd gathered₀ stock cells rings n out₀ k₀ gathered out k = (k ≤ n) × AllPut (linesTo (λ i. textIn (lineFor stock cells rings i)) k) out gathered
 
 abbrev μ-loop : tie.MeasureT-loop
-μ-loop fd gathered₀ spec cells rings count n out₀ k₀ gathered out k = n - k
+μ-loop fd gathered₀ stock cells rings n out₀ k₀ gathered out k = n - k
 
 loop-holds : tie.Need-loop-holds Inv-loop μ-loop
 loop-holds c = (search needs, put-none _ _ _ (c .fresh .ensures .0))
@@ -23,14 +23,14 @@ loop-again : tie.Need-loop-again Inv-loop μ-loop
 loop-again c =
     let l = c .before .before .before .loop in
     let a = c .before .before .before .before .before .before .before .args in
-    (search needs, put-more (λ i. textIn (lineFor (a .spec) (a .cells .now) (a .rings .now) (a .count) i)) (l .k) (l .inv .1) (c .put-line .ensures))
+    (search needs, put-more (λ i. textIn (lineFor (a .stock) (a .cells .now) (a .rings .now) i)) (l .k) (l .inv .1) (c .put-line .ensures))
 
 returns : tie.Need-returns Inv-loop μ-loop
 returns c =
     let l = c .before .loop in
     let a = c .before .before .before .before .before .args in
     let e : l .k ≡ a .n = omega (arith, l .inv .0, c .loop-test .left) in
-    subst (λ (i : ℕ). AllPut (linesTo (λ j. textIn (lineFor (a .spec) (a .cells .now) (a .rings .now) (a .count) j)) i) (l .out) (l .gathered)) e (l .inv .1)
+    subst (λ (i : ℕ). AllPut (linesTo (λ j. textIn (lineFor (a .stock) (a .cells .now) (a .rings .now) j)) i) (l .out) (l .gathered)) e (l .inv .1)
 
 pub gather-lines-spec : {M : Type 1} → statement M
 gather-lines-spec =

@@ -9,11 +9,11 @@ use Rattle.stock_streams.proofs.gather_stock.Tie as tie
 accepted : tie.Need-returns
 accepted c =
     let n = c .before .before .before .before .before in
-    let a = n .before .before .before .args in
-    stock-put (a .spec) (a .cells .now) (a .rings .now) (a .count) _ _ _ (sym (n .line-count .ensures) ∙ ap linesPaper (c .before .before .before .lines .given .1)) (c .gather-lines .ensures)
+    let a = n .before .before .before .before .args in
+    stock-put (a .stock) (a .cells .now) (a .rings .now) _ _ _ (sym (n .line-count .ensures) ∙ ap linesPaper (c .before .before .before .lines .given .1)) (c .gather-lines .ensures)
 
 refused : tie.Need-returns-2
-refused c = stock-refused _ _ _ _ _ _ refl
+refused c = stock-refused _ _ _ _ _ refl
 
 pub gather-stock-spec : {M : Type 1} → statement M
 gather-stock-spec =

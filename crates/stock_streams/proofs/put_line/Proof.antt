@@ -13,13 +13,13 @@ told : tie.Need-returns
 told c =
     let f = c .before .before .before .before .before .before .before in
     let a = f .before .before .before .before .args in
-    put-told (a .spec) (a .cells .now) (a .rings .now) (a .count) (a .k) (search needs) (f .file-line .ensures) (c .before .before .before .before .before .spelled .given .1) (c .before .front .ensures) (c .put .ensures)
+    put-told (a .stock) (a .cells .now) (a .rings .now) (a .k) (search needs) (f .file-line .ensures) (c .before .before .before .before .before .spelled .given .1) (c .before .front .ensures) (c .put .ensures)
 
 refused : tie.Need-returns-2
 refused c =
     let f = c .before .before in
     let a = f .before .before .before .before .args in
-    put-nothing (lineFor (a .spec) (a .cells .now) (a .rings .now) (a .count) (a .k)) _ _ (f .file-line .ensures) (c .enum-told .given .1)
+    put-nothing (lineFor (a .stock) (a .cells .now) (a .rings .now) (a .k)) _ _ (f .file-line .ensures) (c .enum-told .given .1)
 
 pub put-line-spec : {M : Type 1} → statement M
 put-line-spec =

@@ -38,10 +38,10 @@ use denote.Triple.Table.{entered, cited}
 use denote.Triple.Walked.{says, Stays, stay-dropped, gave-slice, walkOf, goes-dropped, goes-gave-slice, Walks, ends-at, walked, walk-meets}
 use denote.Triple.Clauses.{ensured, lasts}
 use denote.Exit.{yes}
-use Rattle.stock.specs.declared.TurnStockSpec.{TurnStockSpec}
+use Rattle.stock.specs.declared.TurnStock.{TurnStock}
 use Rattle.stock.specs.declared.TurnChange.{TurnChange}
-use Rattle.stock.proofs.TurnStockSpec as S
-use Rattle.stock.proofs.TurnStockSpec.Laws as S′
+use Rattle.stock.proofs.TurnStock as S
+use Rattle.stock.proofs.TurnStock.Laws as S′
 use Rattle.stock.proofs.TurnChange as T
 use Rattle.cuts.specs.declared.Cut.{Cut}
 use Rattle.cuts.proofs.Cut as D
@@ -76,7 +76,7 @@ abbrev stayed : Stays (f.ended .signature .params) (f.ended .kept)
 stayed = (stay-dropped (plain (λ _. S.the-row)) yes, (stay-dropped (shrSliceOf (0 ∷ []) tt (plain (λ _. f64))) yes, (stay-dropped (plain (λ _. D.the-row)) yes, (gave-slice (1 ∷ []) tt (plain (λ _. T.the-row)), tt))))
 
 -- the machine values
-abbrev pv : TurnStockSpec → Val
+abbrev pv : TurnStock → Val
 pv = LL.val S.the-type S′.the-laws
 
 abbrev cutv : Cut → Val
@@ -90,8 +90,8 @@ module _ {M : Type 1} (𝓤 : URA M) (H : Heap 𝓤) (A : Atoms 𝓤) (mem : Mem
   abbrev Propose : Contract 𝓤
   Propose = tripleOf 𝓤 H A g.signature (g.spec 𝓤 H A mem run)
 
-module _ {M : Type 1} (𝓤 : URA M) (H : Heap 𝓤) (A : Atoms 𝓤) (W : Given 𝓤 H A) (mem : Memory → SProp 𝓤) (run : Routine → Fun 𝓤) (κ₀ κ₁ : Lft) (q₀ q₁ : Share) (spec : TurnStockSpec) (p : RefT (List Float)) (cut : Cut) (b o : ℕ) (γ : GName) (ys : List TurnChange)
-    (gs : Is S.the-row spec (pv spec ∷ [])) (gp : length (now p) < 2 ^ 64) (gcut : Is D.the-row cut (cutv cut ∷ [])) (gn : Room T.the-row (length ys)) where
+module _ {M : Type 1} (𝓤 : URA M) (H : Heap 𝓤) (A : Atoms 𝓤) (W : Given 𝓤 H A) (mem : Memory → SProp 𝓤) (run : Routine → Fun 𝓤) (κ₀ κ₁ : Lft) (q₀ q₁ : Share) (stock : TurnStock) (p : RefT (List Float)) (cut : Cut) (b o : ℕ) (γ : GName) (ys : List TurnChange)
+    (gs : Is S.the-row stock (pv stock ∷ [])) (gp : length (now p) < 2 ^ 64) (gcut : Is D.the-row cut (cutv cut ∷ [])) (gn : Room T.the-row (length ys)) where
   abbrev n : ℕ
   n = length ys
 
@@ -99,18 +99,18 @@ module _ {M : Type 1} (𝓤 : URA M) (H : Heap 𝓤) (A : Atoms 𝓤) (W : Given
   s = record { ptr = (b, o); name = γ; now = ys }
 
   abbrev at : Vals f.signature (κ₀, (κ₁, tt))
-  at = (pv spec ∷ [], (slice-vals p, (cutv cut ∷ [], (sliceVal (b, o) n ∷ [], tt))))
+  at = (pv stock ∷ [], (slice-vals p, (cutv cut ∷ [], (sliceVal (b, o) n ∷ [], tt))))
 
   abbrev Post : Val → SProp 𝓤
-  Post = walkOf 𝓤 H A f.ended stayed (f.clauses 𝓤 H A mem run) .post ((((κ₀, (κ₁, tt)), (q₀, (q₁, tt)), tt, (spec, (p, (cut, (s, tt)))), at), tt))
+  Post = walkOf 𝓤 H A f.ended stayed (f.clauses 𝓤 H A mem run) .post ((((κ₀, (κ₁, tt)), (q₀, (q₁, tt)), tt, (stock, (p, (cut, (s, tt)))), at), tt))
 
   abbrev Cells : Fml
   Cells = ShrSlice (named 0) κ₀ f64 .own p (slice-vals p)
 
-  exits : (zs : List TurnChange) (r : Previewed) (u : Val) → length zs ≡ n → Written (previewCut spec (now p) cut n) r ys zs → ent 𝓤 (⋆ 𝓤 H A ((‵ (flft κ₀ q₀) ⊛ (‵ (flft κ₁ q₁) ⊛ ‵ ftrue)) ∷ ‵ (finally T.the-row γ zs) ∷ ‵ (R.the-row .own r (u ∷ [])) ∷ [])) (Post u)
+  exits : (zs : List TurnChange) (r : Previewed) (u : Val) → length zs ≡ n → Written (stock .stamp) (previewCut (stock .spec) (now p) cut n) r ys zs → ent 𝓤 (⋆ 𝓤 H A ((‵ (flft κ₀ q₀) ⊛ (‵ (flft κ₁ q₁) ⊛ ‵ ftrue)) ∷ ‵ (finally T.the-row γ zs) ∷ ‵ (R.the-row .own r (u ∷ [])) ∷ [])) (Post u)
   exits zs r u l e =
       qed W ((‵ (flft κ₀ q₀) ⊛ (‵ (flft κ₁ q₁) ⊛ ‵ ftrue)) ∷ ‵ (finally T.the-row γ zs) ∷ ‵ (R.the-row .own r (u ∷ [])) ∷ []) ∵
-      suffices ! _ (ends-at 𝓤 H A f.ended stayed (f.clauses 𝓤 H A mem run) W ((((κ₀, (κ₁, tt)), (q₀, (q₁, tt)), tt, (spec, (p, (cut, (s, tt)))), at), tt)) u r (tt, (tt, (tt, (zs, tt)))) (tt, (tt, (tt, (l, tt))))) $ says ! e $ frame ! $
+      suffices ! _ (ends-at 𝓤 H A f.ended stayed (f.clauses 𝓤 H A mem run) W ((((κ₀, (κ₁, tt)), (q₀, (q₁, tt)), tt, (stock, (p, (cut, (s, tt)))), at), tt)) u r (tt, (tt, (tt, (zs, tt)))) (tt, (tt, (tt, (l, tt))))) $ says ! e $ frame ! $
       nothing ! $ move ! (1 ∷ 0 ∷ []) $ fjoin ! $ nothing ! $ fjoin ! $ nothing ! $ fjoin ! $ nothing ! $ fjoin ! $ frame ! $ done !
 
   -- ---- `single`: its arguments are plain
@@ -127,23 +127,23 @@ module _ {M : Type 1} (𝓤 : URA M) (H : Heap 𝓤) (A : Atoms 𝓤) (W : Given
 
   -- ---- `propose`: the records are handed over at their own lifetime, share and name
   abbrev to-propose : Tool → Val → Propose 𝓤 H A mem run .Ghost
-  to-propose w u = (((κ₀, (κ₀, (κ₁, tt))), ((PosShare·left q₀), ((PosShare·right q₀), (q₁, tt))), tt, (spec, (p, (w, (p, (s, tt))))), (pv spec ∷ [], (slice-vals p, (u ∷ [], (slice-vals p, (sliceVal (b, o) n ∷ [], tt)))))), tt)
+  to-propose w u = (((κ₀, (κ₀, (κ₁, tt))), ((PosShare·left q₀), ((PosShare·right q₀), (q₁, tt))), tt, (stock, (p, (w, (p, (s, tt))))), (pv stock ∷ [], (slice-vals p, (u ∷ [], (slice-vals p, (sliceVal (b, o) n ∷ [], tt)))))), tt)
 
-  asks-propose : (w : Tool) (u : Val) → Is P.the-row w (u ∷ []) → ent 𝓤 (onEntry 𝓤 H A f.signature (κ₀, (κ₁, tt)) (q₀, (q₁, tt)) (spec, (p, (cut, (s, tt)))) at) (Propose 𝓤 H A mem run .pre (to-propose w u))
+  asks-propose : (w : Tool) (u : Val) → Is P.the-row w (u ∷ []) → ent 𝓤 (onEntry 𝓤 H A f.signature (κ₀, (κ₁, tt)) (q₀, (q₁, tt)) (stock, (p, (cut, (s, tt)))) at) (Propose 𝓤 H A mem run .pre (to-propose w u))
   asks-propose w u gw =
-      qed W ((‵ (flft κ₀ q₀) ⊛ (‵ (flft κ₁ q₁) ⊛ ‵ ftrue)) ∷ ‵ (owns (S.the-row ∷ ShrSlice (named 0) κ₀ f64 ∷ D.the-row ∷ MutSlice (named 1) κ₁ T.the-row ∷ []) (spec, (p, (cut, (s, tt)))) at) ∷ []) ∵
+      qed W ((‵ (flft κ₀ q₀) ⊛ (‵ (flft κ₁ q₁) ⊛ ‵ ftrue)) ∷ ‵ (owns (S.the-row ∷ ShrSlice (named 0) κ₀ f64 ∷ D.the-row ∷ MutSlice (named 1) κ₁ T.the-row ∷ []) (stock, (p, (cut, (s, tt)))) at) ∷ []) ∵
       move ! (1 ∷ []) $ fsplit ! $ drop ! $ fsplit ! $ move ! (1 ∷ []) $ fsplit ! $ drop ! $ fsplit ! $ fjoin ! $ move ! (1 ∷ []) $ use1 W (‵ Cells ⊛ ‵ Cells) (shr-slice-copy 𝓤 H A W (named 0) κ₀ f64 .twice p (slice-vals p)) $
-      split ! $ move ! (1 ∷ 2 ∷ []) $ fjoin ! $ owned ! P.the-row (Is P.the-row) (EL.makes P.the-type P′.the-plain 𝓤 H A) w _ gw $ fjoin ! $ move ! (1 ∷ 0 ∷ []) $ fjoin ! $ owned ! S.the-row (Is S.the-row) (LL.makes S.the-type S′.the-plain 𝓤 H A) spec _ gs $
+      split ! $ move ! (1 ∷ 2 ∷ []) $ fjoin ! $ owned ! P.the-row (Is P.the-row) (EL.makes P.the-type P′.the-plain 𝓤 H A) w _ gw $ fjoin ! $ move ! (1 ∷ 0 ∷ []) $ fjoin ! $ owned ! S.the-row (Is S.the-row) (LL.makes S.the-type S′.the-plain 𝓤 H A) stock _ gs $
       fjoin ! $ move ! (1 ∷ []) $ split ! $ use1 W (‵ (flft κ₀ (PosShare·left q₀)) ⊛ ‵ (flft κ₀ (PosShare·right q₀))) (W .lfts .lft-split κ₀ q₀) $ split ! $ move ! (1 ∷ 2 ∷ []) $
       join ! $ move ! (1 ∷ 0 ∷ []) $ join ! $ join ! $ frame ! $ done !
 
   module _ (𝓣 : Tables 𝓤 H) (fm : FmC 𝓤 H (W .laws) (𝓣 .C)) (makes : Triple 𝓤 (𝓣 .C #test_forms·single) (Make 𝓤 H A mem run)) (proposes : Triple 𝓤 (𝓣 .C #change_slices·propose) (Propose 𝓤 H A mem run)) where
-    walk : ent 𝓤 (onEntry 𝓤 H A f.signature (κ₀, (κ₁, tt)) (q₀, (q₁, tt)) (spec, (p, (cut, (s, tt)))) at) (WpFn 𝓤 H (𝓣 .C) (𝓣 .Λ) code.function (pv spec ∷ sliceVal (p .ptr) (length (now p)) ∷ cutv cut ∷ sliceVal (b, o) n ∷ []) Post)
+    walk : ent 𝓤 (onEntry 𝓤 H A f.signature (κ₀, (κ₁, tt)) (q₀, (q₁, tt)) (stock, (p, (cut, (s, tt)))) at) (WpFn 𝓤 H (𝓣 .C) (𝓣 .Λ) code.function (pv stock ∷ sliceVal (p .ptr) (length (now p)) ∷ cutv cut ∷ sliceVal (b, o) n ∷ []) Post)
     walk =
-        qed W ((‵ (flft κ₀ q₀) ⊛ (‵ (flft κ₁ q₁) ⊛ ‵ ftrue)) ∷ ‵ (owns (S.the-row ∷ ShrSlice (named 0) κ₀ f64 ∷ D.the-row ∷ MutSlice (named 1) κ₁ T.the-row ∷ []) (spec, (p, (cut, (s, tt)))) at) ∷ []) ∵
-        enter ! (𝓣 .C) (𝓣 .Λ) code.function (pv spec ∷ sliceVal (p .ptr) (length (now p)) ∷ cutv cut ∷ sliceVal (b, o) n ∷ []) _ $
+        qed W ((‵ (flft κ₀ q₀) ⊛ (‵ (flft κ₁ q₁) ⊛ ‵ ftrue)) ∷ ‵ (owns (S.the-row ∷ ShrSlice (named 0) κ₀ f64 ∷ D.the-row ∷ MutSlice (named 1) κ₁ T.the-row ∷ []) (stock, (p, (cut, (s, tt)))) at) ∷ []) ∵
+        enter ! (𝓣 .C) (𝓣 .Λ) code.function (pv stock ∷ sliceVal (p .ptr) (length (now p)) ∷ cutv cut ∷ sliceVal (b, o) n ∷ []) _ $
         alloc1 ! (λ l₀. alloc1 ! (λ l₁. alloc1 ! (λ l₂. alloc1 ! (λ l₃. alloc1 ! (λ l₄. alloc1 ! (λ l₅. alloc1 ! (λ l₆. alloc1 ! (λ l₇. alloc0 ! $ params1 ! $
-        pass1 ! (init ! 12 refl (LL.lawful S.the-type S′.the-laws 𝓤 H A W .typed spec _ gs .0)) $ pass1 ! (init ! 10 refl (tt, (tt, (record { fits = gp }, tt)))) $ pass1 ! (init ! 8 refl (EL.lawful D.the-type D′.the-laws 𝓤 H A W tt .typed cut _ gcut .0)) $ pass1 ! (init ! 6 refl (tt, (tt, (record { fits = gn .0 }, tt)))) $ pass0 ! $
+        pass1 ! (init ! 12 refl (LL.lawful S.the-type S′.the-laws 𝓤 H A W .typed stock _ gs .0)) $ pass1 ! (init ! 10 refl (tt, (tt, (record { fits = gp }, tt)))) $ pass1 ! (init ! 8 refl (EL.lawful D.the-type D′.the-laws 𝓤 H A W tt .typed cut _ gcut .0)) $ pass1 ! (init ! 6 refl (tt, (tt, (record { fits = gn .0 }, tt)))) $ pass0 ! $
         use0 W (raw (Make 𝓤 H A mem run .pre to-make)) asks-make $ calls-at ! fm (Make 𝓤 H A mem run) makes to-make (and-then ! (load ! (from ! (stop !)) (look ! 9 refl)) (no-more !)) (λ u.
         use1 W (later (some (λ (w : Tool). (‵ ftrue ⊛ ‵ (P.the-row .own w (u ∷ []))) ⊛ raw (ensured 𝓤 H A m-fn.ended (m-fn.clauses 𝓤 H A mem run) tt (cut, tt) tt w)))) (id⊢ 𝓤 _) $
         await ! tt $ pick ! (λ w. split ! $ move ! (1 ∷ []) $ use1 W (raw (fact 𝓤 (w ≡ Single cut))) (said-make w) $ heard ! (w ≡ Single cut) (λ is-w. split ! $ drop ! $ peeks ! P.the-row (Is P.the-row) (shows 𝓤 H A P.the-row) w (u ∷ []) (λ gw.
@@ -152,15 +152,15 @@ module _ {M : Type 1} (𝓤 : URA M) (H : Heap 𝓤) (A : Atoms 𝓤) (W : Given
         move ! (16 ∷ 17 ∷ []) $ use2 W (raw (Propose 𝓤 H A mem run .pre (to-propose w u))) (asks-propose w u gw) $
         -- [what `propose` asks; the locals]
         calls-at ! fm (Propose 𝓤 H A mem run) proposes (to-propose w u) (and-then ! (load ! (from ! (stop !)) (look ! 13 refl)) (and-then ! (load ! (from ! (stop !)) (look ! 11 refl)) (and-then ! (load ! (from ! (stop !)) (look ! 5 refl)) (and-then ! (load ! (from ! (stop !)) (look ! 11 refl)) (and-then ! (load ! (from ! (stop !)) (look ! 1 refl)) (no-more !)))))) (λ u′.
-        use1 W (later (some (λ (r : Previewed). ((‵ (flft κ₀ (PosShare·left q₀)) ⊛ (‵ (flft κ₀ (PosShare·right q₀)) ⊛ (‵ (flft κ₁ q₁) ⊛ ‵ ftrue))) ⊛ ‵ (R.the-row .own r (u′ ∷ []))) ⊛ raw (ensured 𝓤 H A g.ended (g.clauses 𝓤 H A mem run) (κ₀, (κ₀, (κ₁, tt))) (spec, (p, (w, (p, (s, tt))))) tt r)))) (id⊢ 𝓤 _) $
-        await ! tt $ pick ! (λ r. split ! $ move ! (1 ∷ []) $ use1 W (some (λ (vs : Unit {0} × (Unit {0} × (Unit {0} × (Unit {0} × (List TurnChange × Unit {0}))))). ‵ (lasts g.ended (κ₀, (κ₀, (κ₁, tt))) (spec, (p, (w, (p, (s, tt))))) vs) ⊛ raw (fact 𝓤 (Written (previewTool spec (now p) w (now p) n) r ys (vs .1 .1 .1 .1 .0))))) (id⊢ 𝓤 _) $
-        pick ! (λ vs. split ! $ move ! (1 ∷ []) $ heard ! (Written (previewTool spec (now p) w (now p) n) r ys (vs .1 .1 .1 .1 .0)) (λ e. fsplit ! $ drop ! $ fsplit ! $ drop ! $ fsplit ! $
+        use1 W (later (some (λ (r : Previewed). ((‵ (flft κ₀ (PosShare·left q₀)) ⊛ (‵ (flft κ₀ (PosShare·right q₀)) ⊛ (‵ (flft κ₁ q₁) ⊛ ‵ ftrue))) ⊛ ‵ (R.the-row .own r (u′ ∷ []))) ⊛ raw (ensured 𝓤 H A g.ended (g.clauses 𝓤 H A mem run) (κ₀, (κ₀, (κ₁, tt))) (stock, (p, (w, (p, (s, tt))))) tt r)))) (id⊢ 𝓤 _) $
+        await ! tt $ pick ! (λ r. split ! $ move ! (1 ∷ []) $ use1 W (some (λ (vs : Unit {0} × (Unit {0} × (Unit {0} × (Unit {0} × (List TurnChange × Unit {0}))))). ‵ (lasts g.ended (κ₀, (κ₀, (κ₁, tt))) (stock, (p, (w, (p, (s, tt))))) vs) ⊛ raw (fact 𝓤 (Written (stock .stamp) (previewTool (stock .spec) (now p) w (now p) n) r ys (vs .1 .1 .1 .1 .0))))) (id⊢ 𝓤 _) $
+        pick ! (λ vs. split ! $ move ! (1 ∷ []) $ heard ! (Written (stock .stamp) (previewTool (stock .spec) (now p) w (now p) n) r ys (vs .1 .1 .1 .1 .0)) (λ e. fsplit ! $ drop ! $ fsplit ! $ drop ! $ fsplit ! $
         drop ! $ fsplit ! $ drop ! $ fsplit ! $ move ! (1 ∷ []) $ drop ! $ fsplit ! $ move ! (1 ∷ []) $ feqL ! (λ same. move ! (1 ∷ []) $ split ! $ move ! (1 ∷ []) $ peeks ! R.the-row (Is R.the-row) (shows 𝓤 H A R.the-row) r (u′ ∷ []) (λ is.
         land ! (from ! (stop !)) (init ! 17 refl (EL.lawful R.the-type R′.the-laws 𝓤 H A W tt .typed r _ is .0)) $ move ! (1 ∷ []) $ split ! $ move ! (1 ∷ []) $ split ! $ move ! (2 ∷ 0 ∷ []) $
         use2 W (‵ (flft κ₀ q₀)) (W .lfts .lft-join κ₀ q₀) $ join ! $ returns ! (look ! 17 refl) $ forget ! 3 refl $ forget ! 5 refl $ forget ! 7 refl $ forget ! 9 refl $ forget ! 11 refl $
         forget ! 13 refl $ forget ! 15 refl $ forget ! 17 refl $ move ! (17 ∷ 18 ∷ []) $ free1 ! $ move ! (15 ∷ 16 ∷ []) $ free1 ! $ move ! (13 ∷ 14 ∷ []) $ free1 ! $ move ! (11 ∷ 12 ∷ []) $
         free1 ! $ move ! (9 ∷ 10 ∷ []) $ free1 ! $ move ! (7 ∷ 8 ∷ []) $ free1 ! $ move ! (5 ∷ 6 ∷ []) $ free1 ! $ move ! (3 ∷ 4 ∷ []) $ free1 ! $ free0 ! $ keep ! (0 ∷ 2 ∷ 1 ∷ []) $
-        by ! (exits (vs .1 .1 .1 .1 .0) r u′ same (subst (λ (x : Paper (List TurnChange)). Written x r ys (vs .1 .1 .1 .1 .0)) (single-is spec (now p) w (now p) n is-w) e))))))))))))))))))))
+        by ! (exits (vs .1 .1 .1 .1 .0) r u′ same (subst (λ (x : Paper (List TurnChange)). Written (stock .stamp) x r ys (vs .1 .1 .1 .1 .0)) (single-is (stock .spec) (now p) w (now p) n is-w) e))))))))))))))))))))
 
 module _ {M : Type 1} (𝓤 : URA M) (H : Heap 𝓤) (A : Atoms 𝓤) (W : Given 𝓤 H A) (mem : Memory → SProp 𝓤) (run : Routine → Fun 𝓤) (𝓣 : Tables 𝓤 H)
     (makes : Triple 𝓤 (𝓣 .C #test_forms·single) (Make 𝓤 H A mem run)) (proposes : Triple 𝓤 (𝓣 .C #change_slices·propose) (Propose 𝓤 H A mem run)) where

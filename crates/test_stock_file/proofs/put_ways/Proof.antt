@@ -11,7 +11,7 @@ abbrev Inv-loop : tie.InvT-loop
 Inv-loop out₀ from bytes at e₀ way₀ out e way = length out ≡ length out₀
 
 abbrev μ-loop : tie.MeasureT-loop
-μ-loop out₀ from bytes at e₀ way₀ out e way = 14 - way
+μ-loop out₀ from bytes at e₀ way₀ out e way = 15 - way
 
 pub put-ways-spec : {M : Type 1} → statement M
 put-ways-spec =

@@ -9,7 +9,7 @@ use Rattle.change_slices.proofs.flat.narrow.Tie as tie
 
 returns : tie.Need-returns
 unfolding narrowAnswer
-returns c = sym (ap (narrowAnswer (c .before .before .before .before .args .room)) (c .before .before .answer2 .given .1) ∙ pick-true _ _ _ (lt-ltb _ _ (c .if1 .taken)))
+returns c = sym (ap (narrowAnswer (c .before .before .before .before .before .args .room)) (c .before .before .before .answer2 .given .1) ∙ pick-true _ _ _ (lt-ltb _ _ (c .if1 .taken)))
 
 returns-2 : tie.Need-returns-2
 unfolding narrowAnswer
@@ -17,7 +17,14 @@ returns-2 c = sym (ap (narrowAnswer (c .before .before .before .args .room)) (c 
 
 returns-3 : tie.Need-returns-3
 unfolding narrowAnswer
-returns-3 c = sym (ap (narrowAnswer (c .before .before .before .before .args .room)) (c .before .before .answer2 .given .1) ∙ pick-false _ _ _ (le-ltb _ _ (c .if1 .left)))
+returns-3 c = sym (ap (narrowAnswer (c .before .before .before .before .before .args .room)) (c .before .before .before .answer2 .given .1) ∙ pick-false _ _ _ (le-ltb _ _ (c .if1 .left)))
 
 pub narrow-spec : {M : Type 1} → statement M
-narrow-spec = tie.close (tie.spec (λ c. search needs) (λ c. search needs) returns returns-2 returns-3)
+narrow-spec =
+    tie.close
+    (tie.spec
+    (λ c. search needs)
+    (λ c. search needs)
+    returns
+    returns-2
+    returns-3)

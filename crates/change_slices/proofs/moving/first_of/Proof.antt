@@ -5,7 +5,7 @@ use borrow.Author.Tests.{not-true, not-false}
 use Rattle.refusals.specs.Number.{reasonOf}
 use Rattle.stock.specs.Spec.{countedPaper}
 use Rattle.rings.specs.Store.{judgedPlace}
-use Rattle.change_slices.proofs.Decided.{first-stock, first-stored, first-removed, first-change}
+use Rattle.change_slices.proofs.Decided.{first-stock, first-stored, first-stale, first-removed, first-change}
 use Rattle.change_slices.proofs.moving.first_of.Statement.{statement}
 use Rattle.change_slices.proofs.moving.first_of.Tie as tie
 
@@ -15,24 +15,18 @@ returns c =
     first-stock _ _ _ _ _ _ (reasonOf (told .0 .0)) (sym (c .before .before .before .cells-fit .ensures) ∙ ap countedPaper (told .1))
 
 returns-2 : tie.Need-returns-2
-returns-2 c =
-    let b = c .before .before in
-    first-stored _ _ _ _ _ _ _ (sym (b .before .before .cells-fit .ensures) ∙ ap countedPaper (b .enum-told .given .1)) (sym (c .before .rings-fit .ensures) ∙ not-true _ (c .if1 .taken))
+returns-2 c = first-stored _ _ _ _ _ _ _ (sym (c .before .before .before .before .cells-fit .ensures) ∙ ap countedPaper (c .before .before .enum-told .given .1)) (sym (c .before .rings-fit .ensures) ∙ not-true _ (c .if1 .taken))
 
 returns-3 : tie.Need-returns-3
-returns-3 c =
-    let f = c .before .before .before in
-    let b = f .before in
-    let k = b .before .before in
-    let told = c .before .judged .given in
-    first-removed _ _ _ _ _ _ _ (sym (k .before .before .cells-fit .ensures) ∙ ap countedPaper (k .enum-told .given .1)) (sym (b .before .rings-fit .ensures) ∙ not-false _ (b .if1 .left)) (told .0 .0) (sym (f .first-bad-ring .ensures) ∙ ap judgedPlace (told .1))
+returns-3 c = first-stale _ _ _ _ _ _ _ (sym (c .before .before .before .before .before .before .cells-fit .ensures) ∙ ap countedPaper (c .before .before .before .before .enum-told .given .1)) (sym (c .before .before .before .rings-fit .ensures) ∙ not-false _ (c .before .before .if1 .left)) (sym (c .before .same-stamp .ensures) ∙ not-true _ (c .if2 .taken))
 
 returns-4 : tie.Need-returns-4
 returns-4 c =
-    let f = c .before .before in
-    let b = f .before in
-    let k = b .before .before in
-    first-change _ _ _ _ _ _ _ (sym (k .before .before .cells-fit .ensures) ∙ ap countedPaper (k .enum-told .given .1)) (sym (b .before .rings-fit .ensures) ∙ not-false _ (b .if1 .left)) (sym (f .first-bad-ring .ensures) ∙ ap judgedPlace (c .enum-told2 .given .1))
+    let told = c .before .judged .given in
+    first-removed _ _ _ _ _ _ _ (sym (c .before .before .before .before .before .before .before .before .before .before .cells-fit .ensures) ∙ ap countedPaper (c .before .before .before .before .before .before .before .before .enum-told .given .1)) (sym (c .before .before .before .before .before .before .before .rings-fit .ensures) ∙ not-false _ (c .before .before .before .before .before .before .if1 .left)) (sym (c .before .before .before .before .before .same-stamp .ensures) ∙ not-false _ (c .before .before .before .before .if2 .left)) (told .0 .0) (sym (c .before .before .before .first-bad-ring .ensures) ∙ ap judgedPlace (told .1))
+
+returns-5 : tie.Need-returns-5
+returns-5 c = first-change _ _ _ _ _ _ _ (sym (c .before .before .before .before .before .before .before .before .before .cells-fit .ensures) ∙ ap countedPaper (c .before .before .before .before .before .before .before .enum-told .given .1)) (sym (c .before .before .before .before .before .before .rings-fit .ensures) ∙ not-false _ (c .before .before .before .before .before .if1 .left)) (sym (c .before .before .before .before .same-stamp .ensures) ∙ not-false _ (c .before .before .before .if2 .left)) (sym (c .before .before .first-bad-ring .ensures) ∙ ap judgedPlace (c .enum-told2 .given .1))
 
 pub first-of-spec : {M : Type 1} → statement M
 first-of-spec =
@@ -45,7 +39,9 @@ first-of-spec =
     (λ c κs. search needs)
     returns-2
     (λ c κs. search needs)
-    (λ c. search needs)
     returns-3
+    (λ c κs. search needs)
     (λ c. search needs)
-    returns-4)
+    returns-4
+    (λ c. search needs)
+    returns-5)

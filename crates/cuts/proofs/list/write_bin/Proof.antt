@@ -4,7 +4,7 @@ use borrow.Author.Needs.{needs}
 use Rattle.stock.specs.declared.TurnSide.the-variants.{Outer, Inner}
 use Rattle.reach.specs.Low.{lowPaper}
 use Rattle.reach.specs.Reach.{actCell}
-use Rattle.changes.specs.Change.{changeOf, Listed}
+use Rattle.changes.specs.Change.{changeOf, ListedOne}
 use Rattle.changes.proofs.Placed.{list-same}
 use Rattle.cuts.specs.Source.{sourceAct}
 use Rattle.cuts.proofs.EachBin.{bin-passed, bin-after, listed-as}

@@ -6,17 +6,14 @@ use Rattle.job_run.proofs.line.make_cut.Tie as tie
 
 returns : tie.Need-returns
 returns c =
-    let p = c .before .before .before .before .before .before .before in
-    let a = p .before .before .before .before .before .before .before .args in
-    (made-none (a .spec) (a .cells .now) (a .generation) (a .cut) _ _ _ _ _ _ (p .preview-of .ensures) (c .before .previewed .given .1), made-lists _ _ _ _ _ _ (p .preview-of .ensures))
+    let a = c .before .before .before .before .before .before .before .before .before .before .before .before .before .before .args in
+    (made-none (a .stock) (a .cells .now) (a .cut) _ _ _ _ _ _ (c .before .before .before .before .before .before .before .preview-of .ensures) (c .before .previewed .given .1), made-lists _ _ _ _ _ _ _ (c .before .before .before .before .before .before .before .preview-of .ensures))
 
 returns-2 : tie.Need-returns-2
 returns-2 c =
-    let l = c .before .before .before .before .before .before in
-    let p = l .before .before .before .before .before .before .before .before in
-    let a = p .before .before .before .before .before .before .before .args in (
-      made-all (a .spec) (a .cells .now) (a .generation) (a .cut) _ _ _ _ _ _ _ _ _ (p .preview-of .ensures) (l .before .before .previewed2 .given .1) (l .clean-spec .ensures) (c .before .before .commit-unasked .ensures),
-      made-lists _ _ _ _ _ _ (p .preview-of .ensures),
+    let a = c .before .before .before .before .before .before .before .before .before .before .before .before .before .before .before .before .before .before .before .before .args in (
+      made-all (a .stock) (a .cells .now) (a .cut) _ _ _ _ _ _ _ _ (c .before .before .before .before .before .before .before .before .before .before .before .before .before .preview-of .ensures) (c .before .before .before .before .before .before .before .previewed2 .given .1) (c .before .before .commit-unasked .ensures),
+      made-lists _ _ _ _ _ _ _ (c .before .before .before .before .before .before .before .before .before .before .before .before .before .preview-of .ensures),
     )
 
 pub make-cut-spec : {M : Type 1} → statement M
@@ -26,7 +23,6 @@ make-cut-spec =
     (λ c κs. search needs)
     (λ c. search needs)
     (λ c. search needs)
-    (λ c κs. search needs)
     (λ c κs. search needs)
     (λ c. search needs)
     (λ c. search needs)

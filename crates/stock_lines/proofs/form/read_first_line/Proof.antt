@@ -1,50 +1,37 @@
 -- `stock_lines::form::read_first_line` meets its contract. Assumes nothing.
 use native.Mathlib.Omega.{arith}
-use mathlib.Core.Path.{_≡_, refl, sym, ap, _∙_}
-use mathlib.Core.Bool.{Bool, true, false}
-use mathlib.Core.List.{List}
-use Prim.Native.Nat.{ℕ}
-use lib.ListN.{length, drop}
-use Rattle.stock_lines.specs.Form.{writtenForm, fieldsOf, beginsWith, fiveOf, stockPrefix}
-use Rattle.stock_lines.proofs.Steps.{stock-long, begins-long, line-begins, line-begins-not, line-front, line-fits, line-length}
+use mathlib.Core.Path.{sym, ap, _∙_}
+use lib.Seq.{length-take-le}
+use Rattle.stock_lines.specs.First.{editionOf}
+use Rattle.stock_lines.proofs.Firsts.{rest-is, first-short, first-parts}
 use borrow.Author.Needs.{needs}
 use Rattle.stock_lines.proofs.form.read_first_line.Statement.{statement}
 use Rattle.stock_lines.proofs.form.read_first_line.Tie as tie
 
-array-share-prefix-p : tie.Need-array-share-prefix-p
-array-share-prefix-p c = line-fits refl (c .put-stock .ensures)
-
-slice-aggregate-begins : tie.Need-slice-aggregate-begins
-slice-aggregate-begins c = line-length refl (c .before .put-stock .ensures)
-
-begins-requires : tie.Need-begins-requires
-begins-requires c κs = omega (arith, stock-long writtenForm, ap length (line-front refl (c .before .put-stock .ensures)))
-
-five-from-requires : tie.Need-five-from-requires
-five-from-requires c κs =
-    let w = c .before .before .before .put-stock .ensures in
-    let s : List ℕ = c .before .before .before .before .before .before .args .line .now in
-    let h : beginsWith (stockPrefix writtenForm) 85 s ≡ true =
-    ap (λ (p : List ℕ). beginsWith p 85 s) (sym (line-front refl w)) ∙ sym (c .before .begins .ensures) ∙ c .if1 .taken in
-    omega (arith, w .wrote .end, begins-long (stockPrefix writtenForm) 85 s h)
-
 returns : tie.Need-returns
-returns c =
-    let w = c .before .before .before .before .put-stock .ensures in
-    let s : List ℕ = c .before .before .before .before .before .before .before .args .line .now in
-    let h : beginsWith (stockPrefix writtenForm) 85 s ≡ true =
-    ap (λ (p : List ℕ). beginsWith p 85 s) (sym (line-front refl w)) ∙ sym (c .before .before .begins .ensures) ∙ c .before .if1 .taken in
-    let e : c .before .before .before .before .put-stock .result ≡ length (stockPrefix writtenForm) = omega (arith, w .wrote .end) in
-    c .five-from .ensures ∙ ap (λ (n : ℕ). fiveOf (fieldsOf 5 (drop n s))) e ∙ sym (ap fiveOf (line-begins (stockPrefix writtenForm) 85 5 s h))
+returns c = first-short _ (c .if1 .taken)
+
+slice-aggregate-read-bar : tie.Need-slice-aggregate-read-bar
+slice-aggregate-read-bar c = sym (length-take-le 92 (c .before .before .before .before .args .line .now) (omega arith))
 
 returns-2 : tie.Need-returns-2
-unfolding fiveOf
 returns-2 c =
-    let w = c .before .before .before .put-stock .ensures in
-    let s : List ℕ = c .before .before .before .before .before .before .args .line .now in
-    let h : beginsWith (stockPrefix writtenForm) 85 s ≡ false =
-    ap (λ (p : List ℕ). beginsWith p 85 s) (sym (line-front refl w)) ∙ sym (c .before .begins .ensures) ∙ c .if1 .left in
-    sym (ap fiveOf (line-begins-not (stockPrefix writtenForm) 85 5 s refl h))
+    let p = c .before .before .before .before .before in
+    let a = p .before .before .before .args in
+    c .first-from .ensures
+    ∙ first-parts (a .line .now) _ _ _ (p .form-in .ensures) (c .before .read-edition .ensures ∙ ap (editionOf (p .form-in .result)) (rest-is 92 (a .line .now))) (c .before .before .before .read-bar .ensures)
 
 pub read-first-line-spec : {M : Type 1} → statement M
-read-first-line-spec = tie.close (tie.spec (λ c κs. search needs) array-share-prefix-p slice-aggregate-begins begins-requires five-from-requires returns returns-2)
+read-first-line-spec =
+    tie.close
+    (tie.spec
+    returns
+    (λ c κs. search needs)
+    slice-aggregate-read-bar
+    (λ c κs. search needs)
+    (λ c. search needs)
+    (λ c. search needs)
+    (λ c. search needs)
+    (λ c κs. search needs)
+    (λ c κs. search needs)
+    returns-2)

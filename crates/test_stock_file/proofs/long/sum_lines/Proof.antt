@@ -6,10 +6,10 @@ use Rattle.test_stock_file.proofs.long.sum_lines.Statement.{statement}
 use Rattle.test_stock_file.proofs.long.sum_lines.Tie as tie
 
 abbrev Inv-loop : tie.InvT-loop
-Inv-loop spec cells rings m count s₀ k₀ s k = Unit {0}
+Inv-loop stock cells rings count s₀ k₀ s k = Unit {0}
 
 abbrev μ-loop : tie.MeasureT-loop
-μ-loop spec cells rings m count s₀ k₀ s k = count - k
+μ-loop stock cells rings count s₀ k₀ s k = count - k
 
 pub sum-lines-spec : {M : Type 1} → statement M
 sum-lines-spec =

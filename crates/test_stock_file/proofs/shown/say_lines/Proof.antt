@@ -6,10 +6,10 @@ use Rattle.test_stock_file.proofs.shown.say_lines.Statement.{statement}
 use Rattle.test_stock_file.proofs.shown.say_lines.Tie as tie
 
 abbrev Inv-loop : tie.InvT-loop
-Inv-loop spec cells rings m count k₀ k = Unit {0}
+Inv-loop stock cells rings count k₀ k = Unit {0}
 
 abbrev μ-loop : tie.MeasureT-loop
-μ-loop spec cells rings m count k₀ k = count - k
+μ-loop stock cells rings count k₀ k = count - k
 
 pub say-lines-spec : {M : Type 1} → statement M
 say-lines-spec =

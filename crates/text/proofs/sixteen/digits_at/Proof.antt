@@ -1,21 +1,19 @@
 -- `text::sixteen::digits_at` meets its contract. The loop's invariant: what the digits passed say. Assumes nothing.
 use Prim.Native.Nat.{_≤_, _<_, _-_}
 use native.Mathlib.Omega.{arith}
-use mathlib.Core.Path.{_≡_, refl, sym, ap, _∙_}
+use mathlib.Core.Path.{_≡_, refl}
 use lib.ListN.{drop}
-use lib.Ieee.{ofBits, binary64}
 use borrow.Author.Needs.{needs}
-use Rattle.text.specs.declared.sixteen.Hex.the-variants.{Of}
 use Rattle.text.specs.Hex.{hexesTo, valueTo}
-use Rattle.text.proofs.Reading.{hexes-more, value-more, value-room, hex-none, hex-minus, hex-of, hexes-end, value-end}
+use Rattle.text.proofs.Reading.{hexes-more, value-more, value-room, digits-read, digits-none}
 use Rattle.text.proofs.sixteen.digits_at.Statement.{statement}
 use Rattle.text.proofs.sixteen.digits_at.Tie as tie
 
 abbrev Inv-loop : tie.InvT-loop
-Inv-loop s at ok₀ n₀ i₀ ok n i = (i ≤ 16) × (ok ≡ hexesTo (drop at s) i) × (n ≡ valueTo (drop at s) i)
+Inv-loop s at k ok₀ n₀ i₀ ok n i = (i ≤ k) × (ok ≡ hexesTo (drop at s) i) × (n ≡ valueTo (drop at s) i)
 
 abbrev μ-loop : tie.MeasureT-loop
-μ-loop s at ok₀ n₀ i₀ ok n i = 16 - i
+μ-loop s at k ok₀ n₀ i₀ ok n i = k - i
 
 loop-holds : tie.Need-loop-holds Inv-loop μ-loop
 unfolding hexesTo valueTo
@@ -50,25 +48,10 @@ loop-again c = (
 )
 
 returns : tie.Need-returns Inv-loop μ-loop
-returns c =
-    let e : c .before .before .before .loop .i ≡ 16 = omega arith in
-    sym (hex-minus _ (hexes-end _ _ _ _ e (c .before .before .before .loop .inv .1) (c .before .if1 .taken))
-    (sym (value-end _ _ _ e (c .before .before .before .loop .inv .2)) ∙ c .if2 .taken))
-
-float-requires : tie.Need-float-requires Inv-loop μ-loop
-float-requires c κs = search needs
+returns c = digits-read _ _ _ _ _ (omega arith) (c .before .before .loop .inv .1) (c .before .before .loop .inv .2) (c .if1 .taken)
 
 returns-2 : tie.Need-returns-2 Inv-loop μ-loop
-returns-2 c =
-    let e : c .before .before .before .before .loop .i ≡ 16 = omega arith in
-    let v = value-end _ _ _ e (c .before .before .before .before .loop .inv .2) in
-    ap Of (c .float .ensures ∙ ap (ofBits binary64) v)
-    ∙ sym (hex-of _ (hexes-end _ _ _ _ e (c .before .before .before .before .loop .inv .1) (c .before .before .if1 .taken)) (λ q. c .before .if2 .left (v ∙ q)))
-
-returns-3 : tie.Need-returns-3 Inv-loop μ-loop
-returns-3 c =
-    let e : c .before .before .loop .i ≡ 16 = omega arith in
-    sym (hex-none _ (hexes-end _ _ _ _ e (c .before .before .loop .inv .1) (c .if1 .left)))
+returns-2 c = digits-none _ _ _ _ (omega arith) (c .before .before .loop .inv .1) (c .if1 .left)
 
 pub digits-at-spec : {M : Type 1} → statement M
 digits-at-spec =
@@ -86,6 +69,4 @@ digits-at-spec =
     loop-less
     loop-again
     returns
-    float-requires
-    returns-2
-    returns-3)
+    returns-2)

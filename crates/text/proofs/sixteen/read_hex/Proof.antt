@@ -13,7 +13,7 @@ returns-2 : tie.Need-returns-2
 returns-2 c = let a = c .before .before .before .args in field-short (a .s .now) (a .at) (omega arith)
 
 returns-3 : tie.Need-returns-3
-returns-3 c = let a = c .before .before .before .before .before .before .args in c .digits-at .ensures ∙ tab-field (a .s .now) (a .at) (c .before .if3 .taken)
+returns-3 c = let a = c .before .before .before .before .before .before .args in c .hex-at .ensures ∙ tab-field (a .s .now) (a .at) (c .before .if3 .taken)
 
 returns-4 : tie.Need-returns-4
 returns-4 c = let a = c .before .before .before .before .before .args in no-tab (a .s .now) (a .at) (c .if3 .left)

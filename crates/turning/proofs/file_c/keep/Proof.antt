@@ -5,7 +5,7 @@ use Rattle.turning.proofs.file_c.keep.Statement.{statement}
 use Rattle.turning.proofs.file_c.keep.Tie as tie
 
 returns : tie.Need-returns
-returns c = let a = c .before .before .args in kept-reading (a .reading) (a .held) (a .words .now) (a .bar .now) _ (c .code-of .ensures)
+returns c = let a = c .before .before .before .args in kept-reading (a .reading) (a .held) (a .words .now) (a .bar .now) _ (c .before .code-of .ensures)
 
 pub keep-spec : {M : Type 1} → statement M
 keep-spec =
@@ -17,6 +17,8 @@ keep-spec =
     (λ c. search needs)
     (λ c. search needs)
     (λ c κs. search needs)
+    (λ c. search needs)
+    (λ c. search needs)
     (λ c. search needs)
     (λ c. search needs)
     (λ c. search needs)

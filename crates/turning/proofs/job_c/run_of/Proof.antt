@@ -5,7 +5,7 @@ use Rattle.turning.proofs.job_c.run_of.Statement.{statement}
 use Rattle.turning.proofs.job_c.run_of.Tie as tie
 
 returns : tie.Need-returns
-returns c = let a = c .before .before .before .before .before .before .before .before .before .before .before .before .args in run-is (a .words .now) (a .bar .now) _ (c .before .before .before .before .before .spec-of .ensures)
+returns c = let a = c .before .before .before .before .before .before .before .before .before .before .before .before .before .before .before .args in run-is (a .words .now) (a .bar .now) _ _ _ (c .before .before .before .before .before .before .before .before .spec-of .ensures) (c .before .before .before .before .before .before .edition-in .ensures) (c .before .before .before .stock-of .ensures)
 
 pub run-of-spec : {M : Type 1} → statement M
 run-of-spec =
@@ -19,7 +19,10 @@ run-of-spec =
     (λ c. search needs)
     (λ c κs. search needs)
     (λ c. search needs)
+    (λ c κs. search needs)
     (λ c. search needs)
+    (λ c. search needs)
+    (λ c κs. search needs)
     (λ c. search needs)
     (λ c. search needs)
     (λ c. search needs)

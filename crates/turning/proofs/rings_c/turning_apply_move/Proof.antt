@@ -1,17 +1,19 @@
 -- `turning::rings_c::turning_apply_move` meets its contract. Assumes nothing.
 use borrow.Author.Needs.{needs}
+use Rattle.stock.specs.declared.TurnStock.{TurnStock}
+use Rattle.changes.specs.declared.ChangeList.{ChangeList}
 use Rattle.moves.specs.Move.{moveOf}
-use Rattle.turning.proofs.Given.{gives-move, same-move}
+use Rattle.turning.proofs.Given.{gives-move, same-move, same-stock}
 use Rattle.turning.proofs.rings_c.turning_apply_move.Statement.{statement}
 use Rattle.turning.proofs.rings_c.turning_apply_move.Tie as tie
 
 returns : tie.Need-returns
 returns c =
     let b = c .before .before .before .before .before .before .before .before in
-    let s = b .before .before .before .before .before in
-    let a = s .before .before .before .before .before .before .args in
+    let s = b .before .before .before .before in
+    let a = s .before .before .before .before .before .before .before .before .before .args in
     gives-move _ _ _ _ _ _ _ _ _ _ _ _ _ _ (c .give-moved .ensures)
-    (same-move _ _ _ (λ x. moveOf x (a .cells .now) (a .rings .now) (a .rings-count .now) (a .generation .now) (a .indices .now) (a .records .now) (a .changes) (a .removed .now)) _ _ _ _ _ (s .spec-of .ensures) (b .apply-move .ensures))
+    (same-move _ _ _ _ (λ (x : TurnStock) (l : ChangeList). moveOf x (a .cells .now) (a .rings .now) l (a .indices .now) (a .records .now) (a .removed .now)) _ _ _ _ _ (same-stock _ _ _ _ _ _ (s .stock-of .ensures) (s .before .before .before .spec-of .ensures)) (b .before .before .before .list-of .ensures) (b .apply-move .ensures))
 
 pub turning-apply-move-spec : {M : Type 1} → statement M
-turning-apply-move-spec = tie.close (tie.spec (λ c κs. search needs) (λ c κs. search needs) (λ c κs. search needs) (λ c. search needs) (λ c. search needs) returns)
+turning-apply-move-spec = tie.close (tie.spec (λ c κs. search needs) (λ c κs. search needs) (λ c κs. search needs) (λ c κs. search needs) (λ c κs. search needs) (λ c. search needs) (λ c. search needs) returns)

@@ -7,10 +7,10 @@ use Rattle.turning.proofs.rings_c.turning_from_parts.Tie as tie
 
 returns : tie.Need-returns
 returns c =
-    let b = c .before .before .before .before .before in
+    let b = c .before .before .before .before .before .before in
     let s = b .before .before in
     let a = s .before .before .before .before .args in
-    gives-store _ _ _ _ _ _ _ _ _ _ (c .give-rebuilt .ensures)
+    gives-store _ _ _ _ _ _ _ _ _ _ _ _ _ (c .give-rebuilt .ensures)
     (same-store _ _ _ (λ x. partsOf x (a .cells .now) (a .given .now) (a .rings .now)) _ _ _ (s .spec-of .ensures) (b .from-parts .ensures))
 
 pub turning-from-parts-spec : {M : Type 1} → statement M
