@@ -1,8 +1,8 @@
 //! Counts of the calls compared: by name, by the number wanted, and how many differ.
 use std::collections::BTreeMap;
 
-/// 0 is accepted; 23 is the greatest refusal number.
-const NUMBERS: usize = 24;
+/// 0 is accepted; 25 is the greatest refusal number.
+const NUMBERS: usize = 26;
 
 /// What was seen of one name.
 #[derive(Clone, Default)]

@@ -17,6 +17,7 @@ pub mod library;
 pub mod limits;
 pub mod memory;
 pub mod oracle;
+pub mod pairs;
 pub mod positions;
 pub mod record;
 pub mod run;

@@ -2,8 +2,10 @@
 //! compare FAMILY|all [COUNT] [SEED] | thousandths [STEP] | far|arcs [COUNT] [SEED] | record [COUNT] [SEED] [FAMILY] | bench [WORD] [PICTURE]
 //! compare stack [COUNT] [SEED]
 //! compare jobs [COUNT] [SEED] PROGRAM [WORD..] | job | job_bench PROGRAM [WORD..] | parts_bench | files_bench
+//! compare pair FIRST SECOND | pairs_bench PROGRAM
 use compare::generate::{FAMILIES, FILE, JOB_PARTS, SEQUENCE};
-use compare::{arcs, bench, far, files, jobs, record, run, stack, whole};
+use compare::pairs::SIDE_BY_SIDE;
+use compare::{arcs, bench, far, files, jobs, pairs, record, run, stack, whole};
 use std::io::{Read, Write};
 use std::process::ExitCode;
 
@@ -33,7 +35,13 @@ fn usage() -> ExitCode {
     eprintln!("compare job_bench PROGRAM..     times a job program beside the Rust");
     eprintln!("compare parts_bench             times a job in parts, through the C calls");
     eprintln!("compare files_bench             times stock files beside a plain reader and writer");
-    let families = FAMILIES.iter().chain([&SEQUENCE, &JOB_PARTS, &FILE]);
+    eprintln!(
+        "compare pair FIRST SECOND       what differs between two stock files, over the Rust"
+    );
+    eprintln!("compare pairs_bench PROGRAM     times stock_compare beside that");
+    let families = FAMILIES
+        .iter()
+        .chain([&SEQUENCE, &JOB_PARTS, &FILE, &SIDE_BY_SIDE]);
     let names = families.map(|(name, count)| format!("{name} ({count})"));
     let names: Vec<String> = names.collect();
     eprintln!("families: {}", names.join(", "));
@@ -61,6 +69,15 @@ fn main() -> ExitCode {
     }
     if name == "files_bench" {
         files::bench::bench();
+        return ExitCode::SUCCESS;
+    }
+    if name == "pair" && words.len() == 3 {
+        let text = pairs::bench::plain_compare(&words[1], &words[2]);
+        std::io::stdout().write_all(text.as_bytes()).unwrap();
+        return ExitCode::SUCCESS;
+    }
+    if name == "pairs_bench" && words.len() == 2 {
+        pairs::bench::bench(&words[1]);
         return ExitCode::SUCCESS;
     }
     if name == "bench" {
@@ -96,7 +113,9 @@ fn main() -> ExitCode {
         let differences = jobs::compare(&words[3..], count as usize, seed);
         return ExitCode::from((differences > 0) as u8);
     }
-    let mut families = FAMILIES.iter().chain([&SEQUENCE, &JOB_PARTS, &FILE]);
+    let mut families = FAMILIES
+        .iter()
+        .chain([&SEQUENCE, &JOB_PARTS, &FILE, &SIDE_BY_SIDE]);
     let family = families.find(|(family, ..)| family == name);
     let default = match (name.as_str(), family) {
         (_, Some((_, count))) => *count as u64,
@@ -143,7 +162,13 @@ fn main() -> ExitCode {
             for (family, default) in FAMILIES.iter().chain([&SEQUENCE, &JOB_PARTS, &FILE]) {
                 differences += run::family(family, default / 100 * count, seed);
             }
+            if pairs::named_program().is_some() {
+                differences += pairs::run::compare(SIDE_BY_SIDE.1 / 100 * count, seed);
+            }
             return ExitCode::from((differences > 0) as u8);
+        }
+        _ if name == SIDE_BY_SIDE.0 => {
+            return ExitCode::from((pairs::run::compare(count, seed) > 0) as u8);
         }
         _ => {
             let differences = run::family(name, count, seed);

@@ -4,6 +4,7 @@ use crate::count::Counts;
 use crate::far::Far;
 use crate::generate::Rng;
 use crate::jobs::Jobs;
+use crate::pairs::{Pairs, named_program};
 use crate::run::{Source, source};
 use crate::trap::{self, CALLS, DIFFER};
 use std::panic::{AssertUnwindSafe, catch_unwind};
@@ -13,7 +14,7 @@ use std::thread;
 use std::time::{Duration, Instant};
 
 /// What part of the time each takes, in hundredths.
-const SHARES: [(&str, u64); 24] = [
+const SHARES: [(&str, u64); 25] = [
     ("root", 3),
     ("length", 4),
     ("stock", 4),
@@ -37,6 +38,7 @@ const SHARES: [(&str, u64); 24] = [
     ("jobs", 5),
     ("job_parts", 3),
     ("file", 3),
+    ("side_by_side", 3),
     ("far", 3),
 ];
 
@@ -124,16 +126,17 @@ fn work(state: &State, worker: usize, seconds: u64, seed: u64, program: &[String
             let slot = slot(name, seed, source, over);
             state.slots.lock().unwrap().push(slot);
         } else if worker == 0 {
-            println!("{name}: not run, no program is named\n");
+            println!("{name}: not run, there is no program\n");
         }
     }
 }
 
-/// What makes the calls of a name; none for jobs where no program is named.
+/// What makes the calls of a name; none for jobs and for pairs of files where their program is not there.
 fn source_of(name: &str, seed: u64, program: &[String]) -> Option<Box<dyn Source>> {
     match name {
         "jobs" if program.is_empty() => None,
         "jobs" => Some(Box::new(Jobs::new(program, seed))),
+        "side_by_side" => named_program().map(|p| Box::new(Pairs::new(p, seed)) as Box<dyn Source>),
         _ => Some(source(name, seed)),
     }
 }

@@ -164,13 +164,22 @@ fn fields(numbers: &[f64]) -> String {
         .collect()
 }
 
+/// The line of bin i's cell.
+pub fn cell_line(i: usize, cell: &[f64; 4]) -> String {
+    format!("cell\t{i:04}{}\n", fields(cell))
+}
+
+/// A ring's line.
+pub fn ring_line(ring: &[f64; 4]) -> String {
+    format!("ring{}\n", fields(ring))
+}
+
 /// The lines of a stock's file, each with its newline.
 pub fn lines(spec: &Spec, edition: u32, cells: &[[f64; 4]], rings: &[[f64; 4]]) -> Vec<String> {
     let bar = [spec.z_min, spec.z_max, spec.outer, spec.bore, spec.cell].map(|x| x + 0.);
     let mut lines = vec![format!("stock\t2{}\t{edition:08X}\n", fields(&bar))];
-    let cell = |(i, c): (usize, &[f64; 4])| format!("cell\t{i:04}{}\n", fields(c));
-    lines.extend(cells.iter().enumerate().map(cell));
-    lines.extend(rings.iter().map(|r| format!("ring{}\n", fields(r))));
+    lines.extend(cells.iter().enumerate().map(|(i, c)| cell_line(i, c)));
+    lines.extend(rings.iter().map(ring_line));
     lines.push(format!("end\t{}\n", lines.len()));
     lines
 }
