@@ -1,8 +1,21 @@
 // Two stock files by name, compared, and what differs written to a descriptor.
 //
 // The second file is opened once the first told a stock. A file that cannot be opened is one whose
-// first line is missing, and one whose read fails is one whose next line is. What is written, byte for
-// byte, is `filesText` of crate `side_by_side`; no contract can speak of descriptors.
+// first line is missing, and one whose read fails is one whose next line is. What is handed on to be
+// written, byte for byte and in order, is `filesText` of crate `side_by_side`, as far as writes succeed;
+// no contract can speak of descriptors.
+ghost use mathlib.Core.Path.{_≡_};
+ghost use Prim.Native.Nat.{_*_};
+ghost use lib.ListN.{take};
+ghost use Rattle.refusals.specs.Limits.{cellLimit};
+ghost use Rattle.stock_file.specs.Read.{keptPaper};
+ghost use Rattle.stock_file.specs.Write.{linesTo};
+ghost use Rattle.stock_streams.specs.Read.{ReadsStock};
+ghost use Rattle.stock_streams.specs.Write.{AllPut};
+ghost use Rattle.side_by_side.specs.Compared.{side, chunkOf, comparedOf, comparedPaper};
+ghost use Rattle.side_by_side.specs.Refused.{fileRefused, pairRefused};
+ghost use Rattle.side_by_side.specs.Files.{comparedText};
+ghost use Rattle.side_streams.specs.Put.{SecondPut, FilesPut};
 use refusals::CELL_LIMIT;
 use refusals::RING_LIMIT;
 use refusals::Refusal;
@@ -11,6 +24,7 @@ use side_by_side::Compared;
 use stock::TurnStock;
 use stock_file::Kept;
 use streams::GATHERED;
+use streams::Out;
 use text::LINE_ROOM;
 
 // Four numbers a cell, four a ring.
@@ -18,8 +32,12 @@ const CELL_NUMBERS: usize = 4 * CELL_LIMIT;
 
 const RING_NUMBERS: usize = 4 * RING_LIMIT;
 
+// ---- reading
+
 // What the file of a name tells.
-fn read_named(path: &[u8], cells: &mut [f64], rings: &mut [f64]) -> Kept {
+fn read_named(path: &[u8], cells: &mut [f64], rings: &mut [f64]) -> Kept
+    ensures { λ r. ⌜ ReadsStock cellLimit r cells rings ⌝ }
+{
     let fd = os::open_read(path);
     if fd < 0 {
         os::fail(path);
@@ -30,29 +48,41 @@ fn read_named(path: &[u8], cells: &mut [f64], rings: &mut [f64]) -> Kept {
     kept
 }
 
-// The first n cells.
-fn first_cells(cells: &[f64], n: usize) -> &[f64] {
+// The first n cells, all where there are fewer.
+fn first_cells(cells: &[f64], n: usize) -> &[f64]
+    ensures { λ r. ⌜ now r ≡ take (4 * n) (now (cells .entry)) ⌝ }
+{
     if cells.len() / 4 < n {
-        return &cells[..0];
+        return cells;
     }
     let end = 4 * n;
     &cells[..end]
 }
 
-// Writes a line, where it has a byte, and tells whether it has.
-fn write_line(fd: i32, line: &[u8; LINE_ROOM], n: usize) -> bool {
-    if n == 0 {
-        return false;
-    }
-    let mut gathered = [0u8; GATHERED];
-    let out = streams::put(fd, streams::fresh(), &mut gathered, text::front(line, n));
-    streams::flush(fd, out, &gathered);
-    true
+// ---- writing
+
+// Gathers the line of a file that is refused; nothing where it tells a stock.
+fn gather_file(fd: i32, gathered: &mut [u8; GATHERED], file: u64, kept: Kept) -> Out
+    ensures { λ r. ⌜ AllPut (fileRefused file (keptPaper kept)) r (now (gathered .exit)) ⌝ }
+{
+    let mut line = [0u8; LINE_ROOM];
+    let n = side_by_side::file_refused(&mut line, file, kept);
+    streams::put(fd, streams::fresh(), gathered, text::front(&line, n))
 }
 
-// Writes so many chunks.
-fn write_chunks(
+// Gathers the line of two stocks that are refused; nothing where they are compared.
+fn gather_refused(fd: i32, gathered: &mut [u8; GATHERED], compared: Compared) -> Out
+    ensures { λ r. ⌜ AllPut (pairRefused (comparedPaper compared)) r (now (gathered .exit)) ⌝ }
+{
+    let mut line = [0u8; LINE_ROOM];
+    let n = side_by_side::pair_refused(&mut line, compared);
+    streams::put(fd, streams::fresh(), gathered, text::front(&line, n))
+}
+
+// Gathers so many chunks, and writes of them what finds no room.
+fn gather_chunks(
     fd: i32,
+    gathered: &mut [u8; GATHERED],
     chunks: usize,
     cells1: &[f64],
     rings1: &[f64],
@@ -60,29 +90,35 @@ fn write_chunks(
     cells2: &[f64],
     rings2: &[f64],
     count2: usize,
-) {
-    let mut gathered = [0u8; GATHERED];
+) -> Out
+    ensures { λ r. ⌜ AllPut (linesTo (chunkOf (side (now (cells1 .entry)) (now (rings1 .entry)) count1) (side (now (cells2 .entry)) (now (rings2 .entry)) count2)) chunks)
+        r (now (gathered .exit)) ⌝ }
+{
     let mut part = [0u8; CHUNK_ROOM];
     let mut out = streams::fresh();
     let mut c: usize = 0;
     while c < chunks {
         let n = side_by_side::chunk(&mut part, cells1, rings1, count1, cells2, rings2, count2, c);
-        out = streams::put(fd, out, &mut gathered, text::front(&part, n));
+        out = streams::put(fd, out, gathered, text::front(&part, n));
         c += 1;
     }
-    streams::flush(fd, out, &gathered);
+    out
 }
 
-// Writes what differs between two stocks, or their refusal.
-fn write_pair(
+// Gathers what differs between two stocks, or their refusal.
+fn gather_pair(
     fd: i32,
+    gathered: &mut [u8; GATHERED],
     first: TurnStock,
     cells1: &[f64],
     rings1: &[f64],
     second: TurnStock,
     cells2: &[f64],
     rings2: &[f64],
-) {
+) -> Out
+    ensures { λ r. ⌜ AllPut (comparedText (comparedOf (first .spec) (side (now (cells1 .entry)) (now (rings1 .entry)) (first .rings)) (second .spec) (side (now (cells2 .entry)) (now (rings2 .entry)) (second .rings))))
+        r (now (gathered .exit)) ⌝ }
+{
     let m = first.rings;
     let k = second.rings;
     let compared = side_by_side::compare(
@@ -95,55 +131,62 @@ fn write_pair(
         rings2,
         k,
     );
-    let mut line = [0u8; LINE_ROOM];
-    let n = side_by_side::pair_refused(&mut line, compared);
-    write_line(fd, &line, n);
     match compared {
         Compared::Chunks(chunks) => {
-            write_chunks(fd, chunks, cells1, rings1, m, cells2, rings2, k);
+            gather_chunks(fd, gathered, chunks, cells1, rings1, m, cells2, rings2, k)
         }
-        Compared::Refused(_) => {}
+        Compared::Refused(_) => gather_refused(fd, gathered, compared),
     }
 }
 
-// Writes of a stock that the first file told, and the second file.
-fn write_second(fd: i32, stock: TurnStock, cells: &[f64], rings: &[f64], second: &[u8]) {
+// Gathers what a second file makes of a stock of n cells, which the first told.
+fn gather_second(
+    fd: i32,
+    gathered: &mut [u8; GATHERED],
+    stock: TurnStock,
+    n: usize,
+    cells: &[f64],
+    rings: &[f64],
+    second: &[u8],
+) -> Out
+    ensures { λ r. ⌜ SecondPut (record { stock = stock; cells = n }) (now (cells .entry)) (now (rings .entry)) r (now (gathered .exit)) ⌝ }
+{
     let mut cells2 = [0.0f64; CELL_NUMBERS];
     let mut rings2 = [0.0f64; RING_NUMBERS];
     let kept = read_named(second, &mut cells2, &mut rings2);
-    let mut line = [0u8; LINE_ROOM];
-    let n = side_by_side::file_refused(&mut line, 2, kept);
-    write_line(fd, &line, n);
     match kept {
-        Kept::Stock(other, m) => {
-            write_pair(
-                fd,
-                stock,
-                cells,
-                rings,
-                other,
-                first_cells(&cells2, m),
-                &rings2,
-            );
-        }
-        Kept::Refused(_) => {}
-        Kept::RefusedAt(_, _) => {}
+        Kept::Stock(other, m) => gather_pair(
+            fd,
+            gathered,
+            stock,
+            first_cells(cells, n),
+            rings,
+            other,
+            first_cells(&cells2, m),
+            &rings2,
+        ),
+        Kept::Refused(_) => gather_file(fd, gathered, 2, kept),
+        Kept::RefusedAt(_, _) => gather_file(fd, gathered, 2, kept),
     }
 }
 
-// Writes what differs between two stock files, or the one refusal.
-pub fn write_differences(fd: i32, first: &[u8], second: &[u8]) {
+// Gathers what differs between two files, or the one refusal.
+fn gather_files(fd: i32, gathered: &mut [u8; GATHERED], first: &[u8], second: &[u8]) -> Out
+    ensures { λ r. ⌜ FilesPut r (now (gathered .exit)) ⌝ }
+{
     let mut cells = [0.0f64; CELL_NUMBERS];
     let mut rings = [0.0f64; RING_NUMBERS];
     let kept = read_named(first, &mut cells, &mut rings);
-    let mut line = [0u8; LINE_ROOM];
-    let n = side_by_side::file_refused(&mut line, 1, kept);
-    write_line(fd, &line, n);
     match kept {
-        Kept::Stock(stock, m) => {
-            write_second(fd, stock, first_cells(&cells, m), &rings, second);
-        }
-        Kept::Refused(_) => {}
-        Kept::RefusedAt(_, _) => {}
+        Kept::Stock(stock, n) => gather_second(fd, gathered, stock, n, &cells, &rings, second),
+        Kept::Refused(_) => gather_file(fd, gathered, 1, kept),
+        Kept::RefusedAt(_, _) => gather_file(fd, gathered, 1, kept),
     }
+}
+
+// Writes what differs between two files, or the one refusal.
+pub fn write_differences(fd: i32, first: &[u8], second: &[u8]) {
+    let mut gathered = [0u8; GATHERED];
+    let out = gather_files(fd, &mut gathered, first, second);
+    streams::flush(fd, out, &gathered);
 }

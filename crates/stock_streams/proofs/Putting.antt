@@ -40,7 +40,7 @@ stock-short : (b : Opening) → length (stockLine (b .form) (b .bar) (b .edition
 unfolding stockLine
 stock-short b = omega (arith, first-few (b .form) (b .edition) (b .bar), length-append (stockText (b .form) (b .bar) (b .edition)) newline)
 
-cell-short : (form i : ℕ) (a b c d : Float) → length (keptCellLine form i a b c d) ≤ lineRoom
+pub cell-short : (form i : ℕ) (a b c d : Float) → length (keptCellLine form i a b c d) ≤ lineRoom
 unfolding keptCellLine fieldsText formOf
 cell-short form i a b c d = simp (length-append, hex-long, digits-length) (omega arith)
 
