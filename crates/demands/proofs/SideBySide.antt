@@ -1,21 +1,30 @@
 -- TWO STOCKS SIDE BY SIDE: what `side_by_side::compare` and `side_by_side::chunk` write is a report of every difference, and of nothing else. A store passes refusal 4's test where its file was read. Assumes nothing.
-use Prim.Native.Nat.{ℕ, _+_, _*_, _≤_, _<_}
+use Prim.Native.Nat.{ℕ, _+_}
 use mathlib.Core.Path.{_≡_, refl, sym, ap, ap₂, _∙_}
-use mathlib.Core.Bool.{true, not, _&&_}
-use mathlib.Core.List.{List, [], _∷_, _++_}
-use lib.ListN.{length}
-use lib.Ieee.{Float}
+use mathlib.Core.Bool.{Bool, true, false, not, _&&_, _||_, false≢true}
+use mathlib.Core.List.{List, [], _∷_, _++_, map}
+use lib.Dec.{T, ltb}
+use lib.Ieee.{Float, lt, le, isNan}
+use lib.Ieee.Bits.{is-true}
+use lib.Ieee.Fits.{and-i, and-l, and-r}
 use Rattle.refusals.specs.Paper.{Paper, Reason, answers, refuses}
-use Rattle.refusals.specs.Limits.{lastGeneration}
 use Rattle.floats.specs.Pick.{pick}
+use Rattle.floats.specs.Numbers.{leastOf, greatestOf, cleanOf}
+use Rattle.floats.specs.Each.{Each}
+use Rattle.floats.proofs.Anywhere.{le-number-l, le-number-r, le-chain}
+use Rattle.floats.proofs.Bounding.{lt-number-l, lt-number-r, lt-le-chain, greatest-below, least-above, clean-number, le-clean, lt-clean}
+use Rattle.floats.proofs.Bools.{so}
 use Rattle.stock.specs.declared.TurnStockSpec.{TurnStockSpec}
+use Rattle.stock.specs.Spec.{cleanSpec}
+use Rattle.stock.proofs.Count.{and-both}
 use Rattle.stock.specs.declared.TurnChange.{TurnChange}
 use Rattle.stock.specs.Cell.{cellAt, sameCell, stockOf}
 use Rattle.rings.specs.declared.Ring.{Ring}
-use Rattle.rings.specs.Ring.{covered}
-use Rattle.rings.specs.Store.{storeFits}
+use Rattle.rings.specs.Ring.{within, covers, covered, clip}
+use Rattle.rings.specs.Store.{barRing, ringsOf, ringFits, apartAll, storeFits}
 use Rattle.rings.specs.Points.{tick, count, Disjoint}
-use Rattle.rings.proofs.Fitting.{store-full, store-disjoint}
+use Rattle.rings.proofs.Cover.{Full, full-z, full-r, covered-count}
+use Rattle.rings.proofs.Fitting.{Fits, fits-of, store-full, store-disjoint}
 use Rattle.changes.specs.Change.{changesTo}
 use Rattle.changes.specs.Difference.{otherCell, differenceOf}
 use Rattle.changes.proofs.Becomes.{difference-is}
@@ -24,12 +33,15 @@ use Rattle.stock_file.specs.declared.Kept.{Kept}
 use Rattle.stock_file.specs.Read.{Stocked, keptPaper}
 use Rattle.stock_file.specs.InParts.{Finished}
 use Rattle.stock_file.proofs.Cut.{however-cut}
-use Rattle.side_by_side.specs.Compared.{Side, cellText, binText, binTexts, leftAll, ringTexts, bothInHand, chunksOf, comparedOf, sameBar}
+use Rattle.side_by_side.specs.Compared.{Side, cellText, binText, binTexts, leftAll, ringTexts, bothInHand, chunksOf, comparedOf}
 use Rattle.side_by_side.specs.Refused.{fileRefused}
 use Rattle.side_by_side.specs.Files.{Told, toldOf, sideOf, firstText, secondText, filesText, comparedText}
 use Rattle.side_by_side.proofs.Cells.{changeTexts, bins-changes, bin-turned}
 use Rattle.side_by_side.proofs.Points.{points-left, points-both, apart-both}
 use Rattle.side_by_side.proofs.Written as written
+use Rattle.demands.specs.Run.{Store, RanRings}
+use Rattle.demands.proofs.Rings.{run-covers}
+use Rattle.demands.proofs.SideLines.{each-left}
 
 -- CELLS: of the bins below n the lines are those of the changes from the first stock to the second: the cell before, and the cell after
 pub compared-cells : (cs ds : List Float) (n : ℕ) → joined (binTexts cs ds n) ≡ changeTexts (changesTo (otherCell ds) cs n)
@@ -102,3 +114,101 @@ pub compared-however-cut : {most : ℕ} {cs rs : List Float} {ps : List (List �
 compared-however-cut f =
     let h = however-cut f in
     told-same (h .0) (h .1) (h .2)
+
+-- ---- the written rings taken into the other store
+
+four : (a b c d : Bool) → ((a && b) && (c && d)) ≡ ((a && c) && (b && d))
+four false b c d = refl
+four true true c d = refl
+four true false true d = refl
+four true false false d = refl
+
+-- a ring that fits: its points are the extent's
+fits-covers : (e q : Ring) → Fits e q → (z r : Float) → T (covers q z r) → T (covers e z r)
+fits-covers e q f z r t =
+    let a = and-l (within (q .z0) (q .z1) z) (within (q .r0) (q .r1) r) t in
+    let b = and-r (within (q .z0) (q .z1) z) (within (q .r0) (q .r1) r) t in
+    and-i (within (e .z0) (e .z1) z) (within (e .r0) (e .r1) r)
+    (inner (e .z0) (e .z1) (q .z0) (q .z1) z (f .z-low) (f .z-high) a)
+    (inner (e .r0) (e .r1) (q .r0) (q .r1) r (f .r-low) (f .r-high) b)
+  where
+    inner : (a b c d x : Float) → T (le a c) → T (le d b) → T (within c d x) → T (within a b x)
+    inner a b c d x l h t = and-i (le a x) (lt x b) (le-chain a c x l (and-l (le c x) (lt x d) t)) (lt-le-chain x d b (and-r (le c x) (lt x d) t) h)
+
+-- where one ring fits, any other that is not empty covers, clipped, what it and the extent cover
+clip-covers : (e k q : Ring) → Fits e k → Full q → (z r : Float) → covers (clip e q) z r ≡ (covers q z r && covers e z r)
+unfolding clip
+clip-covers e k q f h z r =
+    ap₂ _&&_
+    (axis (e .z0) (e .z1) (q .z0) (q .z1) z (le-number-l (e .z0) (k .z0) (f .z-low)) (le-number-r (k .z1) (e .z1) (f .z-high)) (full-z q h))
+    (axis (e .r0) (e .r1) (q .r0) (q .r1) r (le-number-l (e .r0) (k .r0) (f .r-low)) (le-number-r (k .r1) (e .r1) (f .r-high)) (full-r q h))
+    ∙ four (within (q .z0) (q .z1) z) (within (e .z0) (e .z1) z) (within (q .r0) (q .r1) r) (within (e .r0) (e .r1) r)
+  where
+    axis : (a b c d x : Float) → isNan a ≡ false → isNan b ≡ false → T (lt c d) → within (greatestOf (cleanOf c) a) (leastOf (cleanOf d) b) x ≡ (within c d x && within a b x)
+    axis a b c d x na nb t =
+        ap₂ _&&_
+        (greatest-below (cleanOf c) a (clean-number c (lt-number-l c d t)) na x ∙ ap (λ (y : Bool). y && le a x) (le-clean c x))
+        (least-above (cleanOf d) b (clean-number d (lt-number-r c d t)) nb x ∙ ap (λ (y : Bool). y && lt x b) (lt-clean d x))
+        ∙ four (le c x) (le a x) (lt x d) (lt x b)
+
+clips-covered : (e k : Ring) → Fits e k → (l : List Ring) → Each Full l → (z r : Float) → covered (map (clip e) l) z r ≡ (covered l z r && covers e z r)
+unfolding covered
+clips-covered e k f [] a z r = refl
+clips-covered e k f (q ∷ l) a z r =
+    ap₂ _||_ (clip-covers e k q f (a .0) z r) (clips-covered e k f l (a .1) z r) ∙ both (covers q z r) (covered l z r) (covers e z r)
+  where
+    both : (a b x : Bool) → ((a && x) || (b && x)) ≡ ((a || b) && x)
+    both false b x = refl
+    both true b true = refl
+    both true true false = refl
+    both true false false = refl
+
+-- a store that passes covers points of the extent alone
+store-within : (e : Ring) (qs : List Ring) → storeFits e qs ≡ true → (z r : Float) → covered qs z r ≡ true → covers e z r ≡ true
+unfolding covered storeFits
+store-within e [] t z r c = absurd (false≢true c)
+store-within e (q ∷ qs) t z r c =
+    let b = and-both (ringFits e q && apartAll qs q) (storeFits e qs) t in
+    let w = fits-of e q (so (and-both (ringFits e q) (apartAll qs q) (b .0) .0)) in
+    go (covers q z r) refl c (store-within e qs (b .1) z r)
+    (λ h. is-true (covers e z r) (fits-covers e q w z r (so h)))
+  where
+    go : (x : Bool) → covers q z r ≡ x → (x || covered qs z r) ≡ true → (covered qs z r ≡ true → covers e z r ≡ true) → (covers q z r ≡ true → covers e z r ≡ true) → covers e z r ≡ true
+    go true h c more one = one h
+    go false h c more one = more c
+
+opened : (e q : Ring) (qs : List Ring) → storeFits e (q ∷ qs) ≡ true → ((ringFits e q && apartAll qs q) && storeFits e qs) ≡ true
+unfolding storeFits
+opened e q qs g = g
+
+-- what exactly the others leave, clipped
+left-clipped : (e : Ring) (ks qs : List Ring) → storeFits e ks ≡ true → storeFits e qs ≡ true → (z r : Float) → covered (map (clip e) (leftAll ks qs)) z r ≡ (covered qs z r && not (covered ks z r))
+unfolding leftAll covered
+left-clipped e ks [] f g z r = refl
+left-clipped e ks (q ∷ qs) f g z r =
+    let all = q ∷ qs in
+    let one = fits-of e q (so (and-both (ringFits e q) (apartAll qs q) (and-both (ringFits e q && apartAll qs q) (storeFits e qs) (opened e q qs g) .0) .0)) in
+    clips-covered e q one (leftAll ks all) (each-left Full (λ p w. w) (λ p k a b n. (λ x. x, λ x. x, λ x. x, λ x. x)) ks all (store-full e ks f) (store-full e all g)) z r
+    ∙ ap (λ (x : Bool). x && covers e z r) (covered-count (leftAll ks all) z r ∙ ap (λ (n : ℕ). ltb 0 n) (compared-first e ks all f g z r) ∙ ticked (covered all z r && not (covered ks z r)))
+    ∙ inside (covered all z r) (not (covered ks z r)) (covers e z r) (store-within e all g z r)
+  where
+    ticked : (b : Bool) → ltb 0 (tick b) ≡ b
+    ticked true = refl
+    ticked false = refl
+
+    inside : (a b x : Bool) → (a ≡ true → x ≡ true) → ((a && b) && x) ≡ (a && b)
+    inside false b x h = refl
+    inside true true x h = h refl
+    inside true false x h = refl
+
+-- JOINED: the rings that are written of a first store, taken one by one into the second's, make it cover what either covers and nothing else
+pub compared-joins : {spec : TurnStockSpec} {edition : ℕ} {s t : Store} (qs : List Ring) → let ks = ringsOf (s .count) (s .numbers) in let e = barRing (cleanSpec spec) in
+    storeFits e ks ≡ true → storeFits e qs ≡ true → RanRings spec edition s (leftAll ks qs) t → (z r : Float) → covered (ringsOf (t .count) (t .numbers)) z r ≡ (covered ks z r || covered qs z r)
+compared-joins {spec} {edition} {s} {t} qs f g a z r =
+    let ks = ringsOf (s .count) (s .numbers) in
+    run-covers a z r ∙ ap (λ (x : Bool). covered ks z r || x) (left-clipped (barRing (cleanSpec spec)) ks qs f g z r) ∙ joins (covered ks z r) (covered qs z r)
+  where
+    joins : (k q : Bool) → (k || (q && not k)) ≡ (k || q)
+    joins true q = refl
+    joins false true = refl
+    joins false false = refl

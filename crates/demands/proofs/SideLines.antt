@@ -18,7 +18,7 @@ use Rattle.rings.proofs.Cover.{Full, each-kept, each-left-of}
 use Rattle.rings.proofs.Fitting.{fits-of, store-full}
 use Rattle.text.specs.Lines.{newline, ringLine}
 use Rattle.stock_lines.specs.Form.{holds, lineOf, fieldsText, ringPrefix}
-use Rattle.stock_lines.proofs.Forms.{Keeps, none, more}
+use Rattle.stock_lines.proofs.Forms.{none, more}
 use Rattle.stock_lines.proofs.EachLine.{reads}
 use Rattle.stock_file.proofs.Keepable.{plus}
 use Rattle.side_by_side.specs.Compared.{leftAll}
@@ -65,10 +65,14 @@ parts p k a b e =
       λ f. record { full = f; z0 = x; z1 = y; r0 = v; r1 = a .r1 },
     )
 
-all-left : (ks qs : List Ring) → Each Keepable ks → Each Keepable qs → Each Keepable (leftAll ks qs)
-unfolding left leftAll
-all-left ks [] a b = tt
-all-left ks (q ∷ qs) a b = each-append Keepable (left ks q) (leftAll ks qs) (each-left-of Keepable (λ p w. w .full) parts (kept q) ks (each-kept Keepable q (λ _. b .0)) a) (all-left ks qs a (b .1))
+-- a property that what a ring leaves of another keeps
+module _ (P : Ring → Type 0) (full : (q : Ring) → P q → Full q)
+    (parts : (p k : Ring) → P p → P k → apart p k ≡ false → (Full (before p (common p k)) → P (before p (common p k))) × (Full (behind p (common p k)) → P (behind p (common p k)))
+    × (Full (inside p (common p k)) → P (inside p (common p k))) × (Full (outside p (common p k)) → P (outside p (common p k)))) where
+  pub each-left : (ks qs : List Ring) → Each P ks → Each P qs → Each P (leftAll ks qs)
+  unfolding left leftAll
+  each-left ks [] a b = tt
+  each-left ks (q ∷ qs) a b = each-append P (left ks q) (leftAll ks qs) (each-left-of P full parts (kept q) ks (each-kept P q (λ _. b .0)) a) (each-left ks qs a (b .1))
 
 -- ---- a store that passes refusal 4's test, of numbers of 64 bits, is of such rings
 
@@ -109,4 +113,4 @@ all-back (q ∷ l) a = (reads-back q (a .0), all-back l (a .1))
 
 -- LINES: each ring that is left of qs reads back from its line
 pub compared-lines : (e : Ring) (ks qs : List Ring) → storeFits e ks ≡ true → storeFits e qs ≡ true → Each Held ks → Each Held qs → Each ReadsBack (leftAll ks qs)
-compared-lines e ks qs f g h k = all-back (leftAll ks qs) (all-left ks qs (stored e ks f (store-full e ks f) h) (stored e qs g (store-full e qs g) k))
+compared-lines e ks qs f g h k = all-back (leftAll ks qs) (each-left Keepable (λ q w. w .full) parts ks qs (stored e ks f (store-full e ks f) h) (stored e qs g (store-full e qs g) k))
