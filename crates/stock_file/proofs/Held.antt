@@ -1,24 +1,23 @@
 -- The unfinished line, held in the first bytes of a line. Assumes nothing.
-use Prim.Native.Nat.{ℕ, _+_, _≤_, _<_, min}
+use Prim.Native.Nat.{ℕ, _+_, _-_, _≤_, _<_, min}
 use native.Mathlib.Omega.{arith}
 use native.Mathlib.Nat.{min-le-right}
 use native.Mathlib.Numerals.{add-one}
-use mathlib.Core.Path.{_≡_, refl, sym, ap, _∙_}
-use mathlib.Core.Bool.{Bool, true, false}
+use mathlib.Core.Path.{_≡_, sym, ap, ap₂, _∙_}
+use mathlib.Core.Bool.{true, false}
 use mathlib.Core.List.{List, [], _∷_, _++_}
-use lib.ListN.{length, take, drop, set, getD, drop-of-length-le}
-use lib.Seq.{sets, sets-eq, drop-cons, length-take-le, take-suc-set}
-use lib.Ieee.{Float}
+use lib.ListN.{length, take, drop, set, getD, drop-of-length-le, length-set}
+use lib.Seq.{sets-eq, drop-cons, length-take-le, take-suc-set}
 use borrow.Author.Tests.{eq-eqb, ne-eqb, lt-ltb, le-ltb}
 use Rattle.refusals.specs.Lent.{over}
-use Rattle.text.specs.Wrote.{lineRoom, Wrote, Put}
+use Rattle.text.specs.Wrote.{lineRoom, Put}
 use Rattle.text.proofs.Sets.{put-wrote, reput}
 use Rattle.lines.specs.Hands.{Hand, hand, byteOn, takes}
 use Rattle.lines.proofs.Parts.{stopped-takes, byte-newline, byte-held, byte-long}
 use Rattle.stock_lines.specs.declared.Reading.{Reading}
 use Rattle.stock_lines.specs.Reading.{State, state, refusing, onLine}
 use Rattle.stock_lines.proofs.Steps.{wrote-front}
-use Rattle.stock_file.specs.Read.{stopped, onLong, heldIn, taking}
+use Rattle.stock_file.specs.Read.{stopped, onLong, heldIn, taking, HoldsOn}
 
 module _ (st : State) (l : List ℕ) (n b : ℕ) (few : n ≤ 127) (room : length l ≡ lineRoom) where
   long : length (take n l) ≡ n
@@ -59,6 +58,32 @@ bytes-step s i j k l e = rw (add-one i, drop-cons s i 0 l, e)
 pub bytes-end : (s : List ℕ) (i : ℕ) (j : Hand State) → length s ≤ i → takes stopped onLine onLong j (drop i s) ≡ j
 unfolding takes
 bytes-end s i j l = rw (drop-of-length-le s l)
+
+-- ---- bytes that are held, up to a newline
+
+pub none-held : (len : ℕ) (l s : List ℕ) (from : ℕ) → len ≤ 127 → length l ≡ lineRoom → from ≤ length s → HoldsOn len l s from 0 l
+none-held len l s from few room reach =
+    let e : len ≡ len + 0 = omega arith in
+    let f : from ≡ from + 0 = omega arith in
+    record { same = λ st _. ap₂ (λ (n i : ℕ). taking st (take n l) (drop i s)) e f; few = omega arith; room = room; reach = omega arith }
+
+pub one-held : (len : ℕ) (l s : List ℕ) (from m : ℕ) (k k' : List ℕ) → HoldsOn len l s from m k → m < 127 - len → from + m < length s → (getD s (from + m) 0 ≡ 10 → ⊥) → k' ≡ set k (len + m) (getD s (from + m) 0) → HoldsOn len l s from (m + 1) k'
+one-held len l s from m k k' h few more plain e =
+    let w : len + m < 127 = omega (arith, h .few) in
+    let a : len + m + 1 ≡ len + (m + 1) = omega arith in
+    let b : from + m + 1 ≡ from + (m + 1) = omega arith in
+    record {
+      same = λ st f. h .same st f
+          ∙ bytes-step s (from + m) (hand st (take (len + m) k)) (hand st (take (len + m + 1) k')) more (taken-held st k (len + m) (getD s (from + m) 0) (h .few) (h .room) k' f plain w e)
+          ∙ ap₂ (λ (n i : ℕ). taking st (take n k') (drop i s)) a b;
+      few = omega arith;
+      room = ap length e ∙ length-set k (len + m) (getD s (from + m) 0) ∙ h .room;
+      reach = omega arith;
+    }
+
+-- a reading that is refused goes on as it is
+pub run-stopped : (st : State) (l s : List ℕ) (n i j : ℕ) → stopped st ≡ true → taking st (take n l) (drop i s) ≡ taking st (take n l) (drop j s)
+run-stopped st l s n i j e = stopped-takes stopped onLine onLong (drop i s) st (take n l) e ∙ sym (stopped-takes stopped onLine onLong (drop j s) st (take n l) e)
 
 -- ---- a part
 

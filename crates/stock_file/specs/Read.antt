@@ -1,10 +1,10 @@
 -- A stock file read: its bytes as they come, what its end tells, and the rule of a whole file. Assumes nothing.
 use mathlib.Core.Path.{_≡_}
-use Prim.Native.Nat.{ℕ, _*_, _/_, _≤_, min}
+use Prim.Native.Nat.{ℕ, _+_, _*_, _/_, _≤_, _<_, min}
 use mathlib.Core.Bool.{Bool, false, not}
 use mathlib.Core.List.{List, []}
 use lib.Dec.{ltb, leb, eqb}
-use lib.ListN.{length, take}
+use lib.ListN.{length, take, drop}
 use lib.Ieee.{Float}
 use denote.Ref.{now}
 use Rattle.refusals.specs.Number.{numberOf, reasonOf}
@@ -25,6 +25,7 @@ use Rattle.stock_lines.specs.declared.Bar.{Bar}
 use Rattle.stock_lines.specs.declared.Reading.{Reading}
 use Rattle.stock_lines.specs.Reading.{State, state, refusing, onLine, stateFound, stateLeft}
 use Rattle.stock_file.specs.declared.Taken.{Taken}
+use Rattle.stock_file.specs.declared.Run.{Run}
 use Rattle.stock_file.specs.declared.Kept.{Kept}
 use Rattle.stock_file.specs.declared.Kept.the-variants.{Stock, Refused, RefusedAt}
 
@@ -76,6 +77,21 @@ pub record ByteTaken (reading : Reading) (len : ℕ) (cells rings : Lent Float) 
   pub same : hand (stateLeft (r .reading) cells rings) (take (r .len) (now (line .exit))) ≡ byteOn stopped onLine onLong (hand (stateFound reading cells rings) (take len (now (line .entry)))) b
   pub few : r .len ≤ 127
   pub room : length (now (line .exit)) ≡ lineRoom
+
+-- r bytes of s from a place on, none of them a newline, held behind the first len of a line: whatever the reading is that goes on, it takes them so
+pub record HoldsOn (len : ℕ) (l s : List ℕ) (from r : ℕ) (l' : List ℕ) : Type 0 where
+  pub same : (st : State) → stopped st ≡ false → taking st (take len l) (drop from s) ≡ taking st (take (len + r) l') (drop (from + r) s)
+  pub few : len + r ≤ 127
+  pub room : length l' ≡ lineRoom
+  pub reach : from + r ≤ length s
+
+-- the bytes of s from a place on up to another, which is behind it
+pub record RunTaken (reading : Reading) (len : ℕ) (cells rings : Lent Float) (line : Lent ℕ) (s : List ℕ) (from : ℕ) (r : Run) : Type 0 where
+  pub same : taking (stateFound reading cells rings) (take len (now (line .entry))) (drop from s) ≡ taking (stateLeft (r .reading) cells rings) (take (r .len) (now (line .exit))) (drop (r .at) s)
+  pub few : r .len ≤ 127
+  pub room : length (now (line .exit)) ≡ lineRoom
+  pub on : from < r .at
+  pub reach : r .at ≤ length s
 
 pub record BytesTaken (reading : Reading) (len : ℕ) (cells rings : Lent Float) (line : Lent ℕ) (s : List ℕ) (r : Taken) : Type 0 where
   pub same : hand (stateLeft (r .reading) cells rings) (take (r .len) (now (line .exit))) ≡ taking (stateFound reading cells rings) (take len (now (line .entry))) s

@@ -11,13 +11,13 @@ pub use written::Spelled;
 pub use written::file_line;
 pub use written::line_count;
 ghost use mathlib.Core.Path.{_≡_};
-ghost use Prim.Native.Nat.{_*_, _≤_};
+ghost use Prim.Native.Nat.{_*_, _≤_, _<_};
 ghost use mathlib.Core.List.{[]};
 ghost use lib.ListN.{length, set};
 ghost use Rattle.stock.specs.Spec.{cleanSpec};
 ghost use Rattle.stock.specs.Stock.{stockFrom};
 ghost use Rattle.text.specs.Wrote.{lineRoom};
-ghost use Rattle.stock_file.specs.Read.{freshReading, frontOf, specOf, ended, keptPaper, toldAs, ByteTaken, BytesTaken, TakesPart};
+ghost use Rattle.stock_file.specs.Read.{freshReading, frontOf, specOf, ended, keptPaper, toldAs, ByteTaken, HoldsOn, RunTaken, BytesTaken, TakesPart};
 use refusals::Refusal;
 use stock::Counted;
 use stock::Stamp;
@@ -34,6 +34,13 @@ const LONGEST: usize = LINE_ROOM - 1;
 pub struct Taken {
     pub reading: Reading,
     pub len: usize,
+}
+
+// A reading after the bytes before a place; of the unfinished line, so many are held.
+struct Run {
+    reading: Reading,
+    len: usize,
+    at: usize,
 }
 
 // What a file told: a stock at generation 0, and how many cells it has, which stand first in the lent
@@ -110,6 +117,67 @@ fn take_byte(
     }
 }
 
+// Holds bytes from a place on, behind the first len of a line, up to a newline, the end or a full line;
+// answers how many.
+fn hold_bytes(line: &mut [u8], len: usize, bytes: &[u8], from: usize) -> usize
+    requires { ⌜ (len ≤ 127) × (length (now line) ≡ lineRoom) × (from ≤ length (now bytes)) ⌝ }
+    ensures { λ r. ⌜ HoldsOn len (now (line .entry)) (now (bytes .entry)) from r (now (line .exit)) ⌝ }
+{
+    let mut m: usize = 0;
+    while m < LONGEST - len {
+        let at = from + m;
+        if bytes.len() <= at {
+            return m;
+        }
+        let b = bytes[at];
+        if b == b'\n' {
+            return m;
+        }
+        put_byte(line, len + m, b);
+        m += 1;
+    }
+    m
+}
+
+// The bytes from a place on up to the end of their line, and that end; a refused line is the last.
+fn take_run(
+    reading: Reading,
+    cells: &mut [f64],
+    rings: &mut [f64],
+    line: &mut [u8],
+    len: usize,
+    bytes: &[u8],
+    from: usize,
+) -> Run
+    requires { ⌜ (len ≤ 127) × (length (now line) ≡ lineRoom) × (from < length (now bytes)) ⌝ }
+    ensures { λ r. ⌜ RunTaken reading len cells rings line (now (bytes .entry)) from r ⌝ }
+{
+    if reading.refused {
+        return Run {
+            reading,
+            len,
+            at: bytes.len(),
+        };
+    }
+    let m = hold_bytes(line, len, bytes, from);
+    let at = from + m;
+    let n = len + m;
+    if bytes.len() <= at {
+        return Run {
+            reading,
+            len: n,
+            at,
+        };
+    }
+    let t = take_byte(reading, cells, rings, line, n, bytes[at]);
+    let after = t.reading;
+    Run {
+        reading: after,
+        len: t.len,
+        at: at + 1,
+    }
+}
+
 // Some bytes more.
 fn take_bytes(
     reading: Reading,
@@ -126,10 +194,10 @@ fn take_bytes(
     let mut n = len;
     let mut i: usize = 0;
     while i < bytes.len() {
-        let t = take_byte(k, cells, rings, line, n, bytes[i]);
+        let t = take_run(k, cells, rings, line, n, bytes, i);
         k = t.reading;
         n = t.len;
-        i += 1;
+        i = t.at;
     }
     Taken { reading: k, len: n }
 }
