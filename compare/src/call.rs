@@ -64,9 +64,9 @@ pub enum Simple {
     Drill { tip_z: f64, radius: f64, cone: f64 },
 }
 
-/// A call, `turning_` left off its name. Cells, segments, points and rings are flat, as lent. The stamp of
-/// `New` and of `FromParts` has the edition of the stock that is made, and what the place for its
-/// generation holds before.
+/// A call, `turning_` left off its name. Cells, kept numbers of blocks, segments, points and rings are flat,
+/// as lent. The stamp of `New` and of `FromParts` has the edition of the stock that is made, and what the
+/// place for its generation holds before.
 #[rustfmt::skip]
 #[derive(Clone, Debug)]
 pub enum Call {
@@ -74,17 +74,19 @@ pub enum Call {
     Length { x: f64, y: f64 },
     Validate { spec: Spec },
     Bin { spec: Spec, i: usize },
-    New { spec: Spec, stamp: Stamp, cells_len: usize },
+    New { spec: Spec, stamp: Stamp, cells_len: usize, blocks_len: usize },
     Preview { spec: Spec, stamp: Stamp, cells: Vec<f64>, side: u32, rn: f64, segments: Vec<f64>, room: Room },
     PreviewPolygon { spec: Spec, stamp: Stamp, cells: Vec<f64>, side: u32, excess: f64, points: Vec<f64>, room: Room },
     Cut { spec: Spec, stamp: Stamp, cells: Vec<f64>, cut: Simple, room: Room },
-    Apply { spec: Spec, stamp: Stamp, cells: Vec<f64>, list: List },
+    Apply { spec: Spec, stamp: Stamp, cells: Vec<f64>, blocks: Vec<f64>, list: List },
     ChangesTo { spec: Spec, stamp: Stamp, cells: Vec<f64>, after: Vec<f64>, room: Room },
     RemoveRing { spec: Spec, store: Store, generation: u64, ring: [f64; 4] },
-    ApplyMove { spec: Spec, stamp: Stamp, cells: Vec<f64>, store: Store, list: List, removed: Vec<f64> },
-    FromParts { spec: Spec, stamp: Stamp, cells: Vec<f64>, given: Vec<f64>, rings_len: usize },
+    ApplyMove { spec: Spec, stamp: Stamp, cells: Vec<f64>, blocks: Vec<f64>, store: Store, list: List, removed: Vec<f64> },
+    FromParts { spec: Spec, stamp: Stamp, cells: Vec<f64>, blocks: Vec<f64>, given: Vec<f64>, rings_len: usize },
+    Renew { spec: Spec, cells: Vec<f64>, blocks: Vec<f64> },
     Volume { spec: Spec, cells: Vec<f64>, store: Store },
     EnvelopeAt { spec: Spec, cells: Vec<f64>, z: f64 },
+    Range { spec: Spec, cells: Vec<f64>, blocks: Vec<f64>, lo: f64, hi: f64 },
     EnvelopeOrder { points: Vec<f64> },
     Within { points: Vec<f64>, lo: f64, hi: f64 },
     RadiusAt { points: Vec<f64>, u: f64 },
@@ -115,8 +117,10 @@ impl Call {
             Call::RemoveRing { .. } => "remove_ring",
             Call::ApplyMove { .. } => "apply_move",
             Call::FromParts { .. } => "from_parts",
+            Call::Renew { .. } => "renew",
             Call::Volume { .. } => "volume",
             Call::EnvelopeAt { .. } => "envelope_at",
+            Call::Range { .. } => "range",
             Call::EnvelopeOrder { .. } => "envelope_order",
             Call::Within { .. } => "within",
             Call::RadiusAt { .. } => "radius_at",
@@ -140,8 +144,11 @@ pub enum Answer {
     Range(f64, f64),
     /// The changes of a preview or a difference, and the stamp that they carry.
     Changes(Vec<Change>, Stamp),
-    /// The cells, the rings stored and the generation, of which a call has what it lends.
-    Stock(Vec<[f64; 4]>, Vec<[f64; 4]>, u64),
+    /// The cells, the kept numbers of their blocks, the rings stored and the generation, of which a call
+    /// has what it lends.
+    Stock(Vec<[f64; 4]>, Vec<f64>, Vec<[f64; 4]>, u64),
+    /// The kept numbers of the blocks.
+    Blocks(Vec<f64>),
     /// The least and the greatest volume.
     Volume(f64, f64),
     /// What a query found, or none.

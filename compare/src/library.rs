@@ -77,7 +77,9 @@ pub mod c {
     declare_with_spec! {
         turning_validate(n: Size);
         turning_bin(i: usize, za: Out, zb: Out);
-        turning_new(edition: u32, generation: *mut u64, cells: Out, cells_len: usize);
+        turning_new(
+            edition: u32, generation: *mut u64, cells: Out, cells_len: usize, blocks: Out, blocks_len: usize
+        );
         turning_preview(
             edition: u32, generation: u64, cells: In, cells_len: usize, side: u32, rn: f64,
             segments: In, segments_len: usize, indices: Size, indices_len: usize, records: Out,
@@ -104,9 +106,9 @@ pub mod c {
             count: Size, list_edition: *mut u32, list_generation: *mut u64
         );
         turning_apply(
-            edition: u32, generation: *mut u64, cells: Out, cells_len: usize, indices: Sizes,
-            indices_len: usize, records: In, records_len: usize, changes: usize, list_edition: u32,
-            list_generation: u64, position: Size
+            edition: u32, generation: *mut u64, cells: Out, cells_len: usize, blocks: Out,
+            blocks_len: usize, indices: Sizes, indices_len: usize, records: In, records_len: usize,
+            changes: usize, list_edition: u32, list_generation: u64, position: Size
         );
         turning_changes_to(
             edition: u32, generation: u64, cells: In, cells_len: usize, after: In, after_len: usize,
@@ -118,21 +120,27 @@ pub mod c {
             r0: f64, r1: f64, position: Size
         );
         turning_apply_move(
-            edition: u32, generation: *mut u64, cells: Out, cells_len: usize, rings: Out,
-            rings_len: usize, rings_count: Size, indices: Sizes, indices_len: usize, records: In,
-            records_len: usize, changes: usize, list_edition: u32, list_generation: u64, removed: In,
-            removed_len: usize, position: Size
+            edition: u32, generation: *mut u64, cells: Out, cells_len: usize, blocks: Out,
+            blocks_len: usize, rings: Out, rings_len: usize, rings_count: Size, indices: Sizes,
+            indices_len: usize, records: In, records_len: usize, changes: usize, list_edition: u32,
+            list_generation: u64, removed: In, removed_len: usize, position: Size
         );
         turning_from_parts(
-            edition: u32, generation: *mut u64, cells: In, cells_len: usize, given: In,
-            given_len: usize, rings: Out, rings_len: usize, rings_count: Size, position: Size
+            edition: u32, generation: *mut u64, cells: In, cells_len: usize, blocks: Out,
+            blocks_len: usize, given: In, given_len: usize, rings: Out, rings_len: usize,
+            rings_count: Size, position: Size
         );
+        turning_renew(cells: In, cells_len: usize, blocks: Out, blocks_len: usize);
         turning_volume(
             cells: In, cells_len: usize, rings: In, rings_len: usize, rings_count: usize, least: Out,
             greatest: Out
         );
         turning_envelope_at(
             cells: In, cells_len: usize, z: f64, found: *mut u32, bore_lower: Out, outer_upper: Out
+        );
+        turning_range(
+            cells: In, cells_len: usize, blocks: In, blocks_len: usize, lo: f64, hi: f64,
+            found: *mut u32, bore_lower: Out, outer_upper: Out
         );
         turning_stock_lines(
             cells: In, cells_len: usize, rings: In, rings_len: usize, rings_count: usize, lines: Size
@@ -158,7 +166,8 @@ pub fn run(call: &Call, memory: &mut Memory) -> u32 {
                 spec_call!(turning_bin, spec, *i, m[0].start(), m[1].start())
             }
             Call::New { spec, stamp, .. } => spec_call!(
-                turning_new, spec, stamp.edition, m[0].start(), m[1].start(), m[1].size()
+                turning_new, spec, stamp.edition, m[0].start(), m[1].start(), m[1].size(),
+                m[2].start(), m[2].size()
             ),
             Call::Preview { spec, stamp, side, rn, .. } => spec_call!(
                 turning_preview, spec, stamp.edition, stamp.generation,
@@ -195,8 +204,9 @@ pub fn run(call: &Call, memory: &mut Memory) -> u32 {
             }
             Call::Apply { spec, stamp, list, .. } => spec_call!(
                 turning_apply, spec, stamp.edition, m[0].start(), m[1].start(), m[1].size(),
-                m[2].start(), m[2].size(), m[3].start(), m[3].size(), list.changes,
-                list.stamp.edition, list.stamp.generation, m[4].start()
+                m[2].start(), m[2].size(),
+                m[3].start(), m[3].size(), m[4].start(), m[4].size(), list.changes,
+                list.stamp.edition, list.stamp.generation, m[5].start()
             ),
             Call::ChangesTo { spec, stamp, .. } => spec_call!(
                 turning_changes_to, spec, stamp.edition, stamp.generation,
@@ -209,14 +219,18 @@ pub fn run(call: &Call, memory: &mut Memory) -> u32 {
             ),
             Call::ApplyMove { spec, stamp, list, .. } => spec_call!(
                 turning_apply_move, spec, stamp.edition, m[0].start(), m[1].start(), m[1].size(),
-                m[2].start(), m[2].size(), m[3].start(),
-                m[4].start(), m[4].size(), m[5].start(), m[5].size(), list.changes,
+                m[2].start(), m[2].size(), m[3].start(), m[3].size(), m[4].start(),
+                m[5].start(), m[5].size(), m[6].start(), m[6].size(), list.changes,
                 list.stamp.edition, list.stamp.generation,
-                m[6].start(), m[6].size(), m[7].start()
+                m[7].start(), m[7].size(), m[8].start()
             ),
             Call::FromParts { spec, stamp, .. } => spec_call!(
                 turning_from_parts, spec, stamp.edition, m[0].start(), m[1].start(), m[1].size(),
-                m[2].start(), m[2].size(), m[3].start(), m[3].size(), m[4].start(), m[5].start()
+                m[2].start(), m[2].size(), m[3].start(), m[3].size(),
+                m[4].start(), m[4].size(), m[5].start(), m[6].start()
+            ),
+            Call::Renew { spec, .. } => spec_call!(
+                turning_renew, spec, m[0].start(), m[0].size(), m[1].start(), m[1].size()
             ),
             Call::Volume { spec, store, .. } => spec_call!(
                 turning_volume, spec, m[0].start(), m[0].size(), m[1].start(), m[1].size(),
@@ -225,6 +239,10 @@ pub fn run(call: &Call, memory: &mut Memory) -> u32 {
             Call::EnvelopeAt { spec, z, .. } => spec_call!(
                 turning_envelope_at, spec, m[0].start(), m[0].size(), *z,
                 m[1].start(), m[2].start(), m[3].start()
+            ),
+            Call::Range { spec, lo, hi, .. } => spec_call!(
+                turning_range, spec, m[0].start(), m[0].size(), m[1].start(), m[1].size(), *lo, *hi,
+                m[2].start(), m[3].start(), m[4].start()
             ),
             Call::EnvelopeOrder { .. } => {
                 c::turning_envelope_order(m[0].start(), m[0].size(), m[1].start())

@@ -1,12 +1,14 @@
-//! Calls at document 01's limits and one beyond, each with the number that 01 gives; lengths at the
-//! corners of their rule; envelope queries at the corners where a look at a part of the points could
+//! Calls at document 01's limits and one beyond, each with the number that 01 gives; kept numbers and
+//! ranges over one bin to the most; lengths at the corners of their rule; envelope queries at the corners where a look at a part of the points could
 //! miss a segment; and profiles at the corners of theirs. Those that say where they fail are in
 //! `positions`.
 use crate::call::{Answer, Call, List, Outcome, Reason, Room, Simple, Spec, Stamp, Store};
+use crate::oracle::ranges::{blocks, blocks_len};
+use crate::oracle::stock::Bar;
 use crate::oracle::{
-    ARGUMENT, CELLS, CHORDS, COUNT, ENVELOPE, GENERATION, MILLION, MOST_CELLS,
+    ARGUMENT, BLOCKS, CELLS, CHORDS, COUNT, ENVELOPE, GENERATION, MILLION, MOST_CELLS,
     MOST_ENVELOPE_POINTS, MOST_POINTS, MOST_PROFILE_POINTS, MOST_RINGS, MOST_SEGMENTS, NO_BIN,
-    PIECES, PROFILE, ROOM, STORED,
+    PIECES, PROFILE, ROOM, SPEC, STORED,
 };
 use crate::positions;
 use crate::run::number;
@@ -49,6 +51,13 @@ fn whole(n: usize) -> Vec<f64> {
     [CELL].repeat(n).into_flattened()
 }
 
+/// The kept numbers of the cells of such a bar.
+fn kept(cells: &[f64]) -> Vec<f64> {
+    let (cells, _) = cells.as_chunks::<4>();
+    let (spec, n) = (bar(cells.len()), cells.len());
+    blocks(&Bar { spec, n }, cells)
+}
+
 fn specs() -> Vec<(Call, u32)> {
     let most = bar(MOST_CELLS);
     let over = bar(MOST_CELLS + 1);
@@ -73,7 +82,7 @@ fn specs() -> Vec<(Call, u32)> {
         (wide(over), COUNT),
         (narrow, COUNT),
         (far(MILLION), 0),
-        (far(MILLION.next_up()), crate::oracle::SPEC),
+        (far(MILLION.next_up()), SPEC),
     ] {
         calls.push((Call::Validate { spec }, number));
     }
@@ -96,6 +105,7 @@ fn specs() -> Vec<(Call, u32)> {
             spec,
             stamp: STAMP,
             cells_len,
+            blocks_len: blocks_len(MOST_CELLS),
         };
         calls.push((call, number));
     }
@@ -249,11 +259,13 @@ fn stamps() -> Vec<(Call, u32)> {
             spec,
             stamp,
             cells_len: 8,
+            blocks_len: 2,
         });
         at(Call::FromParts {
             spec,
             stamp,
             cells: cells(),
+            blocks: vec![f64::NAN; 2],
             given: vec![0., 1., 2., 3.],
             rings_len: 4,
         });
@@ -318,12 +330,176 @@ fn commits() -> Vec<(Call, u32)> {
         let call = Call::Apply {
             spec,
             stamp,
+            blocks: kept(&cells),
             cells,
             list,
         };
         calls.push((call, number));
     }
     calls
+}
+
+/// About as many bins as blocks have, and the fewest and the most.
+const BINS: [usize; 9] = [1, 63, 64, 65, 127, 128, 130, MOST_CELLS - 1, MOST_CELLS];
+
+/// Two cells by turns, so that a recorded line says them once; every second one holds no material.
+fn turns(n: usize) -> Vec<f64> {
+    let two = [[4., 8., 1., 2.], [1., 2., 3., 4.]];
+    let cells = two.iter().cycle().take(n).copied();
+    cells.collect::<Vec<_>>().into_flattened()
+}
+
+/// Kept numbers over so many bins.
+fn kept_numbers() -> Vec<(Call, u32)> {
+    let of = |n: &usize| [counts(*n), renewals(*n)].concat();
+    BINS.iter().flat_map(of).collect()
+}
+
+/// Numbers to be filled: as many as there are, and one number and one block too few and too many.
+fn counts(n: usize) -> Vec<(Call, u32)> {
+    let (spec, stamp, len) = (bar(n), STAMP, blocks_len(n));
+    let mut calls = vec![];
+    for lent in [len, len - 2, len - 1, len + 1, len + 2] {
+        let (cells, blocks) = (turns(n), vec![f64::NAN; lent]);
+        let new = Call::New {
+            spec,
+            stamp,
+            cells_len: 4 * n,
+            blocks_len: lent,
+        };
+        let rebuilt = Call::FromParts {
+            spec,
+            stamp,
+            cells: cells.clone(),
+            blocks: blocks.clone(),
+            given: vec![0., 1., 2., 3.],
+            rings_len: 4,
+        };
+        let renewed = Call::Renew {
+            spec,
+            cells,
+            blocks,
+        };
+        let number = if lent == len { 0 } else { BLOCKS };
+        calls.extend([new, rebuilt, renewed].map(|call| (call, number)));
+    }
+    calls
+}
+
+/// Commits in the first and in the last bin, with the numbers of the cells and with others.
+fn renewals(n: usize) -> Vec<(Call, u32)> {
+    let len = blocks_len(n);
+    let mut calls = vec![];
+    let mut at = |bend: &dyn Fn(&mut Vec<f64>), number| {
+        for i in if n > 130 { n - 1..n } else { 0..n }.step_by((n - 1).max(1)) {
+            let (spec, stamp, cells) = (bar(n), STAMP, whole(n));
+            let mut blocks = kept(&cells);
+            bend(&mut blocks);
+            let list = change(i, stamp);
+            let call = Call::Apply {
+                spec,
+                stamp,
+                cells,
+                blocks,
+                list,
+            };
+            calls.push((call, number));
+        }
+    };
+    at(&|_| {}, 0);
+    at(&|b| b[1] = -0., 0);
+    at(&|b| b[0] = b[0].next_down(), BLOCKS);
+    at(&|b| b[len - 1] = f64::from_bits(1), BLOCKS);
+    at(&|b| b.swap(len - 2, len - 1), BLOCKS);
+    at(&|b| b[len - 2] = f64::NAN, BLOCKS);
+    at(&|b| b[0] = f64::INFINITY, BLOCKS);
+    at(&|b| b.truncate(len - 2), BLOCKS);
+    at(&|b| b.extend([0., 10.]), BLOCKS);
+    calls
+}
+
+/// A range over a bar with the kept numbers of its cells.
+fn over(cells: &[f64], lo: f64, hi: f64) -> Call {
+    Call::Range {
+        spec: bar(cells.len() / 4),
+        cells: cells.to_vec(),
+        blocks: kept(cells),
+        lo,
+        hi,
+    }
+}
+
+/// Ranges over so many bins, by name.
+pub fn ranges() -> Vec<(&'static str, Call, u32)> {
+    let of = |n: &usize| [range_ends(*n), about_blocks(*n)].concat();
+    let accepted = BINS.iter().flat_map(of).map(|(name, call)| (name, call, 0));
+    accepted.chain(refused_ranges()).collect()
+}
+
+/// The ends of the bar, and ends that are outside, infinite, reversed or no number.
+#[rustfmt::skip]
+fn range_ends(n: usize) -> Vec<(&'static str, Call)> {
+    let (new, end, far) = (whole(n), n as f64, f64::INFINITY);
+    let none = [1., 2., 3., 4.].repeat(n);
+    vec![
+        ("the whole bar", over(&new, 0., end)),
+        ("all heights", over(&turns(n), -far, far)),
+        ("no material", over(&none, -far, far)),
+        ("reversed", over(&new, end, 0.)),
+        ("no number", over(&new, f64::NAN, end)),
+        ("no number", over(&new, 0., f64::NAN)),
+        ("outside", over(&new, end.next_up(), far)),
+        ("outside", over(&new, -far, -LEAST)),
+        ("the first edge", over(&new, -9., -0.)),
+        ("the last edge", over(&new, end, 9e9)),
+        ("the far ends", over(&new, far, far)),
+        ("the far ends", over(&new, -far, -far)),
+    ]
+}
+
+/// One bin has more than the others, at each place about a block's ends: ranges up to it and from it on, and one ulp beside.
+fn about_blocks(n: usize) -> Vec<(&'static str, Call)> {
+    let places: &[usize] = match n {
+        ..=130 => &[0, 1, 62, 63, 64, 65, 126, 127, 128, n - 1],
+        _ => &[64, n - 1],
+    };
+    let mut list = vec![];
+    for i in places.iter().filter(|i| **i < n) {
+        let mut cells = turns(n);
+        cells[4 * i..][..4].copy_from_slice(&[4., 9., 0.5, 2.]);
+        let (lo, hi, end) = (*i as f64, *i as f64 + 1., n as f64);
+        list.extend([
+            ("up to it", over(&cells, 0., lo)),
+            ("up to below it", over(&cells, 0., lo.next_down())),
+            ("from it on", over(&cells, hi, end)),
+            ("from above it on", over(&cells, hi.next_up(), end)),
+            ("it alone", over(&cells, lo.next_up(), hi.next_down())),
+            ("one height of it", over(&cells, lo + 0.5, lo + 0.5)),
+        ]);
+    }
+    list
+}
+
+/// 1, 2, 3, 20 in their order, before an end that is no number.
+#[rustfmt::skip]
+fn refused_ranges() -> Vec<(&'static str, Call, u32)> {
+    let spec = bar(65);
+    let at = |name, spec, cells, blocks, number| {
+        let call = Call::Range { spec, cells, blocks, lo: f64::NAN, hi: 3. };
+        (name, call, number)
+    };
+    let good = || kept(&whole(65));
+    let mut bad = whole(65);
+    bad[5] = f64::NAN;
+    vec![
+        at("1 first", Spec { cell: 0., ..spec }, bad.clone(), vec![], SPEC),
+        at("2 then", Spec { max_cells: 64, ..spec }, bad.clone(), vec![], COUNT),
+        at("3 then", spec, bad, vec![], CELLS),
+        at("3 of a length", spec, whole(64), good(), CELLS),
+        at("20 then", spec, whole(65), vec![], BLOCKS),
+        at("20 of one number", spec, whole(65), vec![10., 0., 10., 10.], BLOCKS),
+        at("nothing", spec, whole(65), good(), 0),
+    ]
 }
 
 /// Rings side by side, one a bin, and room for so many.
@@ -381,6 +557,7 @@ fn rings() -> Vec<(Call, u32)> {
             spec,
             stamp,
             cells: whole(512),
+            blocks: kept(&whole(512)),
             store: store.clone(),
             list: change(511, stamp),
             removed: ring.to_vec(),
@@ -410,6 +587,7 @@ fn parts() -> Vec<(Call, u32)> {
         let call = Call::FromParts {
             spec,
             stamp: STAMP,
+            blocks: kept(&cells),
             cells,
             given: row(given, given).rings,
             rings_len: 4 * room,
@@ -429,8 +607,13 @@ fn parts() -> Vec<(Call, u32)> {
         let (spec, cells) = (bar(MOST_CELLS), whole(MOST_CELLS));
         calls.push((Call::EnvelopeAt { spec, cells, z }, 0));
     }
-    calls.extend(edges().into_iter().map(|(_, call, number)| (call, number)));
+    calls.extend(unnamed(edges()));
     calls
+}
+
+fn unnamed(calls: Vec<(&'static str, Call, u32)>) -> Vec<(Call, u32)> {
+    let calls = calls.into_iter();
+    calls.map(|(_, call, number)| (call, number)).collect()
 }
 
 /// What is asked of heights on the edge between two bins, by name: which bins are looked at there.
@@ -1071,6 +1254,8 @@ pub fn calls() -> Vec<(Call, Option<Reason>)> {
         single(),
         stamps(),
         commits(),
+        kept_numbers(),
+        unnamed(ranges()),
         rings(),
         parts(),
         queries(),
@@ -1078,7 +1263,12 @@ pub fn calls() -> Vec<(Call, Option<Reason>)> {
         arcs(),
     ];
     let numbered = numbered.concat().into_iter();
-    let placed = [positions::commits(), positions::rings(), positions::stale()];
+    let placed = [
+        positions::commits(),
+        positions::rings(),
+        positions::stale(),
+        positions::blocks(),
+    ];
     let placed = placed.concat();
     let placed = placed.into_iter().map(|(_, call, reason)| (call, reason));
     let refused = |number: u32| (number > 0).then(|| Reason::only(number));

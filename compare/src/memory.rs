@@ -133,10 +133,14 @@ impl Memory {
             Call::Validate { .. } => m.push(Lent::blank("n", 1)),
             Call::Bin { .. } => m.extend([Lent::blank("za", 1), Lent::blank("zb", 1)]),
             Call::New {
-                stamp, cells_len, ..
+                stamp,
+                cells_len,
+                blocks_len,
+                ..
             } => {
                 m.push(generation(stamp.generation));
                 m.push(Lent::blank("cells", *cells_len));
+                m.push(Lent::blank("blocks", *blocks_len));
             }
             Call::Preview {
                 cells,
@@ -163,10 +167,15 @@ impl Memory {
                 room(&mut m, r);
             }
             Call::Apply {
-                stamp, cells, list, ..
+                stamp,
+                cells,
+                blocks,
+                list,
+                ..
             } => {
                 m.push(generation(stamp.generation));
                 m.push(Lent::holding("cells", cells));
+                m.push(Lent::holding("blocks", blocks));
                 m.push(indices(list));
                 m.push(Lent::holding("records", &list.records));
                 m.push(position());
@@ -193,6 +202,7 @@ impl Memory {
             Call::ApplyMove {
                 stamp,
                 cells,
+                blocks,
                 store: s,
                 list,
                 removed,
@@ -200,6 +210,7 @@ impl Memory {
             } => {
                 m.push(generation(stamp.generation));
                 m.push(Lent::holding("cells", cells));
+                m.push(Lent::holding("blocks", blocks));
                 store(&mut m, s);
                 m.push(indices(list));
                 m.push(Lent::holding("records", &list.records));
@@ -209,16 +220,22 @@ impl Memory {
             Call::FromParts {
                 stamp,
                 cells,
+                blocks,
                 given,
                 rings_len,
                 ..
             } => {
                 m.push(generation(stamp.generation));
                 m.push(Lent::holding("cells", cells));
+                m.push(Lent::holding("blocks", blocks));
                 m.push(Lent::holding("given", given));
                 m.push(Lent::blank("rings", *rings_len));
                 m.push(Lent::blank("rings_count", 1));
                 m.push(position());
+            }
+            Call::Renew { cells, blocks, .. } => {
+                m.push(Lent::holding("cells", cells));
+                m.push(Lent::holding("blocks", blocks));
             }
             Call::Volume { cells, store, .. } => {
                 m.push(Lent::holding("cells", cells));
@@ -227,6 +244,13 @@ impl Memory {
             }
             Call::EnvelopeAt { cells, .. } => {
                 m.push(Lent::holding("cells", cells));
+                m.push(Lent::blank("found", 1));
+                m.push(Lent::blank("bore_lower", 1));
+                m.push(Lent::blank("outer_upper", 1));
+            }
+            Call::Range { cells, blocks, .. } => {
+                m.push(Lent::holding("cells", cells));
+                m.push(Lent::holding("blocks", blocks));
                 m.push(Lent::blank("found", 1));
                 m.push(Lent::blank("bore_lower", 1));
                 m.push(Lent::blank("outer_upper", 1));
@@ -333,9 +357,10 @@ impl Memory {
                 self.put("zb", &[*zb]);
             }
             Answer::Changes(changes, stamp) => self.put_changes(changes, *stamp),
-            Answer::Stock(cells, rings, generation) => {
+            Answer::Stock(cells, blocks, rings, generation) => {
                 if self.named("cells").is_some() {
                     self.put("cells", cells.as_flattened());
+                    self.put("blocks", blocks);
                 }
                 if self.named("rings").is_some() {
                     self.put("rings", rings.as_flattened());
@@ -345,6 +370,7 @@ impl Memory {
                     self.put_word("generation", *generation);
                 }
             }
+            Answer::Blocks(blocks) => self.put("blocks", blocks),
             Answer::Volume(least, greatest) => {
                 self.put("least", &[*least]);
                 self.put("greatest", &[*greatest]);

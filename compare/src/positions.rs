@@ -1,9 +1,10 @@
-//! Commits, moves, rings and parts at the corners of Req 04 and Req 08 of 02, by name: each with its number and its position, or
-//! none where it is accepted.
+//! Commits, moves, rings and parts at the corners of Req 04, Req 08 and Req 09 of 02, by name: each with its number and its
+//! position, or none where it is accepted.
 use crate::call::{Call, Change, List, Reason, Spec, Stamp, Store};
+use crate::oracle::ranges::BLOCK;
 use crate::oracle::{
-    ADDS, AFTER, CELLS, COUNT, GENERATION, HOLDS_OTHER, MOST_CELLS, NO_BIN, PIECES, RING, RISING,
-    ROOM, SPEC, STALE, STORED,
+    ADDS, AFTER, BLOCKS, CELLS, COUNT, GENERATION, HOLDS_OTHER, MOST_CELLS, NO_BIN, PIECES, RING,
+    RISING, ROOM, SPEC, STALE, STORED,
 };
 use crate::sequence::list_of;
 
@@ -78,8 +79,14 @@ fn commit(n: usize, list: List) -> Call {
         spec: bar(n),
         stamp: STAMP,
         cells: HELD.repeat(n),
+        blocks: kept(n),
         list,
     }
+}
+
+/// The kept numbers of so many bins that all hold the same.
+fn kept(n: usize) -> Vec<f64> {
+    [HELD[1], HELD[2]].repeat(n.div_ceil(BLOCK))
 }
 
 /// A list for the stocks here.
@@ -149,6 +156,7 @@ fn minus_zero() -> Case {
         spec: bar(2),
         stamp: STAMP,
         cells: cell.repeat(2),
+        blocks: vec![8., -0.],
         list,
     };
     ("before has -0.0", call, None)
@@ -186,6 +194,7 @@ fn around() -> Vec<Case> {
         spec: bar(8),
         stamp: stamp(2, generation),
         cells,
+        blocks: kept(8),
         list: List {
             changes,
             stamp: stamp(2, generation),
@@ -291,6 +300,7 @@ fn moved(store: Store, changes: &[Change], removed: Vec<f64>) -> Call {
         spec: bar(8),
         stamp: STAMP,
         cells: HELD.repeat(8),
+        blocks: kept(8),
         store,
         list: listed(changes),
         removed,
@@ -311,6 +321,7 @@ fn parts(cells: Vec<f64>, given: Vec<f64>, room: usize) -> Call {
         spec: bar(8),
         stamp: STAMP,
         cells,
+        blocks: vec![f64::NAN; 2],
         given,
         rings_len: 4 * room,
     }
@@ -432,8 +443,8 @@ const STAMPS: &[(&str, Stamp, Stamp)] = &[
     ),
 ];
 
-/// A list that is for another stock, and the numbers that come before and after it: in a commit 1, 2, 3, 19, 6, 7,
-/// 8/21/22/23, 12, in a move 1, 2, 3, 6, 4, 19, 10, 7, 8/21/22/23, 12, 11.
+/// A list that is for another stock, and the numbers that come before and after it: in a commit 1, 2, 3, 19, 20, 6, 7,
+/// 8/21/22/23, 12, in a move 1, 2, 3, 6, 4, 19, 20, 10, 7, 8/21/22/23, 12, 11.
 pub fn stale() -> Vec<Case> {
     let stale = Some(Reason::only(STALE));
     let mut cases: Vec<Case> = vec![];
@@ -460,14 +471,15 @@ struct Whole<'a> {
     spec: &'a mut Spec,
     stamp: &'a mut Stamp,
     cells: &'a mut Vec<f64>,
+    blocks: &'a mut Vec<f64>,
     list: &'a mut List,
 }
 
 #[rustfmt::skip]
 fn parts_of(call: &mut Call) -> Whole<'_> {
     match call {
-        Call::Apply { spec, stamp, cells, list }
-        | Call::ApplyMove { spec, stamp, cells, list, .. } => Whole { spec, stamp, cells, list },
+        Call::Apply { spec, stamp, cells, blocks, list }
+        | Call::ApplyMove { spec, stamp, cells, blocks, list, .. } => Whole { spec, stamp, cells, blocks, list },
         _ => unreachable!("{} commits nothing", call.name()),
     }
 }
@@ -480,8 +492,6 @@ fn around_stale() -> Vec<Case> {
     };
     let only = |number| Some(Reason::only(number));
     let stored = || store(&[[6., 7., 0., 1.]], 8);
-    let good_move = || moved(stored(), &[good(0)], RING_A.to_vec());
-    let good_commit = || commit(8, listed(&[good(0)]));
     let mut cases: Vec<Case> = vec![];
     let mut at = |name, mut call: Call, bend: &dyn Fn(&mut Whole), number| {
         let mut whole = parts_of(&mut call);
@@ -542,9 +552,126 @@ fn around_stale() -> Vec<Case> {
         );
     }
     let last: &dyn Fn(&mut Whole) = &|w| w.stamp.generation = u64::MAX;
+    for call in [good_commit(), good_move()] {
+        at(
+            "19 before 20: a count",
+            call.clone(),
+            &|w| w.blocks.clear(),
+            STALE,
+        );
+        at("19 before 20: a number", call, &|w| w.blocks[0] = 9., STALE);
+    }
     at("19 before 12", good_commit(), last, STALE);
     at("19 before 12", good_move(), last, STALE);
     let full = moved(store(&[RING_B], 1), &[], RING_A.to_vec());
     at("19 before 11", full, none, STALE);
+    cases
+}
+
+/// Kept numbers that are not those of the cells, and the numbers that come before and after 20, which has no position.
+pub fn blocks() -> Vec<Case> {
+    [other_blocks(), around_blocks(), rebuilt_blocks()].concat()
+}
+
+fn good_commit() -> Call {
+    commit(8, listed(&[good(0)]))
+}
+
+fn good_move() -> Call {
+    moved(store(&[[6., 7., 0., 1.]], 8), &[good(0)], RING_A.to_vec())
+}
+
+/// A commit and a move with lists of kept numbers, of which the first alone is that of the cells.
+#[rustfmt::skip]
+fn other_blocks() -> Vec<Case> {
+    let lists: [(&str, &[f64]); 11] = [
+        ("the numbers of the cells", &[8., 1.]),
+        ("one ulp more", &[8_f64.next_up(), 1.]),
+        ("one ulp less", &[8., 1_f64.next_down()]),
+        ("the two exchanged", &[1., 8.]),
+        ("those of the cells after", &[7., 1.]),
+        ("no number", &[8., f64::NAN]),
+        ("infinite", &[f64::INFINITY, 1.]),
+        ("no block", &[]),
+        ("one number too few", &[8.]),
+        ("one number too many", &[8., 1., 8.]),
+        ("one block too many", &[8., 1., 8., 1.]),
+    ];
+    let mut cases: Vec<Case> = vec![];
+    for (name, lent) in lists {
+        for mut call in [good_commit(), good_move()] {
+            *parts_of(&mut call).blocks = lent.to_vec();
+            let same = lent == kept(8);
+            cases.push((name, call, (!same).then_some(Reason::only(BLOCKS))));
+        }
+    }
+    cases
+}
+
+/// Another fault beside kept numbers that are not those of the cells: which of the two is told.
+#[rustfmt::skip]
+fn around_blocks() -> Vec<Case> {
+    let stored = || store(&[[6., 7., 0., 1.]], 8);
+    let mut cases: Vec<Case> = vec![];
+    let mut at = |name, mut call: Call, bend: &dyn Fn(&mut Whole), number| {
+        let mut whole = parts_of(&mut call);
+        whole.blocks[0] = whole.blocks[0].next_up();
+        bend(&mut whole);
+        cases.push((name, call, Some(Reason::only(number))));
+    };
+    let (most, none): (&dyn Fn(&mut Whole), &dyn Fn(&mut Whole)) = (&|w| w.list.changes = 2, &|_| {});
+    let last = |w: &mut Whole| (w.stamp.generation, w.list.stamp.generation) = (u64::MAX, u64::MAX);
+    for call in [good_commit(), good_move()] {
+        let again = || call.clone();
+        at("1 before 20", again(), &|w| w.spec.cell = 0., SPEC);
+        at("2 before 20", again(), &|w| w.spec.max_cells = 7, COUNT);
+        at("3 before 20: a length", again(), &|w| w.cells.truncate(31), CELLS);
+        at("3 before 20: a cell", again(), &|w| w.cells[5] = f64::NAN, CELLS);
+        at("20 before 12", again(), &last, BLOCKS);
+    }
+    at("20 before 6 in a commit", good_commit(), most, BLOCKS);
+    at("6 before 20 in a move", good_move(), most, ROOM);
+    at("4 before 20", moved(store(&[NAN], 8), &[good(0)], RING_A.to_vec()), none, STORED);
+    for removed in [NAN.to_vec(), FLAT.to_vec(), RING_A[..3].to_vec()] {
+        at("20 before 10", moved(stored(), &[good(0)], removed), none, BLOCKS);
+    }
+    for (changes, _) in &faulty() {
+        at("20 before a faulty change", commit(8, listed(changes)), none, BLOCKS);
+        at("20 before a faulty change", moved(stored(), changes, vec![]), none, BLOCKS);
+    }
+    at("20 before 11", moved(store(&[RING_B], 1), &[], RING_A.to_vec()), none, BLOCKS);
+    cases
+}
+
+/// A rebuild asks for the count alone: 1, 2, 3, 20, 10, 11.
+fn rebuilt_blocks() -> Vec<Case> {
+    let only = |number| Some(Reason::only(number));
+    let mut cases: Vec<Case> = vec![];
+    let mut at = |name, mut call: Call, lent: &[f64], reason| {
+        let Call::FromParts { blocks, .. } = &mut call else {
+            unreachable!()
+        };
+        *blocks = lent.to_vec();
+        cases.push((name, call, reason));
+    };
+    let held = || HELD.repeat(8);
+    let good = || parts(held(), RING_A.to_vec(), 8);
+    let anything = [f64::NAN, f64::INFINITY];
+    at("any numbers", good(), &anything, None);
+    at("numbers of -0.0", good(), &[-0., -0.], None);
+    at("no block", good(), &[], only(BLOCKS));
+    at("one number too few", good(), &anything[..1], only(BLOCKS));
+    at(
+        "one block too many",
+        good(),
+        &anything.repeat(2),
+        only(BLOCKS),
+    );
+    let few = parts(HELD.repeat(7), RING_A.to_vec(), 8);
+    at("3 before 20 in a rebuild", few, &[], only(CELLS));
+    let bad = parts(held(), NAN.to_vec(), 8);
+    at("20 before 10 in a rebuild", bad, &[], only(BLOCKS));
+    let both = parts(held(), [RING_A, RING_B].concat(), 1);
+    at("20 before 11 in a rebuild", both, &[], only(BLOCKS));
     cases
 }

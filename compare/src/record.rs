@@ -11,6 +11,7 @@
 //! SPEC     z_min z_max outer bore cell max_cells
 //! STAMP    edition generation; of new and from_parts what the place for the generation holds before
 //! NUMBERS  how many, then each
+//! BLOCKS   NUMBERS: those kept for the blocks, as they are lent, and behind `=` as they are written
 //! ROOM     indices_len records_len
 //! LIST     indices_len records_len changes STAMP, then for each change its index and 8 numbers
 //! STORE    rings_len rings_count, then 4 numbers for each ring stored
@@ -20,18 +21,20 @@
 //!
 //! root x = 0 root                              length x y = 0 length
 //! validate SPEC = 0 n                          bin SPEC i = 0 za zb
-//! new SPEC STAMP cells_len = 0 generation NUMBERS
+//! new SPEC STAMP cells_len blocks_len = 0 generation NUMBERS BLOCKS
 //! preview SPEC STAMP NUMBERS side rn NUMBERS ROOM = 0 CHANGES
 //! preview_polygon SPEC STAMP NUMBERS side excess NUMBERS ROOM = 0 CHANGES
 //! thread_cut SPEC STAMP NUMBERS z0 z1 radius ROOM = 0 CHANGES (thread_cut_inner too)
 //! drill SPEC STAMP NUMBERS tip_z radius cone ROOM = 0 CHANGES
-//! apply SPEC STAMP NUMBERS LIST = 0 generation NUMBERS
+//! apply SPEC STAMP NUMBERS BLOCKS LIST = 0 generation NUMBERS BLOCKS
 //! changes_to SPEC STAMP NUMBERS NUMBERS ROOM = 0 CHANGES
 //! remove_ring SPEC STORE generation z0 z1 r0 r1 = 0 generation RINGS
-//! apply_move SPEC STAMP NUMBERS STORE LIST NUMBERS = 0 generation NUMBERS RINGS
-//! from_parts SPEC STAMP NUMBERS NUMBERS rings_len = 0 generation RINGS
+//! apply_move SPEC STAMP NUMBERS BLOCKS STORE LIST NUMBERS = 0 generation NUMBERS BLOCKS RINGS
+//! from_parts SPEC STAMP NUMBERS BLOCKS NUMBERS rings_len = 0 generation BLOCKS RINGS
+//! renew SPEC NUMBERS BLOCKS = 0 BLOCKS
 //! volume SPEC NUMBERS STORE = 0 least greatest
 //! envelope_at SPEC NUMBERS z = 0 found [bore_lower outer_upper]
+//! range SPEC NUMBERS BLOCKS lo hi = 0 found [bore_lower outer_upper]
 //! envelope_order NUMBERS = 0 order
 //! within NUMBERS lo hi = 0 first count
 //! radius_at NUMBERS u = 0 found [radius]
@@ -173,7 +176,10 @@ fn inputs(line: &mut Line, call: &Call) {
             spec,
             stamp,
             cells_len,
-        } => line.spec(spec).stamp(stamp).size(cells_len),
+            blocks_len,
+        } => (line.spec(spec).stamp(stamp))
+            .size(cells_len)
+            .size(blocks_len),
         Call::Preview {
             spec,
             stamp,
@@ -222,8 +228,11 @@ fn inputs(line: &mut Line, call: &Call) {
             spec,
             stamp,
             cells,
+            blocks,
             list,
-        } => line.spec(spec).stamp(stamp).numbers(cells).list(list),
+        } => (line.spec(spec).stamp(stamp).numbers(cells))
+            .numbers(blocks)
+            .list(list),
         Call::ChangesTo {
             spec,
             stamp,
@@ -243,10 +252,11 @@ fn inputs(line: &mut Line, call: &Call) {
             spec,
             stamp,
             cells,
+            blocks,
             store,
             list,
             removed,
-        } => (line.spec(spec).stamp(stamp).numbers(cells))
+        } => (line.spec(spec).stamp(stamp).numbers(cells).numbers(blocks))
             .store(store)
             .list(list)
             .numbers(removed),
@@ -254,13 +264,28 @@ fn inputs(line: &mut Line, call: &Call) {
             spec,
             stamp,
             cells,
+            blocks,
             given,
             rings_len,
-        } => (line.spec(spec).stamp(stamp).numbers(cells))
+        } => (line.spec(spec).stamp(stamp).numbers(cells).numbers(blocks))
             .numbers(given)
             .size(rings_len),
+        Call::Renew {
+            spec,
+            cells,
+            blocks,
+        } => line.spec(spec).numbers(cells).numbers(blocks),
         Call::Volume { spec, cells, store } => line.spec(spec).numbers(cells).store(store),
         Call::EnvelopeAt { spec, cells, z } => line.spec(spec).numbers(cells).number(*z),
+        Call::Range {
+            spec,
+            cells,
+            blocks,
+            lo,
+            hi,
+        } => (line.spec(spec).numbers(cells).numbers(blocks))
+            .number(*lo)
+            .number(*hi),
         Call::EnvelopeOrder { points } => line.numbers(points),
         Call::Within { points, lo, hi } => line.numbers(points).number(*lo).number(*hi),
         Call::RadiusAt { points, u } => line.numbers(points).number(*u),
@@ -294,14 +319,17 @@ fn written(line: &mut Line, call: &Call, answer: &Answer) {
         Answer::Bins(n) => line.size(n),
         Answer::Range(za, zb) => line.number(*za).number(*zb),
         Answer::Changes(changes, stamp) => line.changes(changes, stamp),
-        Answer::Stock(cells, rings, generation) => {
+        Answer::Stock(cells, blocks, rings, generation) => {
             line.size(generation);
+            let cells = cells.as_flattened();
             match call {
-                Call::New { .. } | Call::Apply { .. } => line.numbers(cells.as_flattened()),
-                Call::ApplyMove { .. } => line.numbers(cells.as_flattened()).rings(rings),
+                Call::New { .. } | Call::Apply { .. } => line.numbers(cells).numbers(blocks),
+                Call::ApplyMove { .. } => line.numbers(cells).numbers(blocks).rings(rings),
+                Call::FromParts { .. } => line.numbers(blocks).rings(rings),
                 _ => line.rings(rings),
             }
         }
+        Answer::Blocks(blocks) => line.numbers(blocks),
         Answer::Volume(least, greatest) => line.number(*least).number(*greatest),
         Answer::Found(None) => line.size(0),
         Answer::Found(Some(values)) => line.size(1).each(values),
@@ -314,7 +342,11 @@ fn written(line: &mut Line, call: &Call, answer: &Answer) {
 /// The replay can lend what the call is lent. What a line gives whole is held by its fields.
 fn held(call: &Call) -> bool {
     let (indices, numbers) = match call {
-        Call::New { cells_len, .. } => (0, *cells_len),
+        Call::New {
+            cells_len,
+            blocks_len,
+            ..
+        } => (0, *cells_len.max(blocks_len)),
         Call::Preview { room, .. }
         | Call::PreviewPolygon { room, .. }
         | Call::Cut { room, .. }

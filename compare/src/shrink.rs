@@ -1,6 +1,8 @@
 //! Makes a call or a sequence smaller as long as it still shows a difference.
 use crate::call::{Call, List, Simple, Spec, Stamp, Store};
 use crate::oracle::MOST_CELLS;
+use crate::oracle::ranges::{blocks_len, renew};
+use crate::oracle::stock::bar;
 
 /// A change that makes it smaller; false where there is nothing to change.
 pub type Way<T> = Box<dyn Fn(&mut T) -> bool>;
@@ -185,7 +187,7 @@ fn lower_stamps(mut stamps: Vec<&mut Stamp>, way: usize) -> bool {
     stamps.iter().zip(&before).any(|(now, then)| **now != *then)
 }
 
-/// A bar of the first or the last bins: half of them, or all but one.
+/// A bar of the first or the last bins: half of them, or all but one. Changes stay with the last bins.
 fn fewer_bins(parts: Parts, way: usize) -> bool {
     let (Some(spec), Some(first)) = (parts.spec, parts.cells.first()) else {
         return false;
@@ -201,7 +203,14 @@ fn fewer_bins(parts: Parts, way: usize) -> bool {
     }
     let last = way % 2 == 1;
     if last {
-        spec.z_min += (len / 4 - kept) as f64 * spec.cell;
+        let gone = len / 4 - kept;
+        spec.z_min += gone as f64 * spec.cell;
+        for items in parts.items {
+            if let Items::Changes(list) = items {
+                let indices = list.indices.iter_mut();
+                indices.for_each(|i| *i = i.wrapping_sub(gone));
+            }
+        }
     } else {
         spec.z_max = spec.z_min + kept as f64 * spec.cell;
     }
@@ -311,11 +320,12 @@ impl Shrink for Call {
             Call::Cut { spec, stamp, cells, cut, .. } => Parts {
                 spec: Some(spec), stamps: vec![stamp], cells: vec![cells], numbers: simple_numbers(cut), ..none
             },
-            Call::Apply { spec, stamp, cells, list } => {
+            Call::Apply { spec, stamp, cells, blocks, list } => {
                 let List { indices, records, changes, stamp: listed } = list;
+                let list = Items::Changes(Changes { indices, records, changes });
                 Parts {
                     spec: Some(spec), stamps: vec![stamp, listed], cells: vec![cells],
-                    items: vec![Items::Changes(Changes { indices, records, changes })], ..none
+                    items: vec![Items::Flat(blocks, 2), list], ..none
                 }
             }
             Call::ChangesTo { spec, stamp, cells, after, .. } => Parts {
@@ -325,22 +335,29 @@ impl Shrink for Call {
                 spec: Some(spec), items: vec![Items::Store(store)], numbers: ring.iter_mut().collect(),
                 generation: Some(generation), ..none
             },
-            Call::ApplyMove { spec, stamp, cells, store, list, removed } => {
+            Call::ApplyMove { spec, stamp, cells, blocks, store, list, removed } => {
                 let List { indices, records, changes, stamp: listed } = list;
                 let list = Items::Changes(Changes { indices, records, changes });
                 Parts {
                     spec: Some(spec), stamps: vec![stamp, listed], cells: vec![cells],
-                    items: vec![Items::Store(store), list, Items::Flat(removed, 4)], ..none
+                    items: vec![Items::Flat(blocks, 2), Items::Store(store), list, Items::Flat(removed, 4)], ..none
                 }
             }
-            Call::FromParts { spec, stamp, cells, given, .. } => Parts {
-                spec: Some(spec), stamps: vec![stamp], cells: vec![cells], items: vec![Items::Flat(given, 4)], ..none
+            Call::FromParts { spec, stamp, cells, blocks, given, .. } => Parts {
+                spec: Some(spec), stamps: vec![stamp], cells: vec![cells],
+                items: vec![Items::Flat(blocks, 2), Items::Flat(given, 4)], ..none
+            },
+            Call::Renew { spec, cells, blocks } => Parts {
+                spec: Some(spec), cells: vec![cells], items: vec![Items::Flat(blocks, 2)], ..none
             },
             Call::Volume { spec, cells, store } => Parts {
                 spec: Some(spec), cells: vec![cells], items: vec![Items::Store(store)], ..none
             },
             Call::EnvelopeAt { spec, cells, z } => Parts {
                 spec: Some(spec), cells: vec![cells], numbers: vec![z], ..none
+            },
+            Call::Range { spec, cells, blocks, lo, hi } => Parts {
+                spec: Some(spec), cells: vec![cells], items: vec![Items::Flat(blocks, 2)], numbers: vec![lo, hi], ..none
             },
             Call::EnvelopeOrder { points } => Parts { items: vec![Items::Flat(points, 2)], ..none },
             Call::RadiusAt { points, u } => Parts {
@@ -360,4 +377,81 @@ impl Shrink for Call {
             },
         }
     }
+
+    fn ways(&self) -> Vec<Way<Self>> {
+        let following = |way: Way<Self>| -> Way<Self> { Box::new(move |call| follow(call, &way)) };
+        ways_of_parts(self).into_iter().map(following).collect()
+    }
+}
+
+/// Spec and cells of a call that is lent kept numbers, and those.
+fn kept(call: &mut Call) -> Option<(Spec, &[f64], &mut Vec<f64>)> {
+    match call {
+        Call::Apply {
+            spec,
+            cells,
+            blocks,
+            ..
+        }
+        | Call::ApplyMove {
+            spec,
+            cells,
+            blocks,
+            ..
+        }
+        | Call::FromParts {
+            spec,
+            cells,
+            blocks,
+            ..
+        }
+        | Call::Renew {
+            spec,
+            cells,
+            blocks,
+        }
+        | Call::Range {
+            spec,
+            cells,
+            blocks,
+            ..
+        } => Some((*spec, cells, blocks)),
+        _ => None,
+    }
+}
+
+/// The kept numbers of cells, where they are a stock's.
+fn own(spec: &Spec, cells: &[f64]) -> Option<Vec<f64>> {
+    let len = blocks_len(bar(spec).ok()?.n);
+    renew(spec, cells, len).ok()
+}
+
+/// Kept numbers follow the cells: those of the smaller call's, as many too few or too many as before, and where one
+/// was not its cells' own it stays, at its place or in the last block.
+fn follow(call: &mut Call, way: &Way<Call>) -> bool {
+    let before = kept(call).map(|(spec, cells, blocks)| (spec, cells.to_vec(), blocks.clone()));
+    let smaller = way(call);
+    if let (true, Some((spec, cells, lent))) = (smaller, before) {
+        renewed(call, own(&spec, &cells), &lent);
+    }
+    smaller
+}
+
+fn renewed(call: &mut Call, own_before: Option<Vec<f64>>, lent: &[f64]) -> Option<()> {
+    let (spec, cells, blocks) = kept(call)?;
+    let (own, now) = (own_before?, own(&spec, cells)?);
+    let bits = |list: &[f64]| -> Vec<u64> { list.iter().map(|x| x.to_bits()).collect() };
+    if bits(lent) != bits(blocks) {
+        // the way has changed them by itself
+        return None;
+    }
+    blocks.clone_from(&now);
+    blocks.resize((now.len() + lent.len()).saturating_sub(own.len()), 0.);
+    for (k, (x, y)) in lent.iter().zip(&own).enumerate() {
+        let place = blocks.get_mut(k.min(now.len() - 2 + k % 2));
+        if let (true, Some(place)) = (x.to_bits() != y.to_bits(), place) {
+            *place = *x;
+        }
+    }
+    Some(())
 }

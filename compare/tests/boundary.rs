@@ -13,6 +13,8 @@ macro_rules! bar {
 
 /// Its cell.
 const CELL: [f64; 4] = [10., 10., 0., 0.];
+/// What is kept of its block.
+const KEPT: [f64; 2] = [10., 0.];
 
 /// Lengths at the end of what a size can say: multiples of 2, 4, 5 and 8 among them.
 fn longest() -> impl Iterator<Item = usize> {
@@ -29,7 +31,14 @@ fn null_with_length_0() {
     let (mut edition, mut at_preview) = (7_u32, 7_u64);
     let at = &mut position as *mut usize;
     let (e, g) = (&mut edition as *mut u32, &mut at_preview as *mut u64);
-    assert_eq!(bar!(turning_new, 2, &mut generation, xs, 0), 3);
+    let mut kept = KEPT;
+    assert_eq!(bar!(turning_new, 2, &mut generation, xs, 0, xs, 0), 3);
+    assert_eq!(bar!(turning_new, 2, &mut generation, own.as_mut_ptr(), 4, xs, 0), 20);
+    assert_eq!(bar!(turning_renew, none, 0, xs, 0), 3);
+    assert_eq!(bar!(turning_renew, cells, 4, xs, 0), 20);
+    assert_eq!(bar!(turning_range, none, 0, none, 0, 0., 1., &mut found, &mut x, &mut y), 3);
+    assert_eq!(bar!(turning_range, cells, 4, none, 0, 0., 1., &mut found, &mut x, &mut y), 20);
+    assert_eq!((own, kept, x, y), (CELL, KEPT, 7., 7.));
     assert_eq!(bar!(turning_preview, 2, 5, none, 0, 0, 1., none, 0, is, 0, xs, 0, &mut count, e, g), 3);
     assert_eq!((count, found, order, generation), (7, 7, 7, 5));
     assert_eq!((edition, at_preview), (7, 7));
@@ -47,20 +56,28 @@ fn null_with_length_0() {
     assert_eq!(bar!(turning_changes_to, 7, 10, cells, 4, cells, 4, is, 0, xs, 0, &mut count, e, g), 0);
     assert_eq!((edition, at_preview), (7, 10));
     generation = 0;
-    assert_eq!(bar!(turning_apply, 2, &mut generation, own.as_mut_ptr(), 4, null(), 0, none, 0, 0, 2, 1, at), 19);
-    assert_eq!(bar!(turning_apply, 2, &mut generation, own.as_mut_ptr(), 4, null(), 0, none, 0, 0, 3, 0, at), 19);
+    let b = kept.as_mut_ptr();
+    assert_eq!(bar!(turning_apply, 2, &mut generation, own.as_mut_ptr(), 4, xs, 0, null(), 0, none, 0, 0, 2, 1, at), 19);
+    assert_eq!(bar!(turning_apply, 2, &mut generation, own.as_mut_ptr(), 4, b, 2, null(), 0, none, 0, 0, 3, 0, at), 19);
+    assert_eq!(bar!(turning_apply, 2, &mut generation, own.as_mut_ptr(), 4, xs, 0, null(), 0, none, 0, 0, 2, 0, at), 20);
     assert_eq!((own, generation), (CELL, 0));
-    assert_eq!(bar!(turning_apply, 2, &mut generation, own.as_mut_ptr(), 4, null(), 0, none, 0, 0, 2, 0, at), 0);
+    assert_eq!(bar!(turning_apply, 2, &mut generation, own.as_mut_ptr(), 4, b, 2, null(), 0, none, 0, 0, 2, 0, at), 0);
     assert_eq!((own, generation, count), (CELL, 1, 0));
     assert_eq!(bar!(turning_remove_ring, xs, 0, &mut count, &mut generation, 2., 3., 0., 1., at), 0);
     assert_eq!((count, generation), (0, 1));
     assert_eq!(bar!(turning_remove_ring, xs, 0, &mut count, &mut generation, 0., 1., 0., 1., at), 11);
     let stored = &mut count;
-    assert_eq!(bar!(turning_apply_move, 2, &mut generation, own.as_mut_ptr(), 4, xs, 0, stored, null(), 0, none, 0, 0, 2, 0, none, 0, at), 19);
-    assert_eq!(bar!(turning_apply_move, 2, &mut generation, own.as_mut_ptr(), 4, xs, 0, stored, null(), 0, none, 0, 0, 2, 1, none, 0, at), 0);
+    assert_eq!(bar!(turning_apply_move, 2, &mut generation, own.as_mut_ptr(), 4, xs, 0, xs, 0, stored, null(), 0, none, 0, 0, 2, 0, none, 0, at), 19);
+    assert_eq!(bar!(turning_apply_move, 2, &mut generation, own.as_mut_ptr(), 4, xs, 0, xs, 0, stored, null(), 0, none, 0, 0, 2, 1, none, 0, at), 20);
+    assert_eq!(bar!(turning_apply_move, 2, &mut generation, own.as_mut_ptr(), 4, b, 2, xs, 0, stored, null(), 0, none, 0, 0, 2, 1, none, 0, at), 0);
     assert_eq!((count, generation), (0, 2));
-    assert_eq!(bar!(turning_from_parts, 9, &mut generation, cells, 4, none, 0, xs, 0, &mut count, at), 0);
-    assert_eq!((count, generation), (0, 0));
+    assert_eq!(bar!(turning_from_parts, 9, &mut generation, cells, 4, xs, 0, none, 0, xs, 0, &mut count, at), 20);
+    kept = [f64::NAN; 2];
+    assert_eq!(bar!(turning_from_parts, 9, &mut generation, cells, 4, kept.as_mut_ptr(), 2, none, 0, xs, 0, &mut count, at), 0);
+    assert_eq!((count, generation, kept), (0, 0, KEPT));
+    kept = [f64::NAN; 2];
+    assert_eq!(bar!(turning_renew, cells, 4, kept.as_mut_ptr(), 2), 0);
+    assert_eq!(kept, KEPT);
     assert_eq!(bar!(turning_volume, cells, 4, none, 0, 0, &mut x, &mut y), 0);
     assert_eq!((x, y), (100. * PI, 100. * PI));
     assert_eq!(bar!(turning_envelope_at, none, 0, 0.5, &mut found, &mut x, &mut y), 3);
@@ -79,7 +96,7 @@ fn null_with_length_0() {
     assert_eq!((found, position), (0, 7));
 }
 
-/// Cells, segments and points of such a length are refused before one is read: there is none.
+/// Cells, kept numbers, segments and points of such a length are refused before one is read: there is none.
 #[test]
 #[rustfmt::skip]
 fn lengths_near_the_end_are_refused_unread() {
@@ -89,15 +106,24 @@ fn lengths_near_the_end_are_refused_unread() {
     let (mut edition, mut at_preview) = (7_u32, 7_u64);
     let at = &mut position as *mut usize;
     let (e, g) = (&mut edition as *mut u32, &mut at_preview as *mut u64);
+    let (mut own, mut none_stored) = (CELL, 0);
     for len in longest() {
-        assert_eq!(bar!(turning_new, 2, &mut generation, xs, len), 3);
+        assert_eq!(bar!(turning_new, 2, &mut generation, xs, len, xs, 2), 3);
+        assert_eq!(bar!(turning_new, 2, &mut generation, own.as_mut_ptr(), 4, xs, len), 20);
         assert_eq!(bar!(turning_preview, 2, 5, none, len, 0, 1., none, 0, is, 0, xs, 0, &mut count, e, g), 3);
         assert_eq!(bar!(turning_preview, 2, 5, cells, 4, 0, 1., none, len, is, 0, xs, 0, &mut count, e, g), 5);
         assert_eq!(bar!(turning_preview_polygon, 2, 5, cells, 4, 0, 1., none, len, is, 0, xs, 0, &mut count, e, g), 5);
         assert_eq!(bar!(turning_drill, 2, 5, none, len, 0., 1., 0., is, 0, xs, 0, &mut count, e, g), 3);
         assert_eq!(bar!(turning_changes_to, 2, 5, cells, 4, none, len, is, 0, xs, 0, &mut count, e, g), 3);
-        assert_eq!(bar!(turning_apply, 2, &mut generation, xs, len, null(), 0, none, 0, 0, 2, 5, at), 3);
-        assert_eq!(bar!(turning_from_parts, 2, &mut generation, none, len, none, 0, xs, 0, &mut count, at), 3);
+        assert_eq!(bar!(turning_apply, 2, &mut generation, xs, len, xs, 2, null(), 0, none, 0, 0, 2, 5, at), 3);
+        assert_eq!(bar!(turning_apply, 2, &mut generation, own.as_mut_ptr(), 4, xs, len, null(), 0, none, 0, 0, 2, 5, at), 20);
+        assert_eq!(bar!(turning_apply_move, 2, &mut generation, own.as_mut_ptr(), 4, xs, len, xs, 0, &mut none_stored, null(), 0, none, 0, 0, 2, 5, none, 0, at), 20);
+        assert_eq!(bar!(turning_from_parts, 2, &mut generation, none, len, xs, 2, none, 0, xs, 0, &mut count, at), 3);
+        assert_eq!(bar!(turning_from_parts, 2, &mut generation, cells, 4, xs, len, none, 0, xs, 0, &mut count, at), 20);
+        assert_eq!(bar!(turning_renew, none, len, xs, 2), 3);
+        assert_eq!(bar!(turning_renew, cells, 4, xs, len), 20);
+        assert_eq!(bar!(turning_range, none, len, none, 2, 0., 1., &mut found, &mut x, &mut y), 3);
+        assert_eq!(bar!(turning_range, cells, 4, none, len, 0., 1., &mut found, &mut x, &mut y), 20);
         assert_eq!(bar!(turning_volume, none, len, none, 0, 0, &mut x, &mut y), 3);
         assert_eq!(bar!(turning_envelope_at, none, len, 0., &mut found, &mut x, &mut y), 3);
         unsafe {
@@ -112,6 +138,7 @@ fn lengths_near_the_end_are_refused_unread() {
         }
     }
     assert_eq!((count, generation, first, order, found, x, y, position), (7, 5, 7, 7, 7, 7., 7., 7));
+    assert_eq!((own, none_stored), (CELL, 0));
     assert_eq!((edition, at_preview), (7, 7));
 }
 
@@ -130,17 +157,19 @@ fn room_near_the_end_is_room() {
         assert_eq!(records[4..], [5., 10., 0., 0., 7., 7., 7., 7., 7., 7., 7., 7.]);
         let own = cells.as_mut_ptr();
         let at = &mut position as *mut usize;
-        assert_eq!(bar!(turning_apply, 2, &mut generation, own, 4, is, len, xs, len, 1, 2, 0, at), 0);
+        let mut kept = KEPT;
+        let b = kept.as_mut_ptr();
+        assert_eq!(bar!(turning_apply, 2, &mut generation, own, 4, b, 2, is, len, xs, len, 1, 2, 0, at), 0);
         assert_eq!((cells, generation), ([5., 10., 0., 0.], 1));
         count = 0;
         let room = rings.as_mut_ptr();
         assert_eq!(bar!(turning_remove_ring, room, len, &mut count, &mut generation, 0., 1., 2., 3., at), 0);
         assert_eq!((count, generation, rings), (1, 2, [0., 1., 2., 3., 7., 7., 7., 7.]));
         // the same list again: it is for the stock before; and as if it were for this one: the bin holds something else
-        assert_eq!(bar!(turning_apply, 2, &mut generation, own, 4, is, len, xs, len, 1, 2, 0, at), 19);
+        assert_eq!(bar!(turning_apply, 2, &mut generation, own, 4, b, 2, is, len, xs, len, 1, 2, 0, at), 19);
         assert_eq!(position, 7);
-        assert_eq!(bar!(turning_apply, 2, &mut generation, own, 4, is, len, xs, len, 1, 2, 2, at), 22);
-        assert_eq!((cells, generation, position), ([5., 10., 0., 0.], 2, 0));
+        assert_eq!(bar!(turning_apply, 2, &mut generation, own, 4, b, 2, is, len, xs, len, 1, 2, 2, at), 22);
+        assert_eq!((cells, kept, generation, position), ([5., 10., 0., 0.], KEPT, 2, 0));
     }
 }
 
@@ -151,11 +180,21 @@ fn read_only_buffers_may_be_the_same() {
     let both = [0., 1., 2., 3.];
     let (at, is, xs) = (both.as_ptr(), null_mut(), null_mut());
     let (mut count, mut least, mut greatest, mut rings, mut position) = (7, 7., 7., [0.; 4], 7);
-    let (mut edition, mut generation) = (7, 7);
+    let (mut edition, mut generation, mut kept, mut found) = (7, 7, [7.; 2], 7);
     assert_eq!(bar!(turning_changes_to, 2, 5, at, 4, at, 4, is, 0, xs, 0, &mut count, &mut edition, &mut generation), 0);
     assert_eq!((count, edition, generation), (0, 2, 5));
     assert_eq!(bar!(turning_volume, at, 4, at, 4, 1, &mut least, &mut greatest), 0);
     assert_eq!((least, greatest), (0., 0.));
-    assert_eq!(bar!(turning_from_parts, 2, &mut generation, at, 4, at, 4, rings.as_mut_ptr(), 4, &mut count, &mut position), 0);
+    assert_eq!(bar!(turning_from_parts, 2, &mut generation, at, 4, kept.as_mut_ptr(), 2, at, 4, rings.as_mut_ptr(), 4, &mut count, &mut position), 0);
     assert_eq!((count, rings, position, generation), (1, both, 7, 0));
+    // a cell without material, whose bore and outer radius are then kept
+    assert_eq!(kept, [0., 10.]);
+    let (mut least, mut greatest) = (7., 7.);
+    assert_eq!(bar!(turning_range, at, 4, kept.as_ptr(), 2, 0., 1., &mut found, &mut least, &mut greatest), 0);
+    assert_eq!((found, least, greatest), (0, 7., 7.));
+    // kept numbers that are a part of the cells, which are only read: a cell whose upper bound of the outer radius and lower
+    // bound of the bore stand side by side
+    let cell = [10., 10., 0., 0.];
+    assert_eq!(bar!(turning_range, cell.as_ptr(), 4, cell[1..].as_ptr(), 2, 0., 1., &mut found, &mut least, &mut greatest), 0);
+    assert_eq!((found, least, greatest), (1, 0., 10.));
 }

@@ -2,6 +2,7 @@
 use compare::call::{Answer, Call, Reason, Spec};
 use compare::generate::{FAMILIES, Rng, family};
 use compare::memory::Memory;
+use compare::oracle::ranges::{BLOCK, blocks_len, renew};
 use compare::oracle::stock::{Bar, camlib_spec, camlib_stock, cells, change_to_camlib, to_camlib};
 use compare::oracle::{answer, stock};
 use compare::run::number;
@@ -28,16 +29,17 @@ fn every_refusal_is_reached() {
     for (name, ..) in FAMILIES {
         let wanted: &[u32] = match name {
             "root" | "length" => &[0, 5],
-            "stock" => &[0, 1, 2, 3, 21],
+            "stock" => &[0, 1, 2, 3, 20, 21],
             "thread" | "thread_inner" | "drill" => &[0, 1, 2, 3, 5, 6],
             "nose" | "short_chords" | "polygon" => &[0, 1, 2, 3, 5, 6],
-            "apply" => &[0, 1, 2, 3, 6, 7, 8, 12, 19, 21, 22, 23],
+            "apply" => &[0, 1, 2, 3, 6, 7, 8, 12, 19, 20, 21, 22, 23],
             "changes_to" => &[0, 1, 2, 3, 6],
             "rings" => &[0, 1, 2, 4, 10, 11, 12],
-            "moves" => &[0, 1, 2, 3, 4, 6, 7, 8, 10, 11, 12, 19, 21, 22, 23],
-            "parts" => &[0, 1, 2, 3, 10, 11],
+            "moves" => &[0, 1, 2, 3, 4, 6, 7, 8, 10, 11, 12, 19, 20, 21, 22, 23],
+            "parts" => &[0, 1, 2, 3, 10, 11, 20],
             "volume" => &[0, 1, 2, 3, 4],
             "envelope_at" => &[0, 1, 2, 3],
+            "renew" | "range" => &[0, 1, 2, 3, 20],
             "profile" => &[0, 17, 18],
             _ => &[0, 14],
         };
@@ -77,11 +79,15 @@ fn stamps_of_every_kind_are_reached() {
 #[test]
 fn a_stale_list_meets_every_other_reason() {
     for (name, before, after) in [
-        ("apply", &[1, 2, 3][..], &[0, 6, 7, 8, 12, 21, 22, 23][..]),
+        (
+            "apply",
+            &[1, 2, 3][..],
+            &[0, 6, 7, 8, 12, 20, 21, 22, 23][..],
+        ),
         (
             "moves",
             &[1, 2, 3, 4, 6],
-            &[0, 7, 8, 10, 11, 12, 21, 22, 23],
+            &[0, 7, 8, 10, 11, 12, 20, 21, 22, 23],
         ),
     ] {
         let (mut told, mut hidden) = (BTreeSet::new(), BTreeSet::new());
@@ -106,6 +112,110 @@ fn a_stale_list_meets_every_other_reason() {
         assert!(told.iter().eq(before), "{name}: {told:?}");
         assert!(hidden.iter().eq(after), "{name}: {hidden:?}");
     }
+}
+
+/// 20 beside another reason, in the same way: one list of five is damaged, and most of those are refused.
+#[test]
+fn damaged_numbers_meet_every_other_reason() {
+    let most: &[u32] = &[0, 6, 7, 8, 12, 21, 22, 23];
+    for (name, before, after) in [
+        ("apply", &[1, 2, 3, 19][..], most),
+        (
+            "moves",
+            &[1, 2, 3, 4, 6, 19],
+            &[0, 7, 8, 10, 11, 12, 21, 22, 23],
+        ),
+        ("range", &[1, 2, 3], &[0]),
+    ] {
+        let (mut told, mut hidden) = (BTreeSet::new(), BTreeSet::new());
+        let mut refused = 0;
+        for mut call in calls(name) {
+            let first = number(&answer(&call));
+            let (Call::Apply {
+                spec,
+                cells,
+                blocks,
+                ..
+            }
+            | Call::ApplyMove {
+                spec,
+                cells,
+                blocks,
+                ..
+            }
+            | Call::Range {
+                spec,
+                cells,
+                blocks,
+                ..
+            }) = &mut call
+            else {
+                panic!()
+            };
+            let len = stock::bar(spec).map_or(0, |bar| blocks_len(bar.n));
+            let own = renew(spec, cells, len);
+            let own = own.unwrap_or_else(|_| vec![f64::NAN; 3]);
+            if *blocks == own {
+                continue;
+            }
+            *blocks = own;
+            let second = number(&answer(&call));
+            if first == 20 {
+                hidden.insert(second);
+                refused += 1;
+            } else {
+                assert_eq!(first, second);
+                told.insert(first);
+            }
+        }
+        assert!(told.iter().eq(before), "{name}: {told:?}");
+        assert!(hidden.iter().eq(after), "{name}: {hidden:?}");
+        let part = refused as f64 / CALLS as f64;
+        assert!((0.08..0.2).contains(&part), "{name}: {refused}");
+    }
+}
+
+/// Bars of every number of bins about a block's, blocks with no material, ranges that begin and end in every
+/// way, and -0.0 among the kept numbers that are accepted.
+#[test]
+fn ranges_of_every_kind_are_reached() {
+    let mut bins = BTreeSet::new();
+    let (mut found, mut whole, mut empty, mut signed, mut one) = (0, 0, 0, 0, 0);
+    for call in calls("range") {
+        let Ok(Answer::Found(answered)) = answer(&call) else {
+            continue;
+        };
+        let Call::Range {
+            spec,
+            cells: lent,
+            blocks,
+            lo,
+            hi,
+        } = call
+        else {
+            panic!()
+        };
+        let bar = stock::bar(&spec).unwrap();
+        bins.insert(bar.n);
+        found += answered.is_some() as usize;
+        empty += blocks
+            .as_chunks::<2>()
+            .0
+            .iter()
+            .any(|[upper, lower]| upper < lower) as usize;
+        signed += blocks.iter().any(minus_zero) as usize;
+        let cells = cells(&bar, &lent).unwrap();
+        if let Some((first, last)) = compare::oracle::ranges::bins(&bar, &cells, lo, hi) {
+            whole += (first.div_ceil(BLOCK) < (last + 1) / BLOCK) as usize;
+            one += (first == last) as usize;
+        }
+    }
+    for n in [1, 63, 64, 65, 127, 128, 129, 130, 192, 193, 4095, 4096] {
+        assert!(bins.contains(&n), "{n}");
+    }
+    let counts = [found, whole, empty, signed, one];
+    println!("found, with whole blocks, empty blocks, -0.0, one bin: {counts:?}");
+    assert!(counts.iter().all(|c| *c > CALLS / 40), "{counts:?}");
 }
 
 #[test]
@@ -177,7 +287,7 @@ fn camlib_refuses_the_cells_too() {
 fn camlib_refuses_the_changes_too() {
     for call in calls("apply") {
         let outcome = answer(&call);
-        if matches!(number(&outcome), 1 | 2 | 3 | 6 | 12 | 19) {
+        if matches!(number(&outcome), 1 | 2 | 3 | 6 | 12 | 19 | 20) {
             continue;
         }
         let Call::Apply {
@@ -211,7 +321,7 @@ fn camlib_refuses_the_changes_too() {
 fn camlib_refuses_the_rings_too() {
     for call in calls("parts") {
         let outcome = answer(&call);
-        if matches!(number(&outcome), 1..=3) {
+        if matches!(number(&outcome), 1..=3 | 20) {
             continue;
         }
         let Call::FromParts {
@@ -276,7 +386,7 @@ fn the_limit_of_pieces_is_reached() {
     let mut stored = BTreeSet::new();
     for call in calls("rings") {
         let outcome = answer(&call);
-        if let Ok(Answer::Stock(_, rings, _)) = &outcome {
+        if let Ok(Answer::Stock(_, _, rings, _)) = &outcome {
             stored.insert(rings.len());
         }
         let Call::RemoveRing {

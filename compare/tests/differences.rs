@@ -21,6 +21,8 @@ const BAR: Spec = Spec {
     max_cells: 4096,
 };
 const CELL: [f64; 4] = [10., 10., 0., 0.];
+/// What is kept of its block.
+const KEPT: [f64; 2] = [10., 0.];
 const ROOM: Room = Room {
     indices: 1,
     records: 8,
@@ -104,6 +106,7 @@ fn commit(stamp: Stamp, list: List) -> Outcome {
         spec: BAR,
         stamp,
         cells: CELL.to_vec(),
+        blocks: KEPT.to_vec(),
         list,
     })
 }
@@ -270,6 +273,110 @@ fn material_at_an_edge() {
     assert_eq!(here(call), Ok(Answer::Found(Some(vec![0., 5.]))));
 }
 
+/// Four bins, the third with no material; camlib has no range, and of one height in a bin it is its answer.
+#[test]
+fn a_range_of_heights() {
+    let spec = Spec { z_max: 4., ..BAR };
+    let cells = [
+        [4., 5., 1., 2.],
+        [4., 7., 2., 3.],
+        [1., 2., 2., 3.],
+        [4., 4., 0., 1.],
+    ];
+    let theirs = cells.iter().map(to_camlib).collect();
+    let theirs = TurnStock::from_parts(camlib_spec(&spec), theirs, vec![]).unwrap();
+    let ours = |lo: f64, hi: f64| {
+        here(Call::Range {
+            spec,
+            cells: cells.as_flattened().to_vec(),
+            blocks: vec![7., 0.],
+            lo,
+            hi,
+        })
+    };
+    let band = |bore: f64, outer: f64| Ok(Answer::Found(Some(vec![bore, outer])));
+    let none = Ok(Answer::Found(None));
+    assert_eq!(ours(0.5, 1.5), band(1., 7.));
+    assert_eq!(ours(-9., 0.5), band(1., 5.));
+    assert_eq!(ours(3.5, f64::INFINITY), band(0., 4.));
+    assert_eq!(ours(f64::NEG_INFINITY, f64::INFINITY), band(0., 7.));
+    assert_eq!(ours(2.25, 2.75), none);
+    assert_eq!(
+        [ours(1.5, 0.5), ours(4.5, 9.)],
+        [none.clone(), none.clone()]
+    );
+    assert_eq!(
+        [ours(f64::NAN, 1.), ours(0., f64::NAN)],
+        [none.clone(), none]
+    );
+    for z in [0., 0.5, 1.5, 2.5, 3.5, 4.5, -1., f64::NAN] {
+        let found = theirs.envelope_at(z).map(|(bore, outer)| vec![bore, outer]);
+        assert_eq!(ours(z, z), Ok(Answer::Found(found)), "{z}");
+    }
+}
+
+/// Kept numbers are lent and checked, and every commit, move and rebuild leaves those of the cells afterwards; -0.0 is read as
+/// +0.0, and +0.0 is left.
+#[test]
+fn kept_numbers_that_are_not_the_cells() {
+    let stamp = Stamp::default();
+    let kept = |blocks: &[f64]| {
+        let call = Call::Apply {
+            spec: BAR,
+            stamp,
+            cells: CELL.to_vec(),
+            blocks: blocks.to_vec(),
+            list: list(CELL, [5., 8., 0., 0.]),
+        };
+        match here(call) {
+            Ok(Answer::Stock(_, blocks, _, 1)) => {
+                Ok(blocks.into_iter().map(f64::to_bits).collect())
+            }
+            Err(number) => Err(number),
+            other => panic!("{other:?}"),
+        }
+    };
+    let left: Result<Vec<u64>, u32> = Ok(vec![8_f64.to_bits(), 0]);
+    assert_eq!(kept(&KEPT), left);
+    assert_eq!(kept(&[10., -0.]), left);
+    for other in [
+        &[8., 0.][..],
+        &[0., 10.],
+        &[10_f64.next_down(), 0.],
+        &[10., f64::from_bits(1)],
+        &[f64::NAN, 0.],
+        &[10., f64::INFINITY],
+        &[],
+        &[10.],
+        &[10., 0., 10., 0.],
+    ] {
+        assert_eq!(kept(other), Err(20), "{other:?}");
+    }
+    // a rebuild and a renewal ask for their count alone
+    for (other, number) in [(&[f64::NAN; 2][..], 0), (&[10., 0., 0.], 20), (&[], 20)] {
+        let call = Call::Renew {
+            spec: BAR,
+            cells: CELL.to_vec(),
+            blocks: other.to_vec(),
+        };
+        let wanted = if number > 0 {
+            Err(number)
+        } else {
+            Ok(Answer::Blocks(KEPT.to_vec()))
+        };
+        assert_eq!(here(call), wanted);
+        let call = Call::FromParts {
+            spec: BAR,
+            stamp,
+            cells: CELL.to_vec(),
+            blocks: other.to_vec(),
+            given: vec![],
+            rings_len: 0,
+        };
+        assert_eq!(here(call).err().unwrap_or(0), number);
+    }
+}
+
 /// camlib takes stocks with other cells, up to the shorter.
 #[test]
 fn a_difference_of_other_lengths() {
@@ -293,11 +400,12 @@ fn minus_zero_in_a_spec() {
         spec,
         stamp: Stamp::default(),
         cells_len: 4,
+        blocks_len: 2,
     };
-    let Ok(Answer::Stock(cells, _, 0)) = here(call) else {
+    let Ok(Answer::Stock(cells, blocks, _, 0)) = here(call) else {
         panic!()
     };
-    assert_eq!(cells[0][2].to_bits(), 0);
+    assert_eq!([cells[0][2], blocks[1]].map(f64::to_bits), [0; 2]);
 }
 
 #[test]
@@ -567,7 +675,7 @@ fn a_list_for_another_stamp() {
     assert_eq!((ours.len(), stamp), (1, first));
     let kept = || list_of(&ours, stamp);
     let none = list_of(&[], first);
-    assert!(matches!(commit(first, none), Ok(Answer::Stock(_, _, 1))));
+    assert!(matches!(commit(first, none), Ok(Answer::Stock(_, _, _, 1))));
     assert_eq!(commit(second(0, 1), kept()), Err(19));
     assert_eq!(commit(second(1, 0), kept()), Err(19));
     // no change at all is a list too
@@ -576,10 +684,12 @@ fn a_list_for_another_stamp() {
         spec: BAR,
         stamp: second(0, 1),
         cells: CELL.to_vec(),
+        blocks: vec![0.; 2],
         given: vec![],
         rings_len: 0,
     });
-    assert_eq!(rebuilt, Ok(Answer::Stock(vec![CELL], vec![], 0)));
+    let new = Answer::Stock(vec![CELL], KEPT.to_vec(), vec![], 0);
+    assert_eq!(rebuilt, Ok(new));
     assert!(commit(first, kept()).is_ok());
 }
 
@@ -598,6 +708,7 @@ fn a_move_for_another_stamp() {
                 generation,
             },
             cells: CELL.to_vec(),
+            blocks: KEPT.to_vec(),
             store: Store::default(),
             list: list(CELL, [5., 10., 0., 0.]),
             removed,
@@ -612,7 +723,7 @@ fn a_move_for_another_stamp() {
 /// camlib's generation is its own, and nobody counts to its end.
 #[test]
 fn the_last_generation() {
-    let unchanged = |generation| Ok(Answer::Stock(vec![CELL], vec![], generation));
+    let unchanged = |g| Ok(Answer::Stock(vec![CELL], KEPT.to_vec(), vec![], g));
     assert_eq!(apply(u64::MAX - 1, List::default()), unchanged(u64::MAX));
     assert_eq!(apply(u64::MAX, List::default()), Err(12));
 }
@@ -653,7 +764,7 @@ fn the_257th_ring() {
     assert_eq!(stock.rings().len(), 257);
     assert_eq!(remove_ring(&rings, 2000, next), Err(11));
     let stored = remove_ring(&rings[1..], 2000, next);
-    assert!(matches!(stored, Ok(Answer::Stock(_, rings, 1)) if rings.len() == 256));
+    assert!(matches!(stored, Ok(Answer::Stock(_, _, rings, 1)) if rings.len() == 256));
 }
 
 /// 85 squares in a row and a slat cut a ring over all into 257 pieces in hand, though the bands that
@@ -687,6 +798,7 @@ fn a_move_is_refused_whole() {
         spec: BAR,
         stamp: Stamp::default(),
         cells: CELL.to_vec(),
+        blocks: KEPT.to_vec(),
         store: Store {
             rings: vec![0.; 8],
             count: 0,

@@ -1,7 +1,7 @@
 //! Each call at a limit of document 01 answers the number that 01 gives, and the position that 02
 //! gives, by the oracle and by the library.
 use compare::call::{Answer, Call, Reason};
-use compare::limits::{calls, corners, edges, profiles};
+use compare::limits::{calls, corners, edges, profiles, ranges};
 use compare::oracle::{answer, full_look};
 use compare::run::difference;
 
@@ -79,6 +79,40 @@ fn edges_show_the_most_of_their_bins() {
     assert_eq!(shown("an empty last bin")[0], band(0.25, 4.));
     assert_eq!(shown("a last bin turned about")[0], band(0.25, 4.));
     assert_eq!(shown("bins below an ulp")[0], band(0., 2.));
+}
+
+/// A range ends with the last bin that holds its upper end, and begins with the first that holds its lower one.
+#[test]
+fn ranges_show_the_most_of_their_bins() {
+    let band = |bore: f64, outer: f64| Some(vec![bore, outer]);
+    let mut seen = 0;
+    for (name, call, number) in ranges() {
+        let outcome = answer(&call);
+        assert_eq!(
+            outcome.as_ref().err().map_or(0, |r| r.number),
+            number,
+            "{name}"
+        );
+        let (Ok(Answer::Found(found)), Call::Range { cells, lo, .. }) = (outcome, &call) else {
+            continue;
+        };
+        let most = (cells.as_chunks::<4>().0.iter()).position(|c| c[1] == 9.);
+        match name {
+            "the whole bar" | "the first edge" | "the last edge" => {
+                assert_eq!(found, band(0., 10.), "{name}");
+            }
+            "all heights" => assert_eq!(found, band(1., 8.), "{name}"),
+            "up to it" | "from it on" | "it alone" | "one height of it" => {
+                assert_eq!(found, band(0.5, 9.), "{name} {most:?} {lo}");
+                seen += 1;
+            }
+            "up to below it" | "from above it on" => {
+                assert!(found.is_none() || found == band(1., 8.), "{name} {most:?}");
+            }
+            _ => assert_eq!(found, None, "{name}"),
+        }
+    }
+    assert!(seen > 100);
 }
 
 /// The corners of a profile have the chords, or the refusal, that 02 gives; chords join by equal bits and have no -0.0.

@@ -1,15 +1,15 @@
-//! Req 04 and Req 08 of 02: each refusal of a list says the number and the position that 02 gives, by the oracle; the library is
+//! Req 04, Req 08 and Req 09 of 02: each refusal of a list says the number and the position that 02 gives, by the oracle; the library is
 //! held against it in tests/limits.rs, which makes these calls too.
 use compare::call::{Call, Reason};
 use compare::generate::{Rng, family};
 use compare::memory::Memory;
 use compare::oracle::answer;
-use compare::positions::{Case, commits, rings, stale};
+use compare::positions::{Case, blocks, commits, rings, stale};
 use compare::record;
 use std::collections::{BTreeMap, BTreeSet};
 
 fn cases() -> Vec<Case> {
-    [commits(), rings(), stale()].concat()
+    [commits(), rings(), stale(), blocks()].concat()
 }
 
 #[test]

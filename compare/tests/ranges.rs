@@ -2,7 +2,7 @@
 use compare::call::{Call, Reason, Spec};
 use compare::generate::{Rng, family};
 use compare::oracle::queries::{envelope_at, walk};
-use compare::oracle::ranges::{BLOCK, bins, blocks, kept, range, renew};
+use compare::oracle::ranges::{BLOCK, bins, blocks, blocks_len, kept, range, renew};
 use compare::oracle::stock::{Bar, bar, cells};
 
 const CALLS: usize = 60_000;
@@ -22,13 +22,9 @@ fn made() -> impl Iterator<Item = (Spec, Vec<f64>, f64, f64)> {
             2 => f64::NEG_INFINITY,
             _ => z + spec.cell * rng.below(200) as f64,
         };
-        renew(&spec, &cells, blocks_len(&spec)).ok()?;
+        renew(&spec, &cells, blocks_len(bar(&spec).ok()?.n)).ok()?;
         Some((spec, cells, z, other))
     })
-}
-
-fn blocks_len(spec: &Spec) -> usize {
-    bar(spec).map_or(0, |bar| 2 * bar.n.div_ceil(BLOCK))
 }
 
 fn stock(spec: &Spec, lent: &[f64]) -> (Bar, Vec<[f64; 4]>, Vec<f64>) {

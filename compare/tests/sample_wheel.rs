@@ -41,9 +41,23 @@ fn new(spec: Spec) -> Vec<f64> {
         spec,
         stamp: STAMP,
         cells_len: 4 * n,
+        blocks_len: 2 * n.div_ceil(64),
     };
     match answer(&call) {
-        Ok(Answer::Stock(cells, _, 0)) => cells.as_flattened().to_vec(),
+        Ok(Answer::Stock(cells, _, _, 0)) => cells.as_flattened().to_vec(),
+        other => panic!("{other:?}"),
+    }
+}
+
+/// The kept numbers of the cells.
+fn kept(spec: Spec, cells: &[f64]) -> Vec<f64> {
+    let call = Call::Renew {
+        spec,
+        cells: cells.to_vec(),
+        blocks: vec![0.; 2 * cells.len().div_ceil(4 * 64)],
+    };
+    match answer(&call) {
+        Ok(Answer::Blocks(blocks)) => blocks,
         other => panic!("{other:?}"),
     }
 }
@@ -75,11 +89,12 @@ fn cut(call: Call) -> Vec<f64> {
     let commit = Call::Apply {
         spec,
         stamp: STAMP,
+        blocks: kept(spec, &cells),
         cells,
         list,
     };
     match answer(&commit) {
-        Ok(Answer::Stock(cells, _, 8)) => cells.as_flattened().to_vec(),
+        Ok(Answer::Stock(cells, _, _, 8)) => cells.as_flattened().to_vec(),
         other => panic!("{other:?}"),
     }
 }
@@ -232,12 +247,12 @@ fn ring(rings: &[[f64; 4]], generation: u64, ring: [f64; 4]) -> Outcome {
 #[test]
 fn p11_p12_rings() {
     let first = ring(&[], 0, [0., 6., 2., 6.]);
-    let Ok(Answer::Stock(_, rings, 1)) = first else {
+    let Ok(Answer::Stock(_, _, rings, 1)) = first else {
         panic!("{first:?}")
     };
     let second = ring(&rings, 1, [3., 9., 4., 8.]);
     let three = vec![[0., 6., 2., 6.], [6., 9., 4., 8.], [3., 6., 6., 8.]];
-    let after = |generation| Ok(Answer::Stock(vec![], three.clone(), generation));
+    let after = |generation| Ok(Answer::Stock(vec![], vec![], three.clone(), generation));
     assert_eq!(second, after(2));
     assert_eq!(ring(&three, 2, [1., 2., 3., 4.]), after(3));
     assert_eq!(ring(&three, 3, [1., 2., 10., 12.]), after(3));
@@ -257,6 +272,32 @@ fn p13_envelope_at() {
     assert_eq!(at(9.), Ok(Answer::Found(Some(vec![0., 5.]))));
     assert_eq!(at(9.5), Ok(Answer::Found(None)));
     assert_eq!(at(f64::NAN), Ok(Answer::Found(None)));
+}
+
+/// The most over a range of P13's stock: its ends' bins and those between.
+#[test]
+fn ranges_of_heights() {
+    let cells = cut(nose(new(Q), 0.));
+    let over = |lo: f64, hi: f64| {
+        answer(&Call::Range {
+            spec: Q,
+            cells: cells.clone(),
+            blocks: kept(Q, &cells),
+            lo,
+            hi,
+        })
+    };
+    let five = Ok(Answer::Found(Some(vec![0., 5.])));
+    let four = Ok(Answer::Found(Some(vec![0., 4.])));
+    assert_eq!(kept(Q, &cells), [5., 0.]);
+    assert_eq!(over(4., 5.), four);
+    assert_eq!(over(3_f64.next_up(), 6_f64.next_down()), four);
+    assert_eq!(over(3., 5.), five);
+    assert_eq!(over(4., 6.), five);
+    assert_eq!(over(-1., 1.), five);
+    for (lo, hi) in [(5., 4.), (9.5, 12.), (f64::NAN, 4.), (4., f64::NAN)] {
+        assert_eq!(over(lo, hi), Ok(Answer::Found(None)));
+    }
 }
 
 #[test]
@@ -362,7 +403,7 @@ fn pieces_in_hand() {
         rings
     };
     let whole = [0., 9., 0., 10.];
-    let Ok(Answer::Stock(_, rings, 1)) = ring(&store(85, 0), 0, whole) else {
+    let Ok(Answer::Stock(_, _, rings, 1)) = ring(&store(85, 0), 0, whole) else {
         panic!()
     };
     assert_eq!(rings.len(), 87 + 86);

@@ -10,7 +10,7 @@ use compare::shrink::shrink;
 use std::cell::RefCell;
 use std::collections::BTreeMap;
 
-const SEQUENCES: usize = 3000;
+const SEQUENCES: usize = 4000;
 
 fn sequences(seed: u64) -> impl Iterator<Item = Sequence> {
     let mut rng = Rng::new(seed);
@@ -45,15 +45,17 @@ fn no_sequence_differs_and_every_refusal_is_reached() {
     }
     assert_eq!(reached("preview"), [0, 1, 2, 3, 5, 6]);
     assert_eq!(reached("preview_polygon"), [0, 1, 2, 3, 5, 6]);
-    let all = [0, 1, 2, 3, 6, 7, 8, 12, 19, 21, 22, 23];
+    let all = [0, 1, 2, 3, 6, 7, 8, 12, 19, 20, 21, 22, 23];
     assert_eq!(reached("apply"), all);
     assert_eq!(reached("changes_to"), [0, 1, 2, 3, 6]);
     assert_eq!(reached("remove_ring"), [0, 1, 2, 4, 10, 11, 12]);
-    let all = [0, 1, 2, 3, 4, 6, 7, 8, 10, 11, 12, 19, 21, 22, 23];
+    let all = [0, 1, 2, 3, 4, 6, 7, 8, 10, 11, 12, 19, 20, 21, 22, 23];
     assert_eq!(reached("apply_move"), all);
-    assert_eq!(reached("from_parts"), [0, 1, 2, 3, 10, 11]);
+    assert_eq!(reached("from_parts"), [0, 1, 2, 3, 10, 11, 20]);
     assert_eq!(reached("volume"), [0, 1, 2, 3, 4]);
     assert_eq!(reached("envelope_at"), [0, 1, 2, 3]);
+    assert_eq!(reached("renew"), [0, 1, 2, 3, 20]);
+    assert_eq!(reached("range"), [0, 1, 2, 3, 20]);
 }
 
 /// The position of the first change of the list whose bin holds something else.
@@ -204,13 +206,14 @@ fn a_wrong_refusal_shrinks_to_one_call() {
 #[test]
 fn a_wrong_commit_shrinks_to_a_preview_and_a_commit() {
     let wrong = |call: &Call, outcome: Outcome| match (call, &outcome) {
-        (Call::Apply { cells, list, .. }, Ok(Answer::Stock(after, rings, generation)))
+        (Call::Apply { cells, list, .. }, Ok(Answer::Stock(after, blocks, rings, generation)))
             if list.changes > 1 =>
         {
             let mut after = after.clone();
             let last = list.indices[list.changes - 1];
             after[last] = cells.as_chunks::<4>().0[last];
-            Ok(Answer::Stock(after, rings.clone(), *generation))
+            let (blocks, rings) = (blocks.clone(), rings.clone());
+            Ok(Answer::Stock(after, blocks, rings, *generation))
         }
         _ => outcome,
     };
@@ -218,6 +221,22 @@ fn a_wrong_commit_shrinks_to_a_preview_and_a_commit() {
     assert_eq!(least.steps.len(), 2, "{least:?}");
     assert!(matches!(least.steps[1].action, Action::Commit { .. }));
     assert_eq!(least.cells.len(), 8, "{least:?}");
+}
+
+/// A commit that leaves the kept numbers as they were: a preview and its commit show it, on one bin.
+#[test]
+fn a_wrong_renewal_shrinks_to_a_preview_and_a_commit() {
+    let wrong = |call: &Call, outcome: Outcome| match (call, &outcome) {
+        (Call::Apply { blocks, .. }, Ok(Answer::Stock(cells, _, rings, generation))) => {
+            let (cells, rings) = (cells.clone(), rings.clone());
+            Ok(Answer::Stock(cells, blocks.clone(), rings, *generation))
+        }
+        _ => outcome,
+    };
+    let least = least(&wrong);
+    assert_eq!(least.steps.len(), 2, "{least:?}");
+    assert!(matches!(least.steps[1].action, Action::Commit { .. }));
+    assert_eq!(least.cells.len(), 4, "{least:?}");
 }
 
 /// A position that is one too many: a preview and a commit that is damaged show it, or a list whose stamp
@@ -246,9 +265,9 @@ fn a_wrong_covered_ring_shrinks_to_two_rings() {
             Call::RemoveRing {
                 store, generation, ..
             },
-            Ok(Answer::Stock(cells, rings, raised)),
+            Ok(Answer::Stock(_, _, rings, raised)),
         ) if rings.len() == store.count && raised > generation => {
-            Ok(Answer::Stock(cells.clone(), rings.clone(), *generation))
+            Ok(Answer::Stock(vec![], vec![], rings.clone(), *generation))
         }
         _ => outcome,
     };
@@ -294,7 +313,7 @@ fn the_limits_of_rings_are_reached() {
     let refused = RefCell::new(BTreeMap::<(usize, usize), usize>::new());
     let see = |call: &Call, outcome: Outcome| {
         match &outcome {
-            Ok(Answer::Stock(_, rings, _)) => {
+            Ok(Answer::Stock(_, _, rings, _)) => {
                 *stored.borrow_mut().entry(rings.len()).or_default() += 1;
             }
             Err(Reason { number: 11, .. }) => {

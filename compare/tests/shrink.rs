@@ -1,6 +1,7 @@
 //! A call that fails is made small.
 use compare::call::{Answer, Call};
-use compare::generate::{Rng, cuts, envelope, rings};
+use compare::generate::{Rng, blocks, cuts, envelope, rings};
+use compare::oracle::ranges::blocks_len;
 use compare::oracle::{answer, full_look};
 use compare::shrink::shrink;
 
@@ -40,7 +41,7 @@ fn a_nose_shrinks_to_one_segment() {
 #[test]
 fn a_store_shrinks_to_one_ring() {
     let fails = |call: &Call| match (call, answer(call)) {
-        (Call::RemoveRing { store, .. }, Ok(Answer::Stock(_, rings, _))) => {
+        (Call::RemoveRing { store, .. }, Ok(Answer::Stock(_, _, rings, _))) => {
             rings.len() > store.count + 1
         }
         _ => false,
@@ -77,6 +78,42 @@ fn a_part_not_widened_shrinks_to_one_segment() {
     for call in least(envelope::envelope_call, fails) {
         assert!(
             matches!(&call, Call::RadiusAt { points, .. } if points.len() == 4),
+            "{call:?}"
+        );
+    }
+}
+
+/// A range with material over two bins or more: two bins are left, and the kept numbers are still theirs.
+#[test]
+fn kept_numbers_follow_a_smaller_bar() {
+    let fails = |call: &Call| match call {
+        Call::Range { cells, .. } if (5..4 * 200).contains(&cells.len()) => {
+            matches!(answer(call), Ok(Answer::Found(Some(_))))
+        }
+        _ => false,
+    };
+    for call in least(blocks::range, fails) {
+        assert!(
+            matches!(&call, Call::Range { cells, blocks, .. } if cells.len() == 8 && blocks.len() == 2),
+            "{call:?}"
+        );
+    }
+}
+
+/// Kept numbers of the right count that are refused: one bin and its block.
+#[test]
+fn damaged_numbers_stay_damaged() {
+    let fails = |call: &Call| {
+        let Call::Range { cells, blocks, .. } = call else {
+            return false;
+        };
+        let bins = cells.len() / 4;
+        let counted = bins < 200 && blocks.len() == blocks_len(bins);
+        counted && matches!(answer(call), Err(reason) if reason.number == 20)
+    };
+    for call in least(blocks::range, fails) {
+        assert!(
+            matches!(&call, Call::Range { cells, blocks, .. } if cells.len() == 4 && blocks.len() == 2),
             "{call:?}"
         );
     }

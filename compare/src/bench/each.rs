@@ -12,7 +12,7 @@ type Row = (
 );
 
 #[rustfmt::skip]
-const EACH: [Row; 35] = [
+const EACH: [Row; 38] = [
     ("root", "1,024 of shop size", 1024, sides::root),
     ("length", "1,024 of shop size", 1024, sides::length),
     ("validate", "4,096 bins", 4096, sides::validate),
@@ -25,6 +25,7 @@ const EACH: [Row; 35] = [
     ("thread_cut_inner", "4,096 bins", 4096, sides::thread_cut_inner),
     ("drill", "4,096 bins", 4096, sides::drill),
     ("apply", "4,096 changes of 4,096 bins", 4096, sides::apply),
+    ("apply", "1 change of 4,096 bins", 4096, sides::apply_one),
     ("changes_to", "2,048 of 4,096 bins differ", 4096, sides::changes_to),
     ("remove_ring", "64 stored, one apart", 64, sides::remove_ring),
     ("remove_ring", "64 stored, one empty after clipping", 64, sides::remove_nothing),
@@ -33,6 +34,8 @@ const EACH: [Row; 35] = [
     ("volume", "4,096 bins, no ring", 4096, sides::volume_bins),
     ("volume", "64 bins, 64 rings", 64, sides::volume_rings),
     ("envelope_at", "4,096 bins", 4096, sides::envelope_at),
+    ("renew", "4,096 bins; the Rust walks each block", 4096, sides::renew),
+    ("range", "4,094 of 4,096 bins; the Rust walks them", 4096, sides::range),
     ("envelope_order", "1,024 points that rise", 1024, sides::envelope_order),
     ("within", "1,024 points that rise", 1024, sides::within),
     ("radius_at", "1,024 points that rise", 1024, sides::radius_at),

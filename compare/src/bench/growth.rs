@@ -23,7 +23,11 @@ const BINS: &[(&str, Make)] = &[
     ),
     ("volume, no ring", sides::volume_bins),
     ("apply, a change of each bin", sides::apply),
+    ("apply, one change", sides::apply_one),
     ("changes_to, half differ", sides::changes_to),
+    ("envelope_at", sides::envelope_at),
+    ("renew, all blocks; the Rust walks each", sides::renew),
+    ("range, all bins but two; the Rust walks them", sides::range),
 ];
 const SEGMENTS: &[(&str, Make)] = &[("preview, a chain over 1,024 bins", sides::preview_segments)];
 const RINGS: &[(&str, Make)] = &[

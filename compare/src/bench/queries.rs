@@ -1,7 +1,9 @@
 //! The rows of the table: rings, volumes, envelopes.
 use super::rows::spec;
+use super::sides;
 use super::{Table, library_side, side};
 use crate::call::{Call, List, Stamp, Store};
+use crate::oracle::ranges::blocks;
 use crate::oracle::stock::{Bar, bar, camlib_spec, camlib_stock, fresh, to_camlib};
 use plain::turning::profile::Envelope;
 use plain::turning::stock::TurnStock;
@@ -73,6 +75,7 @@ pub fn rings(table: &Table) {
                     spec: bar.spec,
                     stamp: Stamp::default(),
                     cells: cells.as_flattened().to_vec(),
+                    blocks: blocks(&bar, &cells),
                     store: store(&kept),
                     list: List::default(),
                     removed: removed.as_flattened().to_vec(),
@@ -97,6 +100,7 @@ pub fn rings(table: &Table) {
                     spec: bar.spec,
                     stamp: Stamp::default(),
                     cells: cells.as_flattened().to_vec(),
+                    blocks: blocks(&bar, &cells),
                     given: given.as_flattened().to_vec(),
                     rings_len: 1024,
                 }),
@@ -134,6 +138,38 @@ pub fn volumes(table: &Table, bar: &Bar) {
             }),
         ]
     });
+    ranges(table, bar);
+}
+
+/// A range beside a plain walk, and beside the library's own `envelope_at`.
+fn ranges(table: &Table, bar: &Bar) {
+    let seen = || {
+        library_side(Call::EnvelopeAt {
+            spec: bar.spec,
+            cells: fresh(bar).as_flattened().to_vec(),
+            z: 300.3,
+        })
+    };
+    let over = "range, 4,094 of 4,096 bins; in the Rust's place";
+    table.row(&format!("{over} a plain walk"), || sides::range(bar.n));
+    table.row(&format!("{over} the library's envelope_at"), || {
+        let [.., ours] = sides::range(bar.n);
+        [seen(), None, ours]
+    });
+    table.row(
+        "range, one bin of 4,096; in the Rust's place the library's envelope_at",
+        || {
+            let cells = fresh(bar);
+            let ours = library_side(Call::Range {
+                spec: bar.spec,
+                cells: cells.as_flattened().to_vec(),
+                blocks: blocks(bar, &cells),
+                lo: 300.3,
+                hi: 300.3,
+            });
+            [seen(), None, ours]
+        },
+    );
 }
 
 pub fn envelopes(table: &Table) {

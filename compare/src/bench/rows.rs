@@ -7,6 +7,7 @@ use crate::generate::Rng;
 use crate::generate::numbers::{parts, radicand};
 use crate::guess;
 use crate::oracle::cuts::{segment, stock_with_length};
+use crate::oracle::ranges::blocks;
 use crate::oracle::stock::{Bar, bar, camlib_spec, camlib_stock, fresh, to_camlib};
 use length::turning::stock as with_length;
 use plain::motion::Curve;
@@ -104,6 +105,7 @@ fn cells(table: &Table, bar: &Bar) {
                     spec: bar.spec,
                     stamp: Stamp::default(),
                     cells: lent(),
+                    blocks: blocks(bar, &cells),
                     list: List::default(),
                 }),
             ]

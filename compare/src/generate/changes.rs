@@ -1,5 +1,6 @@
 //! Change lists: the room that is lent for one, its stamp, its commit, the difference of two stocks.
 use super::Rng;
+use super::blocks::{base_or_blocks, damaged_blocks, patchy_cells};
 use super::numbers::{any, outside};
 use super::stock::{base, damaged_cells, damaged_spec, good_cells, some_cut};
 use crate::call::{Answer, Call, Change, List, Room, Stamp};
@@ -191,8 +192,8 @@ fn damage(rng: &mut Rng, base: &Bar, changes: &mut [Change]) {
         }
         11 => (c.before, c.after) = (c.after, c.before),
         12 => c.after = c.before,
-        13 => c.after[bound] = c.before[bound].next_up(),
-        14 => c.after[bound] = c.before[bound].next_down(),
+        13 | 16 => c.after[bound] = c.before[bound].next_up(),
+        14 | 17 => c.after[bound] = c.before[bound].next_down(),
         15 => c.index = c.index.wrapping_add(1),
         _ => {}
     }
@@ -261,14 +262,15 @@ pub fn other(rng: &mut Rng, of: Stamp) -> Stamp {
 }
 
 pub fn apply(rng: &mut Rng) -> Call {
-    let base = base(rng);
-    let cells = good_cells(rng, &base);
+    let base = base_or_blocks(rng);
+    let cells = patchy_cells(rng, &base);
     let changes = some_changes(rng, &base, &cells);
     let stamp = stamp(rng);
     Call::Apply {
         spec: damaged_spec(rng, &base),
         stamp,
         cells: damaged_cells(rng, &base, &cells),
+        blocks: damaged_blocks(rng, &base, &cells),
         list: damaged_changes(rng, &base, changes, stamp),
     }
 }

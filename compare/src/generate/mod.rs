@@ -2,6 +2,7 @@
 //!
 //! A generator first makes a call that is accepted, and then damages any of its parts now and then,
 //! so that several reasons for a refusal meet and their order shows.
+pub mod blocks;
 pub mod changes;
 pub mod cuts;
 pub mod envelope;
@@ -74,6 +75,8 @@ pub fn family(name: &str) -> Option<fn(&mut Rng) -> Call> {
         "parts" => rings::from_parts,
         "volume" => rings::volume,
         "envelope_at" => stock::envelope_at,
+        "renew" => blocks::renew,
+        "range" => blocks::range,
         "envelope" => envelope::envelope_call,
         "profile" => profile::segments_call,
         "insert" => insert::insert_call,
@@ -82,7 +85,7 @@ pub fn family(name: &str) -> Option<fn(&mut Rng) -> Call> {
 }
 
 /// Every family of single calls, and how many calls are made by default.
-pub const FAMILIES: [(&str, usize); 19] = [
+pub const FAMILIES: [(&str, usize); 21] = [
     ("root", 20_000_000),
     ("length", 20_000_000),
     ("stock", 200_000),
@@ -99,6 +102,8 @@ pub const FAMILIES: [(&str, usize); 19] = [
     ("parts", 100_000),
     ("volume", 100_000),
     ("envelope_at", 200_000),
+    ("renew", 200_000),
+    ("range", 1_000_000),
     ("envelope", 400_000),
     ("profile", 1_000_000),
     ("insert", 400_000),

@@ -1,5 +1,6 @@
 //! Stores of rings, moves, parts, volumes.
 use super::Rng;
+use super::blocks::{any_blocks, base_or_blocks, damaged_blocks, own, patchy_cells};
 use super::changes::{damaged_changes, generation, some_changes, stamp};
 use super::numbers::{any, edge, outside};
 use super::stock::{base, damaged_cells, damaged_spec, good_cells, r_near, z_near};
@@ -79,16 +80,18 @@ fn disjoint(base: &Bar, given: Vec<Ring>) -> Vec<Ring> {
         // Rings that can be stored as they are, are.
         return given;
     }
+    let cells = fresh(base);
     loop {
         let call = Call::FromParts {
             spec: base.spec,
             stamp: Stamp::default(),
-            cells: fresh(base).as_flattened().to_vec(),
+            cells: cells.as_flattened().to_vec(),
+            blocks: own(base, &cells),
             given: given.as_flattened().to_vec(),
             rings_len: 4 * MOST_RINGS,
         };
         match answer(&call) {
-            Ok(Answer::Stock(_, rings, _)) => return rings,
+            Ok(Answer::Stock(_, _, rings, _)) => return rings,
             _ if given.is_empty() => return vec![],
             _ => given.truncate(given.len() / 2),
         }
@@ -274,8 +277,8 @@ pub fn damaged_rings(rng: &mut Rng, mut rings: Vec<Ring>) -> Vec<f64> {
 }
 
 pub fn apply_move(rng: &mut Rng) -> Call {
-    let base = base(rng);
-    let cells = good_cells(rng, &base);
+    let base = base_or_blocks(rng);
+    let cells = patchy_cells(rng, &base);
     let changes = some_changes(rng, &base, &cells);
     let (rings, next) = stored_and_next(rng, &base);
     let mut removed = vec![];
@@ -296,6 +299,7 @@ pub fn apply_move(rng: &mut Rng) -> Call {
         spec: damaged_spec(rng, &base),
         stamp,
         cells: damaged_cells(rng, &base, &cells),
+        blocks: damaged_blocks(rng, &base, &cells),
         store: damaged_store(rng, &base, &rings, more),
         list: damaged_changes(rng, &base, changes, stamp),
         removed: damaged_rings(rng, removed),
@@ -303,8 +307,8 @@ pub fn apply_move(rng: &mut Rng) -> Call {
 }
 
 pub fn from_parts(rng: &mut Rng) -> Call {
-    let base = base(rng);
-    let cells = good_cells(rng, &base);
+    let base = base_or_blocks(rng);
+    let cells = patchy_cells(rng, &base);
     let mut given = match rng.below(20) {
         0 => {
             let (mut rings, whole) = about_the_limit(rng, &base);
@@ -328,6 +332,7 @@ pub fn from_parts(rng: &mut Rng) -> Call {
         spec: damaged_spec(rng, &base),
         stamp: stamp(rng),
         cells: damaged_cells(rng, &base, &cells),
+        blocks: any_blocks(rng, &base, &cells),
         given: damaged_rings(rng, given),
         rings_len: 4 * room + rng.below(4),
     }

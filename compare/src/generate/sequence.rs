@@ -1,14 +1,16 @@
 //! Sequences of calls on one stock.
 use super::Rng;
+use super::blocks::{base_or_blocks, ends, patchy_cells};
 use super::changes::{edition, other, stamp};
 use super::cuts::{damaged_list, drill_cut, nose_radius, polygon_excess};
 use super::cuts::{polygon_points, segments, side, thread_numbers};
 use super::numbers::{any, damaged, edge, outside};
 use super::rings::{about_the_limit, damaged_rings, few_stored, limit_stored, nonempty};
 use super::rings::{far_edge, ring, side_by_side};
-use super::stock::{base, damaged_spec, good_cells, z_near};
+use super::stock::{damaged_spec, z_near};
 use crate::call::{Room, Simple, Stamp, Store};
 use crate::oracle::MOST_RINGS;
+use crate::oracle::ranges::blocks_len;
 use crate::oracle::stock::{Bar, fresh};
 use crate::sequence::{Action, Damage, Sequence, Step};
 
@@ -26,13 +28,13 @@ struct Maker {
 }
 
 pub fn sequence(rng: &mut Rng) -> Sequence {
-    let base = base(rng);
+    let base = base_or_blocks(rng);
     let cells = match rng.below(4) {
-        0 => good_cells(rng, &base),
+        0 => patchy_cells(rng, &base),
         _ => fresh(&base),
     };
     let next = ring(rng, &base);
-    let (rings, next) = match rng.below(24) {
+    let (rings, next) = match rng.below(16) {
         0 => limit_stored(rng, &base),
         1..6 => few_stored(rng, &base, next),
         _ => (vec![], next),
@@ -96,7 +98,7 @@ impl Maker {
         if rng.once_in(30) {
             return self.kept_over_a_rebuild(rng);
         }
-        let action = match rng.below(32) {
+        let action = match rng.below(36) {
             0..5 => self.nose(rng),
             5..7 => self.polygon(rng),
             7..12 => Action::Cut(self.simple(rng)),
@@ -113,6 +115,11 @@ impl Maker {
             26 => Action::Return { back: rng.below(4) },
             27 => self.rebuild(rng),
             28 | 29 => Action::Volume,
+            30 => Action::Renew,
+            31..34 => {
+                let (lo, hi) = ends(rng, &self.base);
+                Action::Range { lo, hi }
+            }
             _ => Action::EnvelopeAt(match rng.below(8) {
                 0 => any(rng),
                 1 => outside(rng),
@@ -255,10 +262,14 @@ fn kinds(action: &Action) -> &'static [usize] {
     match action {
         Action::Nose { .. } | Action::Polygon { .. } | Action::Cut(_) => &[0, 1, 2, 3, 3, 10],
         Action::Difference { .. } => &[0, 1, 2, 3, 3, 10],
-        Action::Commit { .. } => &[0, 1, 2, 4, 4, 5, 5, 6, 10, 11, 12],
-        Action::Move { .. } => &[0, 1, 2, 4, 4, 5, 6, 7, 8, 9, 10, 11, 12],
+        Action::Commit { .. } => &[0, 1, 2, 4, 4, 5, 5, 6, 10, 11, 12, 13, 14, 15, 16, 17, 18],
+        Action::Move { .. } => &[
+            0, 1, 2, 4, 4, 5, 6, 7, 8, 9, 10, 11, 12, 13, 14, 15, 16, 17, 18,
+        ],
         Action::Ring(_) => &[0, 7, 7, 8, 9, 12],
-        Action::Rebuild { .. } => &[0, 1, 2, 9, 10],
+        Action::Rebuild { .. } => &[0, 1, 2, 9, 10, 16],
+        Action::Renew => &[0, 1, 2, 16],
+        Action::Range { .. } => &[0, 1, 2, 13, 14, 15, 16, 17],
         Action::Volume => &[0, 1, 2, 7, 8, 9],
         Action::EnvelopeAt(_) | Action::Return { .. } => &[0, 1, 2],
     }
@@ -305,9 +316,18 @@ fn damage(rng: &mut Rng, base: &Bar, start: Stamp, action: &Action) -> Damage {
         9 => Damage::Rings(rng.below(40)),
         10 => Damage::Stamp(other(rng, start)),
         11 => Damage::Listed(other(rng, start)),
-        _ => Damage::Both(Stamp {
+        12 => Damage::Both(Stamp {
             edition: edition(rng),
             generation: u64::MAX - rng.below(3) as u64,
         }),
+        13 => Damage::Block {
+            at: rng.below(130),
+            value: rng.pick(&[value, 0., f64::INFINITY, base.spec.bore]),
+        },
+        14 => Damage::Ulp(rng.below(130)),
+        15 => Damage::Exchanged(rng.below(130)),
+        16 => Damage::Blocks(blocks_len(base.n) + rng.below(4) - rng.below(3)),
+        17 => Damage::Earlier,
+        _ => Damage::Last(rng.pick(&[base.n, usize::MAX])),
     }
 }

@@ -1,5 +1,6 @@
 //! Bars, cells, and places on a bar.
 use super::Rng;
+use super::blocks::{bar_of_blocks, some_len};
 use super::changes::stamp;
 use super::numbers::{any, damaged, edge, outside};
 use crate::call::{Answer, Call, Room, Simple, Spec, Stamp};
@@ -135,7 +136,7 @@ pub fn damaged_spec(rng: &mut Rng, base: &Bar) -> Spec {
 }
 
 /// A bin's start or end.
-fn bin_edge(rng: &mut Rng, base: &Bar) -> f64 {
+pub fn bin_edge(rng: &mut Rng, base: &Bar) -> f64 {
     let za = base.spec.z_min + rng.below(base.n) as f64 * base.spec.cell;
     let zb = (za + base.spec.cell).min(base.spec.z_max);
     rng.pick(&[za, zb])
@@ -186,7 +187,7 @@ fn r_within(rng: &mut Rng, base: &Bar) -> f64 {
     r.clamp(s.bore, s.outer) + 0.
 }
 
-fn random_cell(rng: &mut Rng, base: &Bar) -> [f64; 4] {
+pub fn random_cell(rng: &mut Rng, base: &Bar) -> [f64; 4] {
     let mut cell = [0; 4].map(|_| r_within(rng, base));
     cell[..2].sort_by(f64::total_cmp);
     cell[2..].sort_by(f64::total_cmp);
@@ -296,7 +297,10 @@ pub fn damaged_cells(rng: &mut Rng, base: &Bar, cells: &[[f64; 4]]) -> Vec<f64> 
 
 /// validate, bin, new.
 pub fn stock_call(rng: &mut Rng) -> Call {
-    let base = base_or_long(rng, 12);
+    let base = match rng.below(3) {
+        0 => bar_of_blocks(rng),
+        _ => base_or_long(rng, 12),
+    };
     let mut spec = damaged_spec(rng, &base);
     if rng.once_in(4) {
         spec = damaged_spec(rng, &Bar { spec, n: base.n });
@@ -318,6 +322,7 @@ pub fn stock_call(rng: &mut Rng) -> Call {
                 0 => rng.pick(&[0, base.n, 4 * base.n - 1, 4 * base.n + 1, 4 * base.n + 4]),
                 _ => 4 * base.n,
             },
+            blocks_len: some_len(rng, base.n),
         },
     }
 }

@@ -1,4 +1,5 @@
 //! Commit and difference.
+use super::ranges::{blocks, kept};
 use super::stock::{
     Bar, bar, camlib_stock, cells, change_from_camlib, change_to_camlib, fits, from_camlib,
 };
@@ -49,23 +50,22 @@ pub fn acceptable(bar: &Bar, cells: &[[f64; 4]], changes: &[Change]) -> Result<(
     Ok(())
 }
 
-/// 1, 2, 3, 19, 6, 7, 8/21/22/23, 12.
-pub fn apply(spec: &Spec, stamp: Stamp, lent: &[f64], list: &List) -> Outcome {
+/// 1, 2, 3, 19, 20, 6, 7, 8/21/22/23, 12.
+pub fn apply(spec: &Spec, stamp: Stamp, lent: &[f64], lent_blocks: &[f64], list: &List) -> Outcome {
     let bar = bar(spec)?;
     let cells = cells(&bar, lent)?;
     of_this_stock(stamp, list)?;
+    kept(&bar, &cells, lent_blocks)?;
     let changes = lent_changes(list)?;
     acceptable(&bar, &cells, &changes)?;
     demand(stamp.generation < u64::MAX, GENERATION)?;
     let mut stock = camlib_stock(&bar, &cells, &[]);
     let changes: Vec<_> = changes.iter().map(change_to_camlib).collect();
     stock.apply(&changes).unwrap();
-    let cells = stock.cells().iter().map(from_camlib).collect();
-    Ok(Answer::Stock(
-        cells,
-        vec![],
-        stamp.generation + stock.generation(),
-    ))
+    let cells: Vec<_> = stock.cells().iter().map(from_camlib).collect();
+    let renewed = blocks(&bar, &cells);
+    let generation = stamp.generation + stock.generation();
+    Ok(Answer::Stock(cells, renewed, vec![], generation))
 }
 
 /// 1, 2, 3 for both stocks, 6.

@@ -3,7 +3,8 @@
 //! The answers come from camlib unchanged, but for nose cuts, which come from camlib with 01's length,
 //! and for `within` and the order, which unchanged camlib keeps to itself. What 01 says and camlib
 //! does not, stands here: the limits, the domain, the order of refusals, the stamps of stocks and of
-//! lists, and that -0.0 is read as +0.0 and never stored. An envelope's radius has a second oracle, `full_look`, over all segments.
+//! lists, the kept numbers of blocks, and that -0.0 is read as +0.0 and never stored. An envelope's radius has a second oracle,
+//! `full_look`, over all segments.
 mod changes;
 pub mod cuts;
 mod envelope;
@@ -97,8 +98,11 @@ pub fn answer(call: &Call) -> Outcome {
         Call::Validate { spec } => stock::bar(spec).map(|bar| Answer::Bins(bar.n)),
         Call::Bin { spec, i } => stock::bin(spec, *i).map(|[za, zb]| Answer::Range(za, zb)),
         Call::New {
-            spec, cells_len, ..
-        } => stock::new(spec, *cells_len).map(|cells| Answer::Stock(cells, vec![], 0)),
+            spec,
+            cells_len,
+            blocks_len,
+            ..
+        } => stock::new(spec, *cells_len, *blocks_len),
         Call::Preview {
             spec,
             stamp,
@@ -131,8 +135,9 @@ pub fn answer(call: &Call) -> Outcome {
             spec,
             stamp,
             cells,
+            blocks,
             list,
-        } => changes::apply(spec, *stamp, cells, list),
+        } => changes::apply(spec, *stamp, cells, blocks, list),
         Call::ChangesTo {
             spec,
             stamp,
@@ -150,23 +155,37 @@ pub fn answer(call: &Call) -> Outcome {
             spec,
             stamp,
             cells,
+            blocks,
             store,
             list,
             removed,
-        } => rings::apply_move(spec, *stamp, cells, store, list, removed),
+        } => rings::apply_move(spec, *stamp, cells, blocks, store, list, removed),
         Call::FromParts {
             spec,
             cells,
+            blocks,
             given,
             rings_len,
             ..
-        } => rings::from_parts(spec, cells, given, *rings_len),
+        } => rings::from_parts(spec, cells, blocks, given, *rings_len),
+        Call::Renew {
+            spec,
+            cells,
+            blocks,
+        } => ranges::renew(spec, cells, blocks.len()).map(Answer::Blocks),
         Call::Volume { spec, cells, store } => {
             queries::volume(spec, cells, store).map(|[least, most]| Answer::Volume(least, most))
         }
         Call::EnvelopeAt { spec, cells, z } => {
             queries::envelope_at(spec, cells, *z).map(Answer::Found)
         }
+        Call::Range {
+            spec,
+            cells,
+            blocks,
+            lo,
+            hi,
+        } => ranges::range(spec, cells, blocks, *lo, *hi).map(Answer::Found),
         Call::EnvelopeOrder { points } => envelope::order(points).map(Answer::Order),
         Call::Within { points, lo, hi } => envelope::within(points, *lo, *hi),
         Call::RadiusAt { points, u } => envelope::radius_at(points, *u).map(Answer::Found),

@@ -3,6 +3,7 @@
 //! camlib bounds neither the pieces nor the store, so 11 is decided here, on pieces counted by 01's
 //! steps. Then camlib does the work, and its rings must be the ones counted.
 use super::changes::{acceptable, lent_changes, of_this_stock};
+use super::ranges::{self, blocks, kept};
 use super::stock::{Bar, bar, camlib_stock, cells, change_to_camlib, fresh, from_camlib};
 use super::{GENERATION, MOST_PIECES, MOST_RINGS, PIECES, RING, STORED};
 use super::{clean, demand, demand_at, storable};
@@ -115,7 +116,7 @@ pub fn remove_ring(spec: &Spec, store: &Store, generation: u64, ring: Ring) -> O
     demand_at(ring.iter().all(|x| x.is_finite()), RING, 0)?;
     let ring = ring.map(clean);
     if empty(&clip(&bar, &ring)) {
-        return Ok(Answer::Stock(vec![], rings, generation));
+        return Ok(Answer::Stock(vec![], vec![], rings, generation));
     }
     demand(generation < u64::MAX, GENERATION)?;
     let mut counted = rings.clone();
@@ -123,18 +124,16 @@ pub fn remove_ring(spec: &Spec, store: &Store, generation: u64, ring: Ring) -> O
     let mut stock = camlib_stock(&bar, &fresh(&bar), &rings);
     stock.remove_ring([ring[0], ring[1]], [ring[2], ring[3]]);
     let rings = agreed(stock.rings(), &counted);
-    Ok(Answer::Stock(
-        vec![],
-        rings,
-        generation + stock.generation(),
-    ))
+    let generation = generation + stock.generation();
+    Ok(Answer::Stock(vec![], vec![], rings, generation))
 }
 
-/// 1, 2, 3, 6 for changes beyond what is lent, 4, 19, 10, 7, 8/21/22/23, 12, 11.
+/// 1, 2, 3, 6 for changes beyond what is lent, 4, 19, 20, 10, 7, 8/21/22/23, 12, 11.
 pub fn apply_move(
     spec: &Spec,
     stamp: Stamp,
     lent: &[f64],
+    lent_blocks: &[f64],
     store: &Store,
     list: &List,
     removed: &[f64],
@@ -144,6 +143,7 @@ pub fn apply_move(
     let changes = lent_changes(list)?;
     let rings = stored(&bar, store)?;
     of_this_stock(stamp, list)?;
+    kept(&bar, &cells, lent_blocks)?;
     let removed = given_rings(removed)?;
     acceptable(&bar, &cells, &changes)?;
     let steps = 1 + removed.iter().filter(|r| !empty(&clip(&bar, r))).count() as u64;
@@ -156,15 +156,24 @@ pub fn apply_move(
     let changes: Vec<_> = changes.iter().map(change_to_camlib).collect();
     stock.apply_move(&changes, &removed).unwrap();
     assert_eq!(stock.generation(), steps);
-    let cells = stock.cells().iter().map(from_camlib).collect();
+    let cells: Vec<_> = stock.cells().iter().map(from_camlib).collect();
+    let renewed = blocks(&bar, &cells);
     let rings = agreed(stock.rings(), &counted);
-    Ok(Answer::Stock(cells, rings, stamp.generation + steps))
+    let generation = stamp.generation + steps;
+    Ok(Answer::Stock(cells, renewed, rings, generation))
 }
 
-/// 1, 2, 3, 10, 11.
-pub fn from_parts(spec: &Spec, lent: &[f64], given: &[f64], rings_len: usize) -> Outcome {
+/// 1, 2, 3, 20 for the count alone, 10, 11.
+pub fn from_parts(
+    spec: &Spec,
+    lent: &[f64],
+    lent_blocks: &[f64],
+    given: &[f64],
+    rings_len: usize,
+) -> Outcome {
     let bar = bar(spec)?;
     let cells = cells(&bar, lent)?;
+    ranges::counted(&bar, lent_blocks.len())?;
     let given = given_rings(given)?;
     let mut counted = vec![];
     for ring in &given {
@@ -176,6 +185,7 @@ pub fn from_parts(spec: &Spec, lent: &[f64], given: &[f64], rings_len: usize) ->
         given,
     )
     .unwrap();
+    let own = blocks(&bar, &cells);
     let rings = agreed(camlib.rings(), &counted);
-    Ok(Answer::Stock(cells, rings, camlib.generation()))
+    Ok(Answer::Stock(cells, own, rings, camlib.generation()))
 }

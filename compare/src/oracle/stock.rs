@@ -1,6 +1,7 @@
 //! Spec, bins, cells.
+use super::ranges::{blocks, counted};
 use super::{CELLS, COUNT, MOST_CELLS, NO_BIN, SPEC, clean, demand, storable, usable};
-use crate::call::{Change, Reason, Spec};
+use crate::call::{Answer, Change, Outcome, Reason, Spec};
 use plain::turning::stock as camlib;
 
 /// An accepted spec, its numbers as they are read, and its number of bins.
@@ -43,11 +44,14 @@ pub fn bin(spec: &Spec, i: usize) -> Result<[f64; 2], Reason> {
     Ok(stock.bin(i).map(clean))
 }
 
-/// 1, 2, then 3 for the length alone.
-pub fn new(spec: &Spec, cells_len: usize) -> Result<Vec<[f64; 4]>, Reason> {
+/// 1, 2, then 3 and 20 for the lengths alone.
+pub fn new(spec: &Spec, cells_len: usize, blocks_len: usize) -> Outcome {
     let bar = bar(spec)?;
     demand(cells_len == 4 * bar.n, CELLS)?;
-    Ok(fresh(&bar))
+    counted(&bar, blocks_len)?;
+    let cells = fresh(&bar);
+    let kept = blocks(&bar, &cells);
+    Ok(Answer::Stock(cells, kept, vec![], 0))
 }
 
 /// The cells of a new stock.

@@ -12,6 +12,19 @@ pub enum Damage {
     },
     /// So many numbers of cells are lent.
     Cells(usize),
+    /// A kept number of a block.
+    Block {
+        at: usize,
+        value: f64,
+    },
+    /// A kept number one ulp more.
+    Ulp(usize),
+    /// The two numbers of a block, exchanged.
+    Exchanged(usize),
+    /// So many kept numbers are lent.
+    Blocks(usize),
+    /// The kept numbers of the stock before the last change.
+    Earlier,
     Room(Room),
     /// A number of a record.
     Record {
@@ -22,6 +35,8 @@ pub enum Damage {
         at: usize,
         value: usize,
     },
+    /// The index of the last change.
+    Last(usize),
     /// A change list is said to have so many changes.
     Changes(usize),
     /// A number of a stored ring.
@@ -53,6 +68,7 @@ fn put<T>(list: &mut [T], at: usize, value: T) {
 struct Parts<'a> {
     spec: Option<&'a mut Spec>,
     cells: Option<&'a mut Vec<f64>>,
+    blocks: Option<&'a mut Vec<f64>>,
     room: Option<&'a mut Room>,
     list: Option<&'a mut List>,
     store: Option<&'a mut Store>,
@@ -71,18 +87,23 @@ fn parts(call: &mut Call) -> Parts<'_> {
         | Call::ChangesTo { spec, stamp, cells, room, .. } => Parts {
             spec: Some(spec), stamp: Some(stamp), cells: Some(cells), room: Some(room), ..none
         },
-        Call::Apply { spec, stamp, cells, list } => Parts {
-            spec: Some(spec), stamp: Some(stamp), cells: Some(cells), list: Some(list), ..none
+        Call::Apply { spec, stamp, cells, blocks, list } => Parts {
+            spec: Some(spec), stamp: Some(stamp), cells: Some(cells), blocks: Some(blocks), list: Some(list), ..none
         },
         Call::RemoveRing { spec, store, generation, .. } => {
             Parts { spec: Some(spec), store: Some(store), generation: Some(generation), ..none }
         }
-        Call::ApplyMove { spec, stamp, cells, store, list, .. } => Parts {
-            spec: Some(spec), stamp: Some(stamp), cells: Some(cells), list: Some(list), store: Some(store), ..none
+        Call::ApplyMove { spec, stamp, cells, blocks, store, list, .. } => Parts {
+            spec: Some(spec), stamp: Some(stamp), cells: Some(cells), blocks: Some(blocks), list: Some(list),
+            store: Some(store), ..none
         },
-        Call::FromParts { spec, stamp, cells, rings_len, .. } => Parts {
-            spec: Some(spec), stamp: Some(stamp), cells: Some(cells), rings_len: Some(rings_len), ..none
+        Call::FromParts { spec, stamp, cells, blocks, rings_len, .. } => Parts {
+            spec: Some(spec), stamp: Some(stamp), cells: Some(cells), blocks: Some(blocks),
+            rings_len: Some(rings_len), ..none
         },
+        Call::Renew { spec, cells, blocks } | Call::Range { spec, cells, blocks, .. } => {
+            Parts { spec: Some(spec), cells: Some(cells), blocks: Some(blocks), ..none }
+        }
         Call::Volume { spec, cells, store } => {
             Parts { spec: Some(spec), cells: Some(cells), store: Some(store), ..none }
         }
@@ -103,8 +124,8 @@ impl Parts<'_> {
 }
 
 impl Damage {
-    /// Befalls the call, where it has such a part.
-    pub fn befall(&self, call: &mut Call) {
+    /// Befalls the call, where it has such a part; the kept numbers are those of the stock before.
+    pub fn befall(&self, call: &mut Call, before: &[f64]) {
         let mut parts = parts(call);
         match self.clone() {
             Damage::Spec(value) => parts.spec.into_iter().for_each(|s| *s = value),
@@ -113,6 +134,29 @@ impl Damage {
                 cells.for_each(|c| put(c, at, value));
             }
             Damage::Cells(len) => parts.cells.into_iter().for_each(|c| c.resize(len, 1.)),
+            Damage::Block { at, value } => {
+                let blocks = parts.blocks.into_iter();
+                blocks.for_each(|b| put(b, at, value));
+            }
+            Damage::Ulp(at) => {
+                let blocks = parts.blocks.into_iter();
+                blocks.for_each(|b| {
+                    let more = b[at % b.len()].next_up();
+                    put(b, at, more);
+                });
+            }
+            Damage::Exchanged(at) => {
+                let blocks = parts.blocks.into_iter();
+                blocks.for_each(|b| {
+                    let at = at % b.len();
+                    b.swap(at, at ^ 1);
+                });
+            }
+            Damage::Blocks(len) => parts.blocks.into_iter().for_each(|b| b.resize(len, 0.)),
+            Damage::Earlier => {
+                let blocks = parts.blocks.into_iter();
+                blocks.for_each(|b| *b = before.to_vec());
+            }
             Damage::Room(value) => parts.room.into_iter().for_each(|r| *r = value),
             Damage::Record { at, value } => {
                 let list = parts.list.into_iter();
@@ -121,6 +165,10 @@ impl Damage {
             Damage::Index { at, value } => {
                 let list = parts.list.into_iter();
                 list.for_each(|l| put(&mut l.indices, at, value));
+            }
+            Damage::Last(value) => {
+                let list = parts.list.into_iter().filter(|l| l.changes > 0);
+                list.for_each(|l| put(&mut l.indices, l.changes - 1, value));
             }
             Damage::Changes(value) => parts.list.into_iter().for_each(|l| l.changes = value),
             Damage::Stored { at, value } => {
@@ -146,6 +194,7 @@ impl Damage {
     pub fn numbers(&mut self) -> Vec<&mut f64> {
         match self {
             Damage::Cell { value, .. }
+            | Damage::Block { value, .. }
             | Damage::Record { value, .. }
             | Damage::Stored { value, .. } => vec![value],
             Damage::Spec(s) => vec![

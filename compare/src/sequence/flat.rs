@@ -3,12 +3,15 @@ use super::{Action, Sequence};
 use crate::call::{Call, Change, List, Room, Spec, Stamp, Store};
 use crate::memory::{Lent, Memory};
 use crate::oracle::MOST_RINGS;
+use crate::oracle::ranges::blocks;
+use crate::oracle::stock::bar;
 
 /// What calls change.
 #[derive(Clone)]
 pub struct Stock {
     pub stamp: Stamp,
     pub cells: Vec<f64>,
+    pub blocks: Vec<f64>,
     pub store: Store,
 }
 
@@ -31,6 +34,7 @@ impl Flat {
             now: Stock {
                 stamp: sequence.stamp,
                 cells: sequence.cells.clone(),
+                blocks: fresh_blocks(&sequence.spec, &sequence.cells),
                 store: sequence.store.clone(),
             },
             lists: vec![],
@@ -52,7 +56,7 @@ impl Flat {
     #[rustfmt::skip]
     pub fn call(&self, action: &Action) -> Option<Call> {
         let spec = self.spec;
-        let Stock { stamp, cells, store } = self.now.clone();
+        let Stock { stamp, cells, blocks, store } = self.now.clone();
         let bins = cells.len() / 4;
         let room = Room { indices: bins, records: 8 * bins };
         Some(match action.clone() {
@@ -63,10 +67,10 @@ impl Flat {
                 Call::PreviewPolygon { spec, stamp, cells, side, excess, points, room }
             }
             Action::Cut(cut) => Call::Cut { spec, stamp, cells, cut, room },
-            Action::Commit { back } => Call::Apply { spec, stamp, cells, list: self.list_back(back) },
+            Action::Commit { back } => Call::Apply { spec, stamp, cells, blocks, list: self.list_back(back) },
             Action::Move { back, removed } => {
                 let list = self.list_back(back);
-                Call::ApplyMove { spec, stamp, cells, store, list, removed }
+                Call::ApplyMove { spec, stamp, cells, blocks, store, list, removed }
             }
             Action::Ring(ring) => Call::RemoveRing { spec, store, generation: stamp.generation, ring },
             Action::Difference { back, from_now } => {
@@ -80,10 +84,17 @@ impl Flat {
             Action::Rebuild { more, edition } => {
                 let given = [&store.rings[..4 * store.count], &more].concat();
                 let stamp = Stamp { edition: edition.unwrap_or(stamp.edition), ..stamp };
-                Call::FromParts { spec, stamp, cells, given, rings_len: store.rings.len() }
+                // what the numbers hold is not asked: they are those of an earlier stock
+                let blocks = self.stock_back(0).blocks.clone();
+                Call::FromParts { spec, stamp, cells, blocks, given, rings_len: store.rings.len() }
+            }
+            Action::Renew => {
+                let blocks = vec![f64::NAN; blocks.len()];
+                Call::Renew { spec, cells, blocks }
             }
             Action::Volume => Call::Volume { spec, cells, store },
             Action::EnvelopeAt(z) => Call::EnvelopeAt { spec, cells, z },
+            Action::Range { lo, hi } => Call::Range { spec, cells, blocks, lo, hi },
             Action::Return { .. } => return None,
         })
     }
@@ -101,12 +112,19 @@ impl Flat {
                 self.lists.push(written_list(memory));
                 return;
             }
-            Call::Volume { .. } | Call::EnvelopeAt { .. } => return,
+            Call::Volume { .. } | Call::EnvelopeAt { .. } | Call::Range { .. } => return,
+            Call::Renew { .. } => {
+                self.now.blocks = numbers("blocks").unwrap();
+                return;
+            }
             Call::FromParts { stamp, .. } => self.now.stamp.edition = stamp.edition,
             _ => {}
         }
         if let Some(cells) = numbers("cells") {
             self.now.cells = cells;
+        }
+        if let Some(blocks) = numbers("blocks") {
+            self.now.blocks = blocks;
         }
         if let (Some(rings), Some(count)) = (numbers("rings"), word("rings_count")) {
             let count = (count as usize).min(MOST_RINGS);
@@ -117,6 +135,12 @@ impl Flat {
         }
         self.earlier.push(before);
     }
+}
+
+/// The kept numbers of a sequence's cells, which are accepted.
+pub fn fresh_blocks(spec: &Spec, cells: &[f64]) -> Vec<f64> {
+    let bar = bar(spec).expect("a sequence's bar is accepted");
+    blocks(&bar, cells.as_chunks::<4>().0)
 }
 
 /// The changes that a preview or a difference has written, with all that was lent for them.

@@ -2,7 +2,9 @@
 //! answer and the whole of both stocks are compared.
 //!
 //! The Rust's side is one `TurnStock` that lives through the sequence. Beside it the oracle answers
-//! each call by itself, from the stock's parts: what both of them say is wanted of the library.
+//! each call by itself, from the stock's parts: what both of them say is wanted of the library. The kept
+//! numbers of the library's side live through the sequence too, and are held against fresh ones of the
+//! living stock after each call.
 mod damage;
 mod flat;
 mod run;
@@ -53,6 +55,9 @@ pub enum Action {
     Return { back: usize },
     /// The stock is rebuilt from its parts and some rings more, of another edition where one is named.
     Rebuild { more: Vec<f64>, edition: Option<u32> },
+    /// The kept numbers are worked out afresh, into a place that holds none.
+    Renew,
     Volume,
     EnvelopeAt(f64),
+    Range { lo: f64, hi: f64 },
 }

@@ -130,7 +130,7 @@ fn carry_out(
     let mut call = ours.call(action).unwrap();
     let mut asked = theirs.flat.call(action).unwrap();
     if let Some(damage) = damage {
-        damage.befall(&mut call);
+        damage.befall(&mut call, &ours.stock_back(0).blocks);
         asked = call.clone();
     }
     let outcome = oracle::answer(&asked);
@@ -158,22 +158,24 @@ fn agree(call: &Call, living: &Outcome, outcome: &Outcome) -> bool {
     match (call, living, outcome) {
         (
             Call::FromParts { .. },
-            Ok(Answer::Stock(_, rings, g)),
-            Ok(Answer::Stock(_, other, h)),
-        ) => (rings, g) == (other, h),
-        (Call::Apply { .. }, Ok(Answer::Stock(cells, _, g)), Ok(Answer::Stock(other, _, h))) => {
-            (cells, g) == (other, h)
-        }
+            Ok(Answer::Stock(_, blocks, rings, g)),
+            Ok(Answer::Stock(_, kept, other, h)),
+        ) => (blocks, rings, g) == (kept, other, h),
+        (
+            Call::Apply { .. },
+            Ok(Answer::Stock(cells, blocks, _, g)),
+            Ok(Answer::Stock(other, kept, _, h)),
+        ) => (cells, blocks, g) == (other, kept, h),
         (
             Call::RemoveRing { .. },
-            Ok(Answer::Stock(_, rings, g)),
-            Ok(Answer::Stock(_, other, h)),
+            Ok(Answer::Stock(_, _, rings, g)),
+            Ok(Answer::Stock(_, _, other, h)),
         ) => (rings, g) == (other, h),
         _ => living == outcome,
     }
 }
 
-/// The whole of both stocks: stamp, cells, rings stored.
+/// The whole of both stocks: stamp, cells, rings stored; and the kept numbers, which on the Rust's side are fresh ones.
 fn same_stock(ours: &Flat, theirs: &Rust) -> Result<(), String> {
     let bits = |numbers: &[f64]| -> Vec<u64> { numbers.iter().map(|x| x.to_bits()).collect() };
     let stored = |store: &Store| bits(&store.rings[..4 * store.count]);
@@ -181,6 +183,7 @@ fn same_stock(ours: &Flat, theirs: &Rust) -> Result<(), String> {
     let (now, then) = (&ours.now, &theirs.flat.now);
     let parts = [
         ("cells", bits(&now.cells), bits(&then.cells)),
+        ("blocks", bits(&now.blocks), bits(&then.blocks)),
         ("rings", stored(&now.store), stored(&then.store)),
         ("stamp", stamp(now.stamp), stamp(then.stamp)),
     ];

@@ -1,10 +1,11 @@
 //! The Rust's side: one stock of camlib with 01's length, from the first call to the last.
-use super::flat::{Flat, Stock, back, list_of};
+use super::flat::{Flat, Stock, back, fresh_blocks, list_of};
 use super::{Action, Sequence};
 use crate::call::{Answer, Call, Change, List, Simple, Spec, Stamp, Store};
 use crate::oracle::clean;
 use crate::oracle::cuts::{change_with_length, segment, stock_with_length};
 use crate::oracle::queries::most_at;
+use crate::oracle::ranges::most_over;
 use crate::oracle::stock::bar;
 use length::turning::stock::{RadiusBounds, TurnCell, TurnChange, TurnSide, TurnStock};
 
@@ -12,6 +13,7 @@ use length::turning::stock::{RadiusBounds, TurnCell, TurnChange, TurnSide, TurnS
 #[derive(Clone)]
 struct Living {
     stock: TurnStock,
+    spec: Spec,
     start: Stamp,
 }
 
@@ -31,6 +33,7 @@ fn living(spec: &Spec, cells: &[f64], rings: &[[f64; 4]], start: Stamp) -> Livin
     let stock = TurnStock::from_parts(stock.spec().clone(), cells, rings.to_vec());
     Living {
         stock: stock.expect("a sequence's stock is accepted"),
+        spec: *spec,
         start,
     }
 }
@@ -75,9 +78,12 @@ fn rings(flat: &[f64]) -> Vec<[f64; 4]> {
 }
 
 impl Living {
+    fn cells(&self) -> Vec<[f64; 4]> {
+        self.stock.cells().iter().map(flat_cell).collect()
+    }
+
     fn flat(&self, rings_len: usize) -> Stock {
-        let cells = self.stock.cells().iter().map(flat_cell);
-        let cells: Vec<[f64; 4]> = cells.collect();
+        let cells = self.cells().into_flattened();
         let stored = rings(self.stock.rings().as_flattened());
         let mut store = Store {
             rings: stored.as_flattened().to_vec(),
@@ -86,7 +92,8 @@ impl Living {
         store.rings.resize(rings_len, 0.);
         Stock {
             stamp: self.stamp(),
-            cells: cells.as_flattened().to_vec(),
+            blocks: fresh_blocks(&self.spec, &cells),
+            cells,
             store,
         }
     }
@@ -156,6 +163,13 @@ impl Rust {
                     |i| flat_cell(&cells[i]),
                 ))
             }
+            Action::Range { lo, hi } => {
+                let bar = bar(&self.flat.spec).unwrap();
+                let cells = self.now.cells();
+                let (bin, own) = (|i| stock.bin(i), |z| stock.envelope_at(z));
+                Answer::Found(most_over(&bar, &cells, *lo, *hi, bin, own))
+            }
+            Action::Renew => Answer::Blocks(self.flat.now.blocks.clone()),
             _ => {
                 self.earlier.push(self.now.clone());
                 self.now.change(call);
@@ -227,11 +241,12 @@ impl Rust {
         let Stock {
             stamp,
             cells,
+            blocks,
             store,
         } = self.now.answer();
         let rings = store.rings.as_chunks::<4>().0.to_vec();
         let cells = cells.as_chunks::<4>().0.to_vec();
-        Answer::Stock(cells, rings, stamp.generation)
+        Answer::Stock(cells, blocks, rings, stamp.generation)
     }
 }
 

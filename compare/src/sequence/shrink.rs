@@ -22,6 +22,7 @@ impl Step {
             }
             Action::Ring(ring) => parts.numbers.extend(ring),
             Action::EnvelopeAt(z) => parts.numbers.push(z),
+            Action::Range { lo, hi } => parts.numbers.extend([lo, hi]),
             _ => {}
         }
         if let Some(damage) = &mut self.damage {

@@ -5,5 +5,6 @@ pub mod Reading
 pub mod Shown
 pub mod Rooms
 pub mod Arrays
-pub mod Decided
+pub mod Renewed
+pub mod Taking
 pub mod Agree

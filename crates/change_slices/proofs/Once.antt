@@ -17,7 +17,7 @@ use Rattle.changes.specs.Change.{changesFrom}
 use Rattle.changes.proofs.Proposals.{same-previewed}
 use Rattle.changes.specs.declared.Applied.{Applied}
 use Rattle.changes.specs.declared.Applied.the-variants as applied
-use Rattle.changes.specs.Commit.{Committed, appliedPaper, Applies}
+use Rattle.changes.specs.Commit.{Committed, appliedPaper, AppliesKept}
 use Rattle.change_slices.specs.Read.{Reads}
 use Rattle.change_slices.specs.Proposal.{Written}
 
@@ -36,9 +36,9 @@ same-applied (applied.RefusedAt c k) (applied.RefusedAt c' k') h =
     let p = one-place c c' k k' e in
     ap₂ (λ (x : Refusal) (j : ℕ). applied.RefusedAt x j) (p .0) (p .1)
 
--- the answer and the cells
-pub applied-once : (k : TurnStock) (p : Paper Committed) (r r' : Applied) (cs cs₁ cs₂ : List Float) → Applies k p r cs cs₁ → Applies k p r' cs cs₂ → (r ≡ r') × (cs₁ ≡ cs₂)
-applied-once k p r r' cs cs₁ cs₂ a b = (same-applied r r' (a .answer ∙ sym (b .answer)), a .cells ∙ sym (b .cells))
+-- the answer, the cells and the kept numbers
+pub applied-once : (k : TurnStock) (p : Paper Committed) (r r' : Applied) (cs cs₁ cs₂ bs bs₁ bs₂ : List Float) → AppliesKept k p r cs cs₁ bs bs₁ → AppliesKept k p r' cs cs₂ bs bs₂ → (r ≡ r') × (cs₁ ≡ cs₂) × (bs₁ ≡ bs₂)
+applied-once k p r r' cs cs₁ cs₂ bs bs₁ bs₂ a b = (same-applied r r' (a .left .answer ∙ sym (b .left .answer)), a .left .cells ∙ sym (b .left .cells), a .kept ∙ sym (b .kept))
 
 -- ---- records read from flat lists: how many, and the records
 pub read-once : (is : List ℕ) (xs : List Float) (k r r' : ℕ) (l l₁ l₂ : List TurnChange) → Reads is xs k r l l₁ → Reads is xs k r' l l₂ → (r ≡ r') × (l₁ ≡ l₂)

@@ -1,3 +1,4 @@
 pub mod Read
 pub mod Proposal
 pub mod Move
+pub mod Kept

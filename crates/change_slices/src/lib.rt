@@ -1,18 +1,21 @@
 // The change list as a lent slice of records: commit and move, and what a tool changes.
 //
-// A commit hands each record by value to a step of the fold that decides a list, and writes no cell
-// before all is decided. A move decides its list as a commit does, and then takes its rings. A tool's
+// A commit hands each record by value to a step of the fold that decides a list, and writes nothing
+// before all is decided. A move decides its list as a commit does, and then takes its rings. Both write
+// every after-cell, and then the kept numbers of the blocks in which the records' bins lie. A tool's
 // changes are listed in flat lists with room for every cell, and what they hold is read into the lent
 // records one by one.
 ghost use mathlib.Core.Path.{_≡_};
 ghost use Rattle.stock.specs.Cell.{putCell};
-ghost use Rattle.changes.specs.Commit.{commitOf, generationOf, stockAt, appliedPaper, putAll, Commits};
+ghost use Rattle.changes.specs.Commit.{passAll, passingPaper, commitOf, putAll, CommitsKept};
 ghost use Rattle.cuts.specs.Tool.{previewTool};
 ghost use Rattle.moves.specs.Move.{MovesLent};
 ghost use Rattle.change_slices.specs.Read.{heldIn, ReadsInto};
 ghost use Rattle.change_slices.specs.Move.{moveListOf};
+ghost use Rattle.change_slices.specs.Kept.{renewedOver, WritesKept};
 ghost use Rattle.change_slices.specs.Proposal.{Writes};
 use changes::Applied;
+use changes::Passing;
 use changes::Previewed;
 use cuts::Tool;
 use moves::Moved;
@@ -20,9 +23,10 @@ use refusals::CELL_LIMIT;
 use stock::Stamp;
 use stock::TurnChange;
 use stock::TurnStock;
+use stock::TurnStockSpec;
 
 mod flat;
-mod moving;
+mod kept;
 
 // Eight numbers for each of as many changes as a stock has cells.
 const RECORD_LIMIT: usize = 32768;
@@ -36,17 +40,17 @@ fn put_after(cells: &mut [f64], change: TurnChange)
     stock::put_cell(cells, index, after);
 }
 
-// The stock after a commit of the changes, or its refusal: each record in turn is handed to a step.
-fn decide(stock: TurnStock, cells: &[f64], stamp: Stamp, changes: &[TurnChange]) -> Applied
-    ensures { λ r. ⌜ appliedPaper r ≡ stockAt stock (generationOf (commitOf stock (now (cells .entry)) stamp (now (changes .entry)))) ⌝ }
+// Whether the changes pass on n cells of a clean spec: each record in turn is handed to a step.
+fn decide(s: TurnStockSpec, n: usize, cells: &[f64], changes: &[TurnChange]) -> Passing
+    ensures { λ r. ⌜ passingPaper r ≡ passAll s n (now (cells .entry)) (now (changes .entry)) ⌝ }
 {
-    let mut st = changes::begin(stock, cells, stamp);
+    let mut st = changes::begin(s, n);
     let mut i: usize = 0;
     while i < changes.len() {
         st = changes::step(st, cells, changes[i]);
         i += 1;
     }
-    changes::conclude(st, stock)
+    changes::outcome(st)
 }
 
 // Every after-cell, written into its bin.
@@ -61,40 +65,89 @@ fn put_all(cells: &mut [f64], changes: &[TurnChange])
     }
 }
 
-// Commit the changes of a list with this stamp: the stock afterwards; 1, 2, 3, 19 where the stamp is not
-// the stock's, 7, then change by change 8, 21, 22, 23, then 12.
-pub fn apply(stock: TurnStock, cells: &mut [f64], stamp: Stamp, changes: &[TurnChange]) -> Applied
-    ensures { λ r. ⌜ Commits stock (commitOf stock (now (cells .entry)) stamp (now (changes .entry))) r cells ⌝ }
+// The kept numbers after the changes: each number cleared, and the blocks in which their bins lie worked
+// out of the cells afterwards.
+fn renew_changed(
+    s: TurnStockSpec,
+    n: usize,
+    cells: &[f64],
+    blocks: &mut [f64],
+    changes: &[TurnChange],
+)
+    ensures { λ _. ⌜ now (blocks .exit) ≡ renewedOver s n (now (cells .entry)) (now (blocks .entry)) (now (changes .entry)) ⌝ }
 {
-    let answer = decide(stock, cells, stamp, changes);
-    if !changes::is_accepted(answer) {
-        return answer;
+    let mut block = kept::open(n, blocks);
+    let mut i: usize = 0;
+    while i < changes.len() {
+        let c = changes[i];
+        block = kept::leave(s, n, cells, blocks, block, c);
+        i += 1;
+    }
+    blocks::renew_block(s, n, cells, blocks, block);
+}
+
+// Every after-cell, written into its bin, and the kept numbers then, where the changes are accepted.
+fn write_accepted(
+    accepted: bool,
+    s: TurnStockSpec,
+    n: usize,
+    cells: &mut [f64],
+    blocks: &mut [f64],
+    changes: &[TurnChange],
+)
+    ensures { λ _. ⌜ WritesKept accepted s n (now (changes .entry)) cells blocks ⌝ }
+{
+    if !accepted {
+        return;
     }
     put_all(cells, changes);
+    renew_changed(s, n, cells, blocks, changes);
+}
+
+// Commit the changes of a list with this stamp: the stock afterwards; 1, 2, 3, 19 where the stamp is not
+// the stock's, 20 where the kept numbers do not match the cells, 7, then change by change 8, 21, 22, 23,
+// then 12.
+pub fn apply(
+    stock: TurnStock,
+    cells: &mut [f64],
+    blocks: &mut [f64],
+    stamp: Stamp,
+    changes: &[TurnChange],
+) -> Applied
+    ensures { λ r. ⌜ CommitsKept stock (commitOf stock (now (cells .entry)) (now (blocks .entry)) stamp (now (changes .entry))) r cells blocks ⌝ }
+{
+    let s = kept::clean(stock);
+    let n = cells.len() / 4;
+    let found = decide(s, n, cells, changes);
+    let answer = kept::answer(stock, cells, blocks, stamp, found);
+    let accepted = changes::is_accepted(answer);
+    write_accepted(accepted, s, n, cells, blocks, changes);
     answer
 }
 
 // Commit the changes of a list with this stamp and take the rings `removed`: the stock afterwards; 1, 2,
-// 3, 4, 19 where the stamp is not the stock's, 10, 7, then change by change 8, 21, 22, 23, then 12, 11.
+// 3, 4, 19 where the stamp is not the stock's, 20 where the kept numbers do not match the cells, 10, 7,
+// then change by change 8, 21, 22, 23, then 12, 11.
 pub fn apply_move(
     stock: TurnStock,
     cells: &mut [f64],
+    blocks: &mut [f64],
     rings: &mut [f64],
     stamp: Stamp,
     changes: &[TurnChange],
     removed: &[f64],
 ) -> Moved
     ensures { λ r. ⌜ MovesLent stock
-        (moveListOf stock (now (cells .entry)) (now (rings .entry)) stamp (now (changes .entry)) (now (removed .entry)))
-        r cells rings ⌝ }
+        (moveListOf stock (now (cells .entry)) (now (blocks .entry)) (now (rings .entry)) stamp (now (changes .entry)) (now (removed .entry)))
+        r cells blocks rings ⌝ }
 {
-    let decided = decide(stock, cells, stamp, changes);
-    let answer = moving::store(stock, cells, rings, stamp, decided, removed);
-    if !moving::is_stored(answer) {
-        return answer;
-    }
-    put_all(cells, changes);
-    answer
+    let s = kept::clean(stock);
+    let n = cells.len() / 4;
+    let found = decide(s, n, cells, changes);
+    let counts = kept::take(stock, cells, blocks, rings, stamp, found, removed);
+    let accepted = moves::is_moved(counts);
+    write_accepted(accepted, s, n, cells, blocks, changes);
+    moves::with_counts(stock, counts)
 }
 
 // Of k changes, as many as flat lists of these lengths hold and as there are records.

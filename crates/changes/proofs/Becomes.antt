@@ -21,7 +21,7 @@ use Rattle.changes.specs.Change.{changesTo, settled}
 use Rattle.changes.specs.Commit.{onlyRemoves, putAll, commitOf, ownCommit}
 use Rattle.changes.specs.Difference.{otherCell, differenceOf}
 use Rattle.changes.proofs.Stocks.{stock-good}
-use Rattle.changes.proofs.Stamped.{own-commit}
+use Rattle.changes.proofs.Stamped.{Matching, own-commit}
 use Rattle.changes.proofs.Accepted.{removes-of, commit-accepts, good-bins, put-good}
 
 -- ---- what a difference that is not refused says
@@ -52,6 +52,6 @@ module _ (spec : TurnStockSpec) (cs ds : List Float) (n room : ℕ) (l : List Tu
       ∙ ap (λ (xs : List Float). answers (record { cells = xs; generation = gen + 1 })) (same-cells n (putAll cs (changesTo (otherCell ds) cs n)) ds (put-good a (otherCell ds) cuts .long) (b .long) (good-bins a (otherCell ds) cuts))
 
 -- THE DIFFERENCE: with the first stock's stamp, committed to it, it leaves the second's cells, where no bin gains material and generations last
-pub difference-committed : (k : TurnStock) (cs ds : List Float) (n room : ℕ) (l : List TurnChange) → stockOf (k .spec) cs ≡ answers n → differenceOf (k .spec) cs ds room ≡ answers l → HeldSpec (k .spec) → HeldList cs → HeldList ds
-    → ((i : ℕ) → i < n → onlyRemoves (cellAt cs i) (cellAt ds i) ≡ true) → k .stamp .generation < lastGeneration → commitOf k cs (k .stamp) l ≡ answers (record { cells = ds; generation = k .stamp .generation + 1 })
-difference-committed k cs ds n room l first e hs hc hd r h = own-commit k cs l ∙ difference-own (k .spec) cs ds n room l first e hs hc hd r (k .stamp .generation) h
+pub difference-committed : (k : TurnStock) (cs bs ds : List Float) (n room : ℕ) (l : List TurnChange) → Matching (k .spec) cs bs → stockOf (k .spec) cs ≡ answers n → differenceOf (k .spec) cs ds room ≡ answers l → HeldSpec (k .spec) → HeldList cs → HeldList ds
+    → ((i : ℕ) → i < n → onlyRemoves (cellAt cs i) (cellAt ds i) ≡ true) → k .stamp .generation < lastGeneration → commitOf k cs bs (k .stamp) l ≡ answers (record { cells = ds; generation = k .stamp .generation + 1 })
+difference-committed k cs bs ds n room l m first e hs hc hd r h = own-commit k cs bs l m ∙ difference-own (k .spec) cs ds n room l first e hs hc hd r (k .stamp .generation) h

@@ -22,11 +22,10 @@ use Rattle.stock.specs.Stock.{sameStamp}
 use Rattle.changes.specs.declared.Applied.{Applied}
 use Rattle.changes.specs.declared.Applied.the-variants as applied
 use Rattle.changes.specs.Change.{roomOf, changeFrom, changeHeld, changesFrom}
-use Rattle.changes.specs.Commit.{onlyRemoves, appliesTo, passes, eachFrom, fallAfter, firstFall, passAll, putAll, commitIn, commitOf, Committed, appliedPaper, generationOf, stockAt, cellsAfter, Applies}
-use Rattle.changes.specs.Decide.{applies, rises, Decides, onCells, onStock, stampedStock, beginOf, stepOf, stepsOf, outcomeOf, raisedOf, concludeOf, isAccepted}
+use Rattle.changes.specs.Commit.{onlyRemoves, appliesTo, passes, eachFrom, fallAfter, firstFall, passAll, putAll, commitIn, askedStock, commitOf, Committed, appliedPaper, generationOf, stockAt, cellsAfter, Applies}
+use Rattle.changes.specs.Decide.{applies, rises, Decides, onCells, stepOf, stepsOf, outcomeOf, raisedOf, isAccepted}
 use Rattle.changes.proofs.Passed.{from-next, further}
 use Rattle.changes.proofs.Falls.{rises-none, from-length}
-use Rattle.changes.proofs.Written.{ask-then}
 use Rattle.stock.proofs.Count.{and-both}
 
 -- ---- how the changes that are left decide it
@@ -40,9 +39,8 @@ fallFrom false k i (c ∷ l) = fallAfter (suc k) (c .index) l
 -- a list that is decided so far, with the changes that are left
 unfoldable withRest : List Float → Decides → List TurnChange → Paper (Unit {0})
 withRest cs d l =
-    onward (d .stock) (λ _.
     demandNone (pick (d .rises) (fallFrom (d .any) (d .count) (d .last) l) (some (d .fall))) 7
-    (onward (d .found) (λ _. eachFrom (d .spec) (d .n) cs (d .count) l)))
+    (onward (d .found) (λ _. eachFrom (d .spec) (d .n) cs (d .count) l))
 
 -- no more changes: the fall that is found, if any
 fall-end : (r any : Bool) (k i f : ℕ) (q : Paper (Unit {0})) → demandAt r 7 f q ≡ demandNone (pick r (fallFrom any k i []) (some f)) 7 q
@@ -90,16 +88,16 @@ module _ (cs : List Float) where
   comes-end : (d : Decides) → outcomeOf d ≡ withRest cs d []
   unfolding outcomeOf withRest
   comes-end d =
-      ap (λ (q : Paper (Unit {0})). onward (d .stock) (λ _. q)) (fall-end (d .rises) (d .any) (d .count) (d .last) (d .fall) (d .found))
-      ∙ ap (λ (q : Paper (Unit {0})). onward (d .stock) (λ _. demandNone (pick (d .rises) (fallFrom (d .any) (d .count) (d .last) []) (some (d .fall))) 7 q)) (sym (found-end (d .spec) (d .n) (d .count) (d .found)))
+      fall-end (d .rises) (d .any) (d .count) (d .last) (d .fall) (d .found)
+      ∙ ap (λ (q : Paper (Unit {0})). demandNone (pick (d .rises) (fallFrom (d .any) (d .count) (d .last) []) (some (d .fall))) 7 q) (sym (found-end (d .spec) (d .n) (d .count) (d .found)))
 
   comes-on : (d : Decides) (c : TurnChange) (l : List TurnChange) → d .count + suc (length l) ≤ lastPlace → withRest cs (stepOf cs d c) l ≡ withRest cs d (c ∷ l)
   unfolding withRest
   comes-on d c l h =
       let e = next-place (d .count) (length l) h in
-      ap (λ (o : Option ℕ). onward (d .stock) (λ _. demandNone o 7 (onward (onward (d .found) (λ _. placed (d .count) (passes (d .spec) (d .n) cs c))) (λ _. eachFrom (d .spec) (d .n) cs (min (d .count + 1) lastPlace) l))))
+      ap (λ (o : Option ℕ). demandNone o 7 (onward (onward (d .found) (λ _. placed (d .count) (passes (d .spec) (d .n) cs c))) (λ _. eachFrom (d .spec) (d .n) cs (min (d .count + 1) lastPlace) l)))
       (fall-on (d .rises) (d .any) (d .count) (min (d .count + 1) lastPlace) (d .last) (d .fall) c l e)
-      ∙ ap (λ (q : Paper (Unit {0})). onward (d .stock) (λ _. demandNone (pick (d .rises) (fallFrom (d .any) (d .count) (d .last) (c ∷ l)) (some (d .fall))) 7 q))
+      ∙ ap (λ (q : Paper (Unit {0})). demandNone (pick (d .rises) (fallFrom (d .any) (d .count) (d .last) (c ∷ l)) (some (d .fall))) 7 q)
       (found-on (d .spec) (d .n) (d .count) (min (d .count + 1) lastPlace) c l (d .found) e)
 
   comes : (d : Decides) (l : List TurnChange) → d .count + length l ≤ lastPlace → outcomeOf (stepsOf cs d l) ≡ withRest cs d l
@@ -108,22 +106,9 @@ module _ (cs : List Float) where
 
   -- ---- from the first change on, of a list that a machine can hold
 
-  -- on n cells that are not asked
-  pub on-cells : (s : TurnStockSpec) (n : ℕ) (l : List TurnChange) → length l ≤ lastPlace → outcomeOf (stepsOf cs (onCells s n) l) ≡ passAll s n cs l
+  pub outcome-is : (s : TurnStockSpec) (n : ℕ) (l : List TurnChange) → length l ≤ lastPlace → outcomeOf (stepsOf cs (onCells s n) l) ≡ passAll s n cs l
   unfolding withRest onward passAll
-  on-cells s n l h = comes (onCells s n) l (from-first l h) ∙ ap (λ (o : Option ℕ). demandNone o 7 (eachFrom s n cs 0 l)) (pick-true true (fallFrom false 0 0 l) (some 0) refl ∙ first-is l)
-
-  -- of a stock that is asked: 1, 2, 3, 19, then 7, then change by change
-  pub from-begin : (k : TurnStock) (st : Stamp) (l : List TurnChange) → length l ≤ lastPlace → outcomeOf (stepsOf cs (beginOf k cs st) l) ≡ onward (stampedStock k cs st) (λ n. passAll (cleanSpec (k .spec)) n cs l)
-  unfolding beginOf onward withRest
-  from-begin k st l h = at-stock (stampedStock k cs st)
-    where
-      s : TurnStockSpec
-      s = cleanSpec (k .spec)
-
-      at-stock : (p : Paper ℕ) → outcomeOf (stepsOf cs (onStock s p) l) ≡ onward p (λ n. passAll s n cs l)
-      at-stock (answers n) = on-cells s n l h
-      at-stock (refuses r) = comes (onStock s (refuses r)) l (from-first l h)
+  outcome-is s n l h = comes (onCells s n) l (from-first l h) ∙ ap (λ (o : Option ℕ). demandNone o 7 (eachFrom s n cs 0 l)) (pick-true true (fallFrom false 0 0 l) (some 0) refl ∙ first-is l)
 
   -- ---- the lent lists, change by change
   sides : (p q r m : Paper (Unit {0})) → q ≡ onward r (λ _. m) → onward p (λ _. q) ≡ onward (onward p (λ _. r)) (λ _. m)
@@ -227,29 +212,10 @@ raised-in s n cs gen l = at-pass (passAll s n cs l)
     at-pass (answers a) = at-test (ltb gen lastGeneration)
     at-pass (refuses r) = refl
 
--- a commit asks for the list's stamp with the stock
-pub commit-asks : (k : TurnStock) (cs : List Float) (st : Stamp) (l : List TurnChange) → commitOf k cs st l ≡ onward (stampedStock k cs st) (λ n. commitIn (cleanSpec (k .spec)) n cs (k .stamp .generation) l)
-unfolding commitOf stampedStock
-commit-asks k cs st l = ask-then (stockOf (k .spec) cs) (sameStamp st (k .stamp)) 19 (λ n. commitIn (cleanSpec (k .spec)) n cs (k .stamp .generation) l)
-
-pub conclude-is : (k : TurnStock) (cs : List Float) (st : Stamp) (l : List TurnChange) → length l ≤ lastPlace → concludeOf (stepsOf cs (beginOf k cs st) l) (k .stamp .generation) ≡ generationOf (commitOf k cs st l)
-unfolding onward raisedOf
-conclude-is k cs st l h =
-    ap (λ (p : Paper (Unit {0})). raisedOf p (k .stamp .generation)) (from-begin cs k st l h)
-    ∙ at-stock (stampedStock k cs st)
-    ∙ ap generationOf (sym (commit-asks k cs st l))
-  where
-    s : TurnStockSpec
-    s = cleanSpec (k .spec)
-
-    at-stock : (p : Paper ℕ) → raisedOf (onward p (λ n. passAll s n cs l)) (k .stamp .generation) ≡ generationOf (onward p (λ n. commitIn s n cs (k .stamp .generation) l))
-    at-stock (answers n) = raised-in s n cs (k .stamp .generation) l
-    at-stock (refuses r) = refl
-
 -- ---- what a commit leaves, by its answer
 
 -- whether a paper answers
-abbrev answering : {A : Type 0} → Paper A → Bool
+abbrev pub answering : {A : Type 0} → Paper A → Bool
 answering (answers a) = true
 answering (refuses r) = false
 
@@ -284,10 +250,10 @@ module _ (cs : List Float) (gen : ℕ) (l : List TurnChange) where
       at-pass (answers a) = puts-test (ltb gen lastGeneration)
       at-pass (refuses r) = λ e. absurd (false≢true e)
 
--- so of a list that is asked for its stamp
-pub puts-all : (k : TurnStock) (cs : List Float) (st : Stamp) (l : List TurnChange) → Puts cs (k .stamp .generation) l (commitOf k cs st l)
-unfolding onward
-puts-all k cs st l = subst (Puts cs (k .stamp .generation) l) (sym (commit-asks k cs st l)) (at-stock (stampedStock k cs st))
+-- so of a list that a stock is asked for
+pub puts-all : (k : TurnStock) (cs bs : List Float) (st : Stamp) (l : List TurnChange) → Puts cs (k .stamp .generation) l (commitOf k cs bs st l)
+unfolding onward commitOf
+puts-all k cs bs st l = at-stock (askedStock k cs bs st)
   where
     s : TurnStockSpec
     s = cleanSpec (k .spec)
@@ -302,11 +268,11 @@ leaves (refuses r) cs e = refl
 
 -- the answer is accepted and the cells are written, or it is a refusal and they are as they were
 module _ (k : TurnStock) (p : Paper Committed) (cs : List Float) (r : Applied) (e : appliedPaper r ≡ stockAt k (generationOf p)) where
-  same : isAccepted r ≡ answering p
-  same = accepted-is r ∙ ap answering e ∙ at-is k (generationOf p) ∙ answering-is p
+  pub accepted-as : isAccepted r ≡ answering p
+  accepted-as = accepted-is r ∙ ap answering e ∙ at-is k (generationOf p) ∙ answering-is p
 
   pub written : (gen : ℕ) (l : List TurnChange) → Puts cs gen l p → isAccepted r ≡ true → (cs' : List Float) → cs' ≡ putAll cs l → Applies k p r cs cs'
-  written gen l puts a cs' q = record { answer = e; cells = q ∙ sym (puts (sym same ∙ a)) }
+  written gen l puts a cs' q = record { answer = e; cells = q ∙ sym (puts (sym accepted-as ∙ a)) }
 
   pub refused : isAccepted r ≡ false → Applies k p r cs cs
-  refused a = record { answer = e; cells = sym (leaves p cs (sym same ∙ a)) }
+  refused a = record { answer = e; cells = sym (leaves p cs (sym accepted-as ∙ a)) }

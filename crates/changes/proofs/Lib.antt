@@ -7,6 +7,7 @@ pub mod Falls
 pub mod Written
 pub mod Stamped
 pub mod Decided
+pub mod Kept
 pub mod Differences
 pub mod Stocks
 pub mod Accepted

@@ -3,7 +3,7 @@ use mathlib.Core.Path.{_≡_}
 use mathlib.Core.Bool.{Bool, _&&_}
 use mathlib.Core.List.{List, [], _∷_, foldl}
 use mathlib.Core.Option.{Option, none, some}
-use Prim.Native.Nat.{ℕ, suc, _+_, min}
+use Prim.Native.Nat.{ℕ, suc, _+_, _/_, min}
 use lib.Dec.{leb, ltb}
 use lib.ListN.{length}
 use lib.Ieee.{Float, le}
@@ -21,6 +21,7 @@ use Rattle.stock.specs.declared.TurnStock.{TurnStock}
 use Rattle.stock.specs.Spec.{cleanSpec}
 use Rattle.stock.specs.Cell.{cellAt, cellFits, sameCell, stockOf, putCell}
 use Rattle.stock.specs.Stock.{sameStamp, stockWith}
+use Rattle.blocks.specs.Block.{blocksOf, matchesOf}
 use Rattle.changes.specs.Change.{roomOf, changesFrom}
 use Rattle.changes.specs.declared.ChangeList.{ChangeList}
 use Rattle.changes.specs.declared.Passing.{Passing}
@@ -102,20 +103,24 @@ commitIn s n cs gen l =
 abbrev pub commitHeld : TurnStockSpec → ℕ → List Float → ℕ → List ℕ → List Float → ℕ → Paper Committed
 commitHeld s n cs gen is xs k = commitIn s n cs gen (changesFrom is xs (min k (roomOf (length is) (length xs))))
 
--- a commit of a list of changes with its stamp: 1, 2, 3, 19 unless the stamp is the stock's, 7, then 8, 21, 22, 23 change by change, 12
-unfoldable pub commitOf : TurnStock → List Float → Stamp → List TurnChange → Paper Committed
-commitOf k cs st l =
+-- the number of cells of a stock that is asked for a commit: 1, 2, 3, 19 unless the list's stamp is the stock's, 20 unless the kept numbers match the cells
+unfoldable pub askedStock : TurnStock → List Float → List Float → Stamp → Paper ℕ
+askedStock k cs bs st =
     onward (stockOf (k .spec) cs) (λ n.
     demand (sameStamp st (k .stamp)) 19
-    (commitIn (cleanSpec (k .spec)) n cs (k .stamp .generation) l))
+    (demand (matchesOf (cleanSpec (k .spec)) n cs bs) 20
+    (answers n)))
 
--- a commit of a change list from the lent lists: the same, with 6 directly after 19 where they hold fewer
-unfoldable pub applyOf : TurnStock → List Float → ChangeList → List ℕ → List Float → Paper Committed
-applyOf k cs list is xs =
-    onward (stockOf (k .spec) cs) (λ n.
-    demand (sameStamp (list .stamp) (k .stamp)) 19
-    (demand (leb (list .count) (roomOf (length is) (length xs))) 6
-    (commitIn (cleanSpec (k .spec)) n cs (k .stamp .generation) (changesFrom is xs (list .count)))))
+-- a commit of a list of changes with its stamp: 1, 2, 3, 19, 20, then 7, 8, 21, 22, 23 change by change, 12
+unfoldable pub commitOf : TurnStock → List Float → List Float → Stamp → List TurnChange → Paper Committed
+commitOf k cs bs st l = onward (askedStock k cs bs st) (λ n. commitIn (cleanSpec (k .spec)) n cs (k .stamp .generation) l)
+
+-- a commit of a change list from the lent lists: the same, with 6 directly after 20 where they hold fewer
+unfoldable pub applyOf : TurnStock → List Float → List Float → ChangeList → List ℕ → List Float → Paper Committed
+applyOf k cs bs list is xs =
+    onward (askedStock k cs bs (list .stamp)) (λ n.
+    demand (leb (list .count) (roomOf (length is) (length xs))) 6
+    (commitIn (cleanSpec (k .spec)) n cs (k .stamp .generation) (changesFrom is xs (list .count))))
 
 -- what the answer of a commit says, case by case
 abbrev pub appliedPaper : Applied → Paper TurnStock
@@ -142,10 +147,27 @@ pub record Applies (k : TurnStock) (p : Paper Committed) (r : Applied) (cs cs' :
   pub answer : appliedPaper r ≡ stockAt k (generationOf p)
   pub cells : cs' ≡ cellsAfter p cs
 
--- of lent cells, at both moments
+-- the kept numbers of a stock with these cells: two for each block, worked out of them
+abbrev pub numbersKept : TurnStockSpec → List Float → List Float
+numbersKept spec cs = blocksOf (cleanSpec spec) (length cs / 4) cs
+
+-- those after a commit are the ones of the cells then; a refusal leaves them
+abbrev pub keptAfter : TurnStock → Paper Committed → List Float → List Float
+keptAfter k (answers c) bs = numbersKept (k .spec) (c .cells)
+keptAfter k (refuses n) bs = bs
+
+-- the answer, the lent cells and the kept numbers after a commit to the stock k
+pub record AppliesKept (k : TurnStock) (p : Paper Committed) (r : Applied) (cs cs' bs bs' : List Float) : Type 0 where
+  pub left : Applies k p r cs cs'
+  pub kept : bs' ≡ keptAfter k p bs
+
+-- of lent cells, and of lent cells and kept numbers, at both moments
 abbrev pub Commits : TurnStock → Paper Committed → Applied → Lent Float → Type 0
 Commits k p r cells = Applies k p r (now (cells .entry)) (now (cells .exit))
 
--- ---- the commit of a stock's own list. Proved equal to `commitOf` with the stock's stamp (`own-commit`, proofs/Stamped); need not be believed.
+abbrev pub CommitsKept : TurnStock → Paper Committed → Applied → Lent Float → Lent Float → Type 0
+CommitsKept k p r cells blocks = AppliesKept k p r (now (cells .entry)) (now (cells .exit)) (now (blocks .entry)) (now (blocks .exit))
+
+-- ---- the commit of a stock's own list, of which no kept numbers are asked: what a job makes
 unfoldable pub ownCommit : TurnStockSpec → List Float → ℕ → List TurnChange → Paper Committed
 ownCommit spec cs gen l = onward (stockOf spec cs) (λ n. commitIn (cleanSpec spec) n cs gen l)

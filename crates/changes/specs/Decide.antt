@@ -1,5 +1,6 @@
--- Proved equal to `commitOf` (`conclude-is`, proofs/Stamped); need not be believed.
+-- Proved equal to `passAll` (`outcome-is`, proofs/Decided) and to `commitIn` (`raised-in`); need not be believed.
 -- A list of changes that is decided change by change: how far it is, one change on, and how it comes out. Assumes nothing.
+use mathlib.Core.Path.{_≡_}
 use mathlib.Core.Bool.{Bool, true, false, not, _&&_, _||_}
 use mathlib.Core.List.{List, [], _∷_, foldl}
 use Prim.Native.Nat.{ℕ, _+_, min}
@@ -10,15 +11,14 @@ use Rattle.refusals.specs.Limits.{lastGeneration, lastPlace}
 use Rattle.floats.specs.Pick.{pick}
 use Rattle.stock.specs.declared.TurnStockSpec.{TurnStockSpec}
 use Rattle.stock.specs.declared.TurnChange.{TurnChange}
-use Rattle.stock.specs.declared.Stamp.{Stamp}
 use Rattle.stock.specs.declared.TurnStock.{TurnStock}
 use Rattle.stock.specs.Spec.{cleanSpec}
-use Rattle.stock.specs.Cell.{cellAt, sameCell, stockOf}
-use Rattle.stock.specs.Stock.{sameStamp}
+use Rattle.stock.specs.Cell.{cellAt, sameCell}
+use Rattle.blocks.specs.Renew.{renewedFor}
 use Rattle.changes.specs.declared.Applied.{Applied}
 use Rattle.changes.specs.declared.Applied.the-variants.{Stock, Refused, RefusedAt}
 use Rattle.changes.specs.declared.Deciding.{Deciding}
-use Rattle.changes.specs.Commit.{onlyRemoves, passes, passingPaper}
+use Rattle.changes.specs.Commit.{onlyRemoves, passes, passingPaper, Committed, Applies}
 
 -- ---- two tests that are asked at once
 
@@ -41,8 +41,6 @@ rises (c ∷ l) = risesAfter (c .index) l
 pub record Decides : Type 0 where
   pub spec : TurnStockSpec
   pub n : ℕ
-  -- whether the stock itself passes
-  pub stock : Paper (Unit {0})
   -- the last index seen, if any
   pub any : Bool
   pub last : ℕ
@@ -55,31 +53,17 @@ pub record Decides : Type 0 where
 
 -- what the code holds of it, field by field
 abbrev pub decidingPaper : Deciding → Decides
-decidingPaper st = record { spec = st .s; n = st .n; stock = passingPaper (st .stock); any = st .any; last = st .last; rises = st .rises; count = st .count; fall = st .fall; found = passingPaper (st .found) }
+decidingPaper st = record { spec = st .s; n = st .n; any = st .any; last = st .last; rises = st .rises; count = st .count; fall = st .fall; found = passingPaper (st .found) }
 
 -- before the first change, on n cells that are not asked
 abbrev pub onCells : TurnStockSpec → ℕ → Decides
-onCells s n = record { spec = s; n = n; stock = answers tt; any = false; last = 0; rises = true; count = 0; fall = 0; found = answers tt }
-
--- the same on what the stock's check says
-abbrev pub onStock : TurnStockSpec → Paper ℕ → Decides
-onStock s (answers n) = onCells s n
-onStock s (refuses r) = record { spec = s; n = 0; stock = refuses r; any = false; last = 0; rises = true; count = 0; fall = 0; found = answers tt }
-
--- the number of cells of a stock that a list of this stamp is of: 1, 2, 3, 19
-unfoldable pub stampedStock : TurnStock → List Float → Stamp → Paper ℕ
-stampedStock k cs st = onward (stockOf (k .spec) cs) (λ n. demand (sameStamp st (k .stamp)) 19 (answers n))
-
--- before the first change
-unfoldable pub beginOf : TurnStock → List Float → Stamp → Decides
-beginOf k cs st = onStock (cleanSpec (k .spec)) (stampedStock k cs st)
+onCells s n = record { spec = s; n = n; any = false; last = 0; rises = true; count = 0; fall = 0; found = answers tt }
 
 -- one change on
 abbrev pub stepOf : List Float → Decides → TurnChange → Decides
 stepOf cs d c = record {
   spec = d .spec;
   n = d .n;
-  stock = d .stock;
   any = true;
   last = c .index;
   rises = d .rises && (not (d .any) || ltb (d .last) (c .index));
@@ -92,20 +76,21 @@ stepOf cs d c = record {
 abbrev pub stepsOf : List Float → Decides → List TurnChange → Decides
 stepsOf cs d l = foldl (stepOf cs) d l
 
--- how it comes out: the stock's refusal, 7, then the first change that does not pass
+-- how it comes out: 7, then the first change that does not pass
 unfoldable pub outcomeOf : Decides → Paper (Unit {0})
-outcomeOf d = onward (d .stock) (λ _. demandAt (d .rises) 7 (d .fall) (d .found))
+outcomeOf d = demandAt (d .rises) 7 (d .fall) (d .found)
 
 -- the generation after changes that pass: 12
 unfoldable pub raisedOf : Paper (Unit {0}) → ℕ → Paper ℕ
 raisedOf p gen = onward p (λ _. demand (ltb gen lastGeneration) 12 (answers (gen + 1)))
-
--- after the last change
-abbrev pub concludeOf : Decides → ℕ → Paper ℕ
-concludeOf d gen = raisedOf (outcomeOf d) gen
 
 -- an answer that is no refusal
 abbrev pub isAccepted : Applied → Bool
 isAccepted (Stock k) = true
 isAccepted (Refused c) = false
 isAccepted (RefusedAt c k) = false
+
+-- ---- the kept numbers of a commit that asks nothing again: where it is accepted, the blocks of the first k bins of a list are worked out of the cells afterwards
+pub record CommitsThen (k : TurnStock) (n : ℕ) (p : Paper Committed) (r : Applied) (cs cs' bs bs' : List Float) (is : List ℕ) (j : ℕ) : Type 0 where
+  pub left : Applies k p r cs cs'
+  pub kept : bs' ≡ pick (isAccepted r) (renewedFor (cleanSpec (k .spec)) n cs' is j bs) bs

@@ -4,10 +4,12 @@
 // the cell after. What a cut changes, and how two stocks differ, is listed by rising index: a function
 // says what the cell of each bin becomes, and the bins whose cell is then another one are the changes.
 //
-// A commit decides everything before it writes: the indices rise, and each change in turn leaves a
-// cell that fits, names a bin that holds its before-cell, and only removes material. A list is decided
-// by one fold, wherever its changes lie: it begins, goes a step for each change, and concludes. Then
-// every after-cell is written and the generation rises by one, also with no changes.
+// A commit decides everything before it writes: the list is the stock's, the kept numbers match the
+// cells, the indices rise, and each change in turn leaves a cell that fits, names a bin that holds its
+// before-cell, and only removes material. A list is decided by one fold, wherever its changes lie: it
+// begins, goes a step for each change, and comes out. Then every after-cell is written, the kept numbers
+// of the blocks in which they lie are worked out again, and the generation rises by one, also with no
+// changes.
 ghost use mathlib.Core.Path.{_≡_};
 ghost use Prim.Native.Nat.{_+_, _*_, _≤_, _<_, min};
 ghost use lib.ListN.{length};
@@ -16,8 +18,8 @@ ghost use Rattle.refusals.specs.Paper.{placeOr, placed, onward};
 ghost use Rattle.floats.specs.Pick.{pick};
 ghost use Rattle.stock.specs.Spec.{cleanSpec, countedPaper};
 ghost use Rattle.changes.specs.Change.{roomOf, changeHeld, changesFrom, changesTo, settled, PutsChange, ListsChange, ListsBelow, RoomFor, tallyPaper, previewedPaper, stamped, Tallies, Proposes};
-ghost use Rattle.changes.specs.Commit.{onlyRemoves, appliesTo, passes, passingPaper, eachFrom, firstFall, firstRefusal, putHeld, commitHeld, applyOf, appliedPaper, stockAt, Commits};
-ghost use Rattle.changes.specs.Decide.{applies, rises, decidingPaper, onCells, stampedStock, beginOf, stepOf, outcomeOf, raisedOf, concludeOf, isAccepted};
+ghost use Rattle.changes.specs.Commit.{onlyRemoves, appliesTo, passes, passingPaper, eachFrom, firstFall, firstRefusal, putHeld, commitHeld, askedStock, applyOf, appliedPaper, stockAt, Commits, CommitsKept};
+ghost use Rattle.changes.specs.Decide.{applies, rises, decidingPaper, onCells, stepOf, outcomeOf, raisedOf, isAccepted, CommitsThen};
 ghost use Rattle.changes.specs.Difference.{otherCell, differenceOf};
 use refusals::LAST_GENERATION;
 use refusals::LAST_PLACE;
@@ -177,8 +179,6 @@ fn change_passes(s: TurnStockSpec, n: usize, cells: &[f64], change: TurnChange) 
 pub struct Deciding {
     s: TurnStockSpec,
     n: usize,
-    // whether the stock itself passes
-    stock: Passing,
     any: bool,
     last: usize,
     rises: bool,
@@ -189,14 +189,13 @@ pub struct Deciding {
     found: Passing,
 }
 
-// Before the first change, on n cells that are not asked.
-fn on_cells(s: TurnStockSpec, n: usize) -> Deciding
+// Before the first change, on n cells of a clean spec, which are not asked.
+pub fn begin(s: TurnStockSpec, n: usize) -> Deciding
     ensures { λ r. ⌜ decidingPaper r ≡ onCells s n ⌝ }
 {
     Deciding {
         s,
         n,
-        stock: Passing::Pass,
         any: false,
         last: 0,
         rises: true,
@@ -206,41 +205,22 @@ fn on_cells(s: TurnStockSpec, n: usize) -> Deciding
     }
 }
 
-// The number of cells of a stock that a list of this stamp is of; 1, 2, 3, 19.
-fn stamped_cells(stock: TurnStock, cells: &[f64], stamp: Stamp) -> Counted
-    ensures { λ r. ⌜ countedPaper r ≡ stampedStock stock (now (cells .entry)) stamp ⌝ }
+// The number of cells of a stock that is asked for a commit of a list with this stamp; 1, 2, 3, 19, 20.
+pub fn asked_cells(stock: TurnStock, cells: &[f64], blocks: &[f64], stamp: Stamp) -> Counted
+    ensures { λ r. ⌜ countedPaper r ≡ askedStock stock (now (cells .entry)) (now (blocks .entry)) stamp ⌝ }
 {
     let counted = stock::cells_fit(stock.spec, cells);
     match counted {
         Counted::Refused(r) => Counted::Refused(r),
         Counted::Cells(n) => {
-            if stock::same_stamp(stamp, stock.stamp) {
-                return Counted::Cells(n);
+            if !stock::same_stamp(stamp, stock.stamp) {
+                return Counted::Refused(Refusal::ListStale);
             }
-            Counted::Refused(Refusal::ListStale)
+            if !blocks::matches(stock::clean_spec(stock.spec), n, cells, blocks) {
+                return Counted::Refused(Refusal::BlocksDoNotMatch);
+            }
+            Counted::Cells(n)
         }
-    }
-}
-
-// Before the first change of a list with this stamp; 1, 2, 3, 19.
-pub fn begin(stock: TurnStock, cells: &[f64], stamp: Stamp) -> Deciding
-    ensures { λ r. ⌜ decidingPaper r ≡ beginOf stock (now (cells .entry)) stamp ⌝ }
-{
-    let counted = stamped_cells(stock, cells, stamp);
-    let s = stock::clean_spec(stock.spec);
-    match counted {
-        Counted::Refused(r) => Deciding {
-            s,
-            n: 0,
-            stock: Passing::Refused(r),
-            any: false,
-            last: 0,
-            rises: true,
-            count: 0,
-            fall: 0,
-            found: Passing::Pass,
-        },
-        Counted::Cells(n) => on_cells(s, n),
     }
 }
 
@@ -299,7 +279,6 @@ pub fn step(st: Deciding, cells: &[f64], change: TurnChange) -> Deciding
 {
     let s = st.s;
     let n = st.n;
-    let stock = st.stock;
     let before = st.found;
     let index = change.index;
     let k = st.count;
@@ -310,7 +289,6 @@ pub fn step(st: Deciding, cells: &[f64], change: TurnChange) -> Deciding
     Deciding {
         s,
         n,
-        stock,
         any: true,
         last: index,
         rises,
@@ -320,26 +298,18 @@ pub fn step(st: Deciding, cells: &[f64], change: TurnChange) -> Deciding
     }
 }
 
-// After the last change: the stock's refusal, 7, then the first change that does not pass.
-fn outcome(st: Deciding) -> Passing
+// After the last change: 7, then the first change that does not pass.
+pub fn outcome(st: Deciding) -> Passing
     ensures { λ r. ⌜ passingPaper r ≡ outcomeOf (decidingPaper st) ⌝ }
 {
-    let stock = st.stock;
-    let found = st.found;
-    match stock {
-        Passing::Refused(r) => Passing::Refused(r),
-        Passing::RefusedAt(r, k) => Passing::RefusedAt(r, k),
-        Passing::Pass => {
-            if !st.rises {
-                return Passing::RefusedAt(Refusal::IndicesDoNotRise, st.fall);
-            }
-            found
-        }
+    if !st.rises {
+        return Passing::RefusedAt(Refusal::IndicesDoNotRise, st.fall);
     }
+    st.found
 }
 
 // The stock after changes that pass; 12.
-fn raised(found: Passing, stock: TurnStock) -> Applied
+pub fn raised(found: Passing, stock: TurnStock) -> Applied
     ensures { λ r. ⌜ appliedPaper r ≡ stockAt stock (raisedOf (passingPaper found) (stock .stamp .generation)) ⌝ }
 {
     match found {
@@ -353,14 +323,6 @@ fn raised(found: Passing, stock: TurnStock) -> Applied
             Applied::Stock(stock::stock_with(stock, stock.rings, generation + 1))
         }
     }
-}
-
-// After the last change: the refusal of the stock or of the list's stamp, 7, then the first change that
-// does not pass, 12.
-pub fn conclude(st: Deciding, stock: TurnStock) -> Applied
-    ensures { λ r. ⌜ appliedPaper r ≡ stockAt stock (concludeOf (decidingPaper st) (stock .stamp .generation)) ⌝ }
-{
-    raised(outcome(st), stock)
 }
 
 // Change j of the lent lists; one of no numbers where they hold none.
@@ -522,25 +484,51 @@ pub fn commit_unasked(
     answer
 }
 
-// Commit a change list: the stock afterwards; 1, 2, 3, 19 where the list's stamp is not the stock's, 6
-// where the lists hold fewer changes, 7, then change by change 8, 21, 22, 23, then 12.
+// The same, with the kept numbers of the blocks in which its bins lie, where it is accepted.
+fn commit_kept(
+    stock: TurnStock,
+    n: usize,
+    cells: &mut [f64],
+    blocks: &mut [f64],
+    indices: &[usize],
+    records: &[f64],
+    k: usize,
+) -> Applied
+    ensures { λ r. ⌜ CommitsThen stock n (commitHeld (cleanSpec (stock .spec)) n (now (cells .entry)) (stock .stamp .generation)
+        (now (indices .entry)) (now (records .entry)) k) r (now (cells .entry)) (now (cells .exit)) (now (blocks .entry)) (now (blocks .exit)) (now (indices .entry)) k ⌝ }
+{
+    let answer = commit_unasked(stock, n, cells, indices, records, k);
+    if !is_accepted(answer) {
+        return answer;
+    }
+    let s = stock::clean_spec(stock.spec);
+    blocks::renew_changed(s, n, cells, blocks, indices, k);
+    answer
+}
+
+// Commit a change list: the stock afterwards; 1, 2, 3, 19 where the list's stamp is not the stock's, 20
+// where the kept numbers do not match the cells, 6 where the lists hold fewer changes, 7, then change by
+// change 8, 21, 22, 23, then 12.
 pub fn apply(
     stock: TurnStock,
     cells: &mut [f64],
+    blocks: &mut [f64],
     list: ChangeList,
     indices: &[usize],
     records: &[f64],
 ) -> Applied
-    ensures { λ r. ⌜ Commits stock (applyOf stock (now (cells .entry)) list (now (indices .entry)) (now (records .entry))) r cells ⌝ }
+    ensures { λ r. ⌜ CommitsKept stock
+        (applyOf stock (now (cells .entry)) (now (blocks .entry)) list (now (indices .entry)) (now (records .entry)))
+        r cells blocks ⌝ }
 {
-    let counted = stamped_cells(stock, cells, list.stamp);
+    let counted = asked_cells(stock, cells, blocks, list.stamp);
     match counted {
         Counted::Refused(r) => Applied::Refused(r),
         Counted::Cells(n) => {
             if room(indices.len(), records.len()) < list.count {
                 return Applied::Refused(Refusal::ChangesOverRoom);
             }
-            commit_unasked(stock, n, cells, indices, records, list.count)
+            commit_kept(stock, n, cells, blocks, indices, records, list.count)
         }
     }
 }

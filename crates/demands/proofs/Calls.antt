@@ -43,6 +43,7 @@ use Rattle.changes.proofs.Accepted.{commit-is, put-good, good-bins}
 use Rattle.changes.proofs.Proposal.{lent-is, act-cuts}
 use Rattle.demands.specs.Tool.{Cutter, cutterAct, cutterPreview, HeldCutter, ToolsOf, ToolsAt}
 use Rattle.demands.specs.Run.{Ran, start, cut}
+use Rattle.demands.proofs.Matched.{apply-matching}
 use Rattle.demands.proofs.InTurn.{next, start-ordered}
 use Rattle.demands.proofs.Third.{all-sides, perm-length}
 use Rattle.demands.proofs.Tools.{tool-sound, accepted-good, tools-each}
@@ -71,10 +72,10 @@ pub record Called (spec : TurnStockSpec) (n : ℕ) (t : Cutter) (cs cs' : List F
   pub plain : PlainAct n (cutterAct spec t)
   pub generation : g ≡ gen + 1
 
-pub called : {spec : TurnStockSpec} {edition rings n : ℕ} → HeldSpec spec → (t : Cutter) → HeldCutter t → {cs cs' : List Float} → Good spec n cs → (gen g : ℕ) (list : ChangeList) (is is' : List ℕ) (xs xs' : List Float)
+pub called : {spec : TurnStockSpec} {edition rings n : ℕ} → HeldSpec spec → (t : Cutter) → HeldCutter t → {cs cs' : List Float} (bs : List Float) → Good spec n cs → (gen g : ℕ) (list : ChangeList) (is is' : List ℕ) (xs xs' : List Float)
     → Proposed (stampOf edition gen) (cutterPreview spec t cs (roomOf (length is) (length xs))) (Listed list) is is' xs xs'
-    → Applies (stockFrom spec edition rings gen) (applyOf (stockFrom spec edition rings gen) cs list is' xs') (Stock (stockFrom spec edition rings g)) cs cs' → Called spec n t cs cs' gen g
-called {spec} {edition} {rings} {n} hs t ht {cs} {cs'} b gen g list is is' xs xs' p a =
+    → Applies (stockFrom spec edition rings gen) (applyOf (stockFrom spec edition rings gen) cs bs list is' xs') (Stock (stockFrom spec edition rings g)) cs cs' → Called spec n t cs cs' gen g
+called {spec} {edition} {rings} {n} hs t ht {cs} {cs'} bs b gen g list is is' xs xs' p a =
     let stock = stockFrom spec edition rings gen in
     let room = roomOf (length is) (length xs) in
     let f = actCell (cutterAct spec t) in
@@ -83,9 +84,9 @@ called {spec} {edition} {rings} {n} hs t ht {cs} {cs'} b gen g list is is' xs xs
     let s = tool-sound spec n hs (b .count) t ht (accepted-good spec t cs room (y .0) (y .1)) in
     let cuts = act-cuts b (cutterAct spec t) (s .plain) in
     let q = same-listing (stampOf edition gen) (proposed (cutterAct spec t) cs room n) (cutterPreview spec t cs room) (Listed list) is is' xs xs' (sym (s .rule cs room (good-stock b))) p in
-    let e = lent-is stock cs list l is is' xs xs' q ∙ commit-is b f cuts gen in
+    let e = lent-is stock cs bs (apply-matching stock (stockFrom spec edition rings g) cs cs' bs list is' xs' a) list l is is' xs xs' q ∙ commit-is b f cuts gen in
     let k : Committed = record { cells = putAll cs l; generation = gen + 1 } in
-    let w = kept spec edition rings gen (ltb gen lastGeneration) k g cs cs' (same-outcome stock (demand (ltb gen lastGeneration) 12 (answers k)) (applyOf stock cs list is' xs') (Stock (stockFrom spec edition rings g)) cs cs' (sym e) a) in
+    let w = kept spec edition rings gen (ltb gen lastGeneration) k g cs cs' (same-outcome stock (demand (ltb gen lastGeneration) 12 (answers k)) (applyOf stock cs bs list is' xs') (Stock (stockFrom spec edition rings g)) cs cs' (sym e) a) in
     record {
       good = subst (Good spec n) (sym (w .cells)) (put-good b f cuts);
       bins = λ i h. ap (λ (xs : List Float). cellAt xs i) (w .cells) ∙ good-bins b f cuts i h;
@@ -102,8 +103,8 @@ record After (spec : TurnStockSpec) (n : ℕ) (k : Committed) (l : List Cutter) 
 
 after : {spec : TurnStockSpec} {edition rings n : ℕ} → HeldSpec spec → {k m : Committed} {l : List Cutter} → Ran spec edition rings k l m → Each HeldCutter l → Good spec n (k .cells) → After spec n k l m
 after hs {k} start ht b = record { good = b; bins = λ i h. refl; plain = tt; generation = sym (add-zero (k .generation)) }
-after {spec} hs (cut {t} {l} {cs} {cs'} {gen} {g} {list} {is} {is'} {xs} {xs'} {m} p a r) ht b =
-    let w = called hs t (ht .0) b gen g list is is' xs xs' p a in
+after {spec} hs (cut {t} {l} {cs} {cs'} {bs} {bs'} {gen} {g} {list} {is} {is'} {xs} {xs'} {m} p a r) ht b =
+    let w = called hs t (ht .0) bs b gen g list is is' xs xs' p (a .left) in
     let v = after hs r (ht .1) (w .good) in
     record {
       good = v .good;

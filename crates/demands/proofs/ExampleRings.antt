@@ -2,6 +2,7 @@
 use mathlib.Core.Path.{_≡_, refl}
 use mathlib.Core.List.{List, [], _∷_, _++_}
 use Prim.Native.Nat.{ℕ}
+use lib.ListN.{length}
 use lib.Ieee
 use lib.Ieee.{Float, binary64, ofBits}
 use Rattle.refusals.specs.Paper.{only, demand, demandAt, demandNone, onward}
@@ -13,14 +14,16 @@ use Rattle.stock.specs.Spec.{cleanSpec, specGood, cellsOf}
 use Rattle.stock.specs.Cell.{cellFits, fitTo, cellsFit, stockOf, cellsLike}
 use Rattle.stock.specs.Stock.{sameStamp, stockFrom, newStock}
 use Rattle.changes.specs.Change.{changesFrom}
-use Rattle.changes.specs.Commit.{eachFrom, firstFall, passAll}
+use Rattle.blocks.specs.Block.{foldFrom, blockWith, blockOf, blocksTo, blockAt, matchTo, matchesOf}
+use Rattle.blocks.specs.Renew.{renewOf}
+use Rattle.changes.specs.Commit.{eachFrom, firstFall, passAll, numbersKept}
 use Rattle.rings.specs.declared.Ring.{Ring}
 use Rattle.rings.specs.Ring as Ring
 use Rattle.rings.specs.Ring.{kept, around, split, subtract, subtractAll, inHand, clip, left}
 use Rattle.rings.specs.Store.{ringsOf, flatOf, storeAs, ringFits, apartAll, storeFits, countFits, badFrom, badRing, raisedBy}
 use Rattle.rings.specs.Remove.{roomFor, added, addedAll, countOf, removeAllIn, removeRings, storedNext, removeIn, removeRing, countsOf, ringsAfter}
 use Rattle.moves.specs.declared.Rebuilt.the-variants as rebuilt
-use Rattle.moves.specs.Move.{generationAfter, moveIn, moveOf, partsOf, Rebuilds}
+use Rattle.moves.specs.Move.{generationAfter, movableOf, ringsMoved, takenOf, moveIn, moveOf, givenOf, partsOf, Rebuilds}
 use Rattle.text.specs.Parts.{intoFirst, partedAt}
 use Rattle.text.specs.Same.{sameBytes}
 use Rattle.text.specs.Whole.{allDigits, spelt, isWhole, wholeOf}
@@ -56,18 +59,22 @@ pub ring-taken : RanRings bar 3 none-stored (Ring.ring zero64 six two six ∷ []
 unfolding demand demandAt onward pick leastOf greatestOf sizeOf minusZero cleanOf over kept around split subtract subtractAll inHand clip left ringsOf flatOf storeAs ringFits apartAll storeFits countFits roomFor added storedNext removeIn removeRing countsOf ringsAfter cleanSpec specGood cellsOf wholeUp Ieee.ofBits Ieee.ofFields Ieee.odd Ieee.eq Ieee.ne Ieee.lt Ieee.le Ieee.div Ieee.sub Ieee.add Ieee.mul Ieee.neg Ieee.sum Ieee.round Ieee.units Ieee.ofInt Ieee.size Ieee.span Ieee.climb Ieee.toUnsigned
 ring-taken = ring (record { answer = refl; store = refl }) done
 
+-- the kept numbers of the whole bar
+abbrev barKept : List Float
+barKept = numbersKept bar (whole .cells)
+
 -- the same ring by a move of no changes
 abbrev ringed : Move
 ringed = record { indices = []; numbers = []; count = 0; removed = zero64 ∷ six ∷ two ∷ six ∷ [] }
 
 pub move-made : RanMoves bar 3 (record { cells = whole .cells; store = none-stored }) (ringed ∷ []) (record { cells = whole .cells; store = record { numbers = one; count = 1; generation = 2 } })
-unfolding demand demandNone onward pick leastOf greatestOf sizeOf minusZero cleanOf over kept around split subtract subtractAll inHand clip left ringsOf flatOf storeAs ringFits apartAll storeFits countFits badFrom badRing raisedBy roomFor added addedAll removeAllIn removeRings generationAfter sameStamp moveIn moveOf changesFrom eachFrom firstFall passAll cleanSpec specGood cellsOf wholeUp cellFits fitTo cellsFit stockOf Ieee.ofBits Ieee.ofFields Ieee.odd Ieee.eq Ieee.ne Ieee.lt Ieee.le Ieee.div Ieee.sub Ieee.add Ieee.mul Ieee.neg Ieee.sum Ieee.round Ieee.units Ieee.ofInt Ieee.size Ieee.span Ieee.climb Ieee.toUnsigned
-move-made = made-move (record { answer = refl; cells = refl; rings = refl }) no-moves
+unfolding demand demandNone onward pick leastOf greatestOf sizeOf minusZero cleanOf over kept around split subtract subtractAll inHand clip left ringsOf flatOf storeAs ringFits apartAll storeFits countFits badFrom badRing raisedBy roomFor added addedAll removeAllIn removeRings generationAfter sameStamp foldFrom blockWith blockOf blocksTo blockAt matchTo matchesOf movableOf ringsMoved takenOf moveIn moveOf changesFrom eachFrom firstFall passAll cleanSpec specGood cellsOf wholeUp cellFits fitTo cellsFit stockOf Ieee.ofBits Ieee.ofFields Ieee.odd Ieee.eq Ieee.ne Ieee.lt Ieee.le Ieee.div Ieee.sub Ieee.add Ieee.mul Ieee.neg Ieee.sum Ieee.round Ieee.units Ieee.ofInt Ieee.size Ieee.span Ieee.climb Ieee.toUnsigned
+move-made = made-move {bs = barKept} {bs' = barKept} (record { left = record { answer = refl; cells = refl; rings = refl }; kept = refl }) no-moves
 
 -- and by `from_parts`
-pub parts-rebuilt : Rebuilds bar 3 empty (partsOf bar (whole .cells) (zero64 ∷ six ∷ two ∷ six ∷ []) empty) (rebuilt.Stock (stockFrom bar 3 1 0)) one
-unfolding demand demandNone onward pick leastOf greatestOf sizeOf minusZero cleanOf over kept around split subtract subtractAll inHand clip left ringsOf flatOf storeAs ringFits apartAll storeFits countFits badFrom badRing roomFor added addedAll removeAllIn removeRings countOf partsOf cleanSpec specGood cellsOf wholeUp cellFits fitTo cellsFit stockOf Ieee.ofBits Ieee.ofFields Ieee.odd Ieee.eq Ieee.ne Ieee.lt Ieee.le Ieee.div Ieee.sub Ieee.add Ieee.mul Ieee.neg Ieee.sum Ieee.round Ieee.units Ieee.ofInt Ieee.size Ieee.span Ieee.climb Ieee.toUnsigned
-parts-rebuilt = record { answer = refl; store = refl }
+pub parts-rebuilt : Rebuilds bar 3 (whole .cells) (partsOf bar (whole .cells) (length barKept) (zero64 ∷ six ∷ two ∷ six ∷ []) empty) (rebuilt.Stock (stockFrom bar 3 1 0)) barKept barKept empty one
+unfolding demand demandNone onward pick leastOf greatestOf sizeOf minusZero cleanOf over kept around split subtract subtractAll inHand clip left ringsOf flatOf storeAs ringFits apartAll storeFits countFits badFrom badRing roomFor added addedAll removeAllIn removeRings countOf foldFrom blockWith blockOf blocksTo renewOf givenOf partsOf cleanSpec specGood cellsOf wholeUp cellFits fitTo cellsFit stockOf Ieee.ofBits Ieee.ofFields Ieee.odd Ieee.eq Ieee.ne Ieee.lt Ieee.le Ieee.div Ieee.sub Ieee.add Ieee.mul Ieee.neg Ieee.sum Ieee.round Ieee.units Ieee.ofInt Ieee.size Ieee.span Ieee.climb Ieee.toUnsigned
+parts-rebuilt = record { answer = refl; kept = refl; store = refl }
 
 -- ---- a job: the empty one offends at line 1, with 15
 pub empty-offends : (edition : ℕ) (cs rs : List Float) → Offends (state (freshRun edition) cs rs) (piecesOf []) 1 15

@@ -33,7 +33,9 @@ use Rattle.rings.proofs.InHand.{subtract-apart}
 use Rattle.rings.proofs.Prefix.{apart-turns, storeFits-snoc}
 use Rattle.rings.proofs.Taken.{fits-finite, rings-pass}
 use Rattle.rings.proofs.Removing.{fits-within}
-use Rattle.moves.specs.Move.{partsOf}
+use Rattle.blocks.specs.Block.{blocksIn}
+use Rattle.blocks.proofs.Renewing.{renew-goes}
+use Rattle.moves.specs.Move.{givenOf, partsOf}
 
 -- ---- a ring that fits is clipped to itself
 
@@ -160,11 +162,11 @@ held-rings xs (suc n) h = snoc (held-rings xs n h) (record { z0 = h (4 * n); z1 
     snoc none q = more q none
     snoc (more a l) q = more a (snoc l q)
 
--- A stock's cells, and the first m rings that pass 4's test, of 64 bits each number, handed to `from_parts` with room for them: they are the store, as they stand and in order.
+-- A stock's cells, and the first m rings that pass 4's test, of 64 bits each number, handed to `from_parts` with room for them and for two kept numbers a block: they are the store, as they stand and in order.
 pub parts-as-they-stand : (spec : TurnStockSpec) (cs rs : List Float) (n m : ℕ) → stockOf spec cs ≡ answers n → countFits (barRing (cleanSpec spec)) rs m ≡ true → ((i : ℕ) → T (fits binary64 (getD rs i nan)))
-    → (xs : List Float) → m ≤ ringRoom (length xs) → partsOf spec cs (take (4 * m) rs) xs ≡ answers (ringsOf m rs)
-unfolding partsOf removeRings removeAllIn ringsGood ringsOf
-parts-as-they-stand spec cs rs n m s f h xs room =
+    → (xs : List Float) → m ≤ ringRoom (length xs) → (len : ℕ) → len ≡ 2 * blocksIn n → partsOf spec cs len (take (4 * m) rs) xs ≡ answers (ringsOf m rs)
+unfolding partsOf givenOf removeRings removeAllIn ringsGood ringsOf
+parts-as-they-stand spec cs rs n m s f h xs room len two =
     let e = barRing (cleanSpec spec) in
     let given : List Float = take (4 * m) rs in
     let w = fits-within e rs m f in
@@ -176,7 +178,7 @@ parts-as-they-stand spec cs rs n m s f h xs room =
     let good : specGood (cleanSpec spec) ≡ true = checked spec n (stocked spec cs n s .count) .good in
     let fine : ringsGood given ≡ true = both-true (eq-eqb _ _ whole) (ap allGood same ∙ all-good spec (ringsOf m rs) good pass) in
     let few : 0 + length (ringsOf m rs) ≤ ringRoom (length xs) = omega (arith, length-rings m rs) in
-    ap (λ (p : Paper ℕ). onward p (λ _. demandNone (badRing given) 10 (demand (leb 0 (ringRoom (length xs))) 4 (addedAll e (ringRoom (length xs)) [] (ringsOf (length given / 4) given))))) s
+    ap (λ (p : Paper ℕ). onward p (λ _. demandNone (badRing given) 10 (demand (leb 0 (ringRoom (length xs))) 4 (addedAll e (ringRoom (length xs)) [] (ringsOf (length given / 4) given))))) (sym (renew-goes spec cs len n (blocksIn n) s refl two))
     ∙ onward-answers n (λ _. demandNone (badRing given) 10 (demand (leb 0 (ringRoom (length xs))) 4 (addedAll e (ringRoom (length xs)) [] (ringsOf (length given / 4) given))))
     ∙ demandNone-none (badRing given) 10 (demand (leb 0 (ringRoom (length xs))) 4 (addedAll e (ringRoom (length xs)) [] (ringsOf (length given / 4) given))) (rings-none given fine)
     ∙ demand-true (leb 0 (ringRoom (length xs))) 4 (addedAll e (ringRoom (length xs)) [] (ringsOf (length given / 4) given)) (le-leb 0 (ringRoom (length xs)) (omega arith))

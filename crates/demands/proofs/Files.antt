@@ -13,6 +13,8 @@ use Rattle.stock.specs.declared.TurnStockSpec.{TurnStockSpec}
 use Rattle.stock.specs.Spec.{cleanSpec}
 use Rattle.stock.specs.Cell.{stockOf}
 use Rattle.rings.specs.Store.{ringsOf, barRing, ringRoom, countFits}
+use Rattle.stock.specs.Cell.{stockOf}
+use Rattle.blocks.specs.Block.{blocksIn}
 use Rattle.moves.specs.Move.{partsOf}
 use Rattle.lines.specs.File.{joined, piecesOf}
 use Rattle.lines.specs.Hands.{Hand, hand}
@@ -97,11 +99,11 @@ file-room cs rs s few = room-holds cs rs s few
 pub refused-exactly : (most : ℕ) (cs rs : List Float) (s : List ℕ) (k : ℕ) → length (piecesOf s) + 1 < 2 ^ 64 → LineExactly most cs rs s k
 refused-exactly most cs rs s k few = line-exactly most cs rs s k few
 
--- RINGS OF A FILE THAT READS, handed to `from_parts` with its cells and with room for them, come back as they stand, in order: each lent number is a float of 64 bits
+-- RINGS OF A FILE THAT READS, handed to `from_parts` with its cells and with room for them and for two kept numbers a block, come back as they stand, in order: each lent number is a float of 64 bits
 pub rings-come-back : (most : ℕ) (cs rs : List Float) (s : List ℕ) (k : Stocked) → readOf most cs rs s ≡ answers k → ((i : ℕ) → T (fits binary64 (getD (fileIn cs rs s .rings) i nan)))
-    → (xs : List Float) → fileIn cs rs s .reading .rings ≤ ringRoom (length xs)
-    → partsOf (specOf (fileIn cs rs s .reading .bar) most) (frontOf (fileIn cs rs s .reading .cells) (fileIn cs rs s .cells)) (take (4 * fileIn cs rs s .reading .rings) (fileIn cs rs s .rings)) xs
+    → (xs : List Float) → fileIn cs rs s .reading .rings ≤ ringRoom (length xs) → (len : ℕ) → ((n : ℕ) → stockOf (specOf (fileIn cs rs s .reading .bar) most) (frontOf (fileIn cs rs s .reading .cells) (fileIn cs rs s .cells)) ≡ answers n → len ≡ 2 * blocksIn n)
+    → partsOf (specOf (fileIn cs rs s .reading .bar) most) (frontOf (fileIn cs rs s .reading .cells) (fileIn cs rs s .cells)) len (take (4 * fileIn cs rs s .reading .rings) (fileIn cs rs s .rings)) xs
     ≡ answers (ringsOf (fileIn cs rs s .reading .rings) (fileIn cs rs s .rings))
-rings-come-back most cs rs s k e h xs room =
+rings-come-back most cs rs s k e h xs room len two =
     let t = tells (fileIn cs rs s) most k e in
-    parts-as-they-stand (specOf (fileIn cs rs s .reading .bar) most) (frontOf (fileIn cs rs s .reading .cells) (fileIn cs rs s .cells)) (fileIn cs rs s .rings) (t .count) (fileIn cs rs s .reading .rings) (t .stock) (t .fits) h xs room
+    parts-as-they-stand (specOf (fileIn cs rs s .reading .bar) most) (frontOf (fileIn cs rs s .reading .cells) (fileIn cs rs s .cells)) (fileIn cs rs s .rings) (t .count) (fileIn cs rs s .reading .rings) (t .stock) (t .fits) h xs room len (two (t .count) (t .stock))

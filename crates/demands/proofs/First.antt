@@ -2,7 +2,7 @@
 -- `Exactly rule asks` says it of a rule: `asks` is the list of its tests in 01's order, each with its number (specs/Refused). The rule refuses with k exactly when the first
 -- of them that does not hold has the number k, and answers exactly when all of them hold. Each call's promise says that it answers by its rule. Assumes nothing.
 --
--- Below each law names the calls that it is of. `change_slices::propose` has the rule of the flat call, with the number of records as the room (`preview-tool-exactly`). `changes::list_of` refuses with the number it is given. What the methods of an `Envelope` made by `new` answer is the rule of the flat call too (proofs/Profile): `envelope::held::Envelope::order`,
+-- Below each law names the calls that it is of. `change_slices::propose` has the rule of the flat call, with the number of records as the room (`preview-tool-exactly`). `changes::list_of` and `moves::with_counts` refuse with the number that they are given. What the methods of an `Envelope` made by `new` answer is the rule of the flat call too (proofs/Profile): `envelope::held::Envelope::order`,
 -- `envelope::held::Envelope::radius_at`, `envelope::held::Envelope::radius_range`.
 use mathlib.Core.Path.{_≡_, refl, sym, ap, ap₂, _∙_, subst}
 use mathlib.Core.Logic.{inl, inr}
@@ -37,7 +37,7 @@ use Rattle.stock.specs.declared.TurnSide.{TurnSide}
 use Rattle.stock.specs.Spec.{cleanSpec, specGood, quotient, counted, cellsOf}
 use Rattle.stock.specs.Bin.{binFor}
 use Rattle.stock.specs.Cell.{cellAt, cellFits, cellsFit, sameCell, stockOf, newOf}
-use Rattle.stock.proofs.Count.{and-both}
+use Rattle.stock.proofs.Count.{and-both, demanded}
 use Rattle.reach.specs.Reach.{Act, actCell}
 use Rattle.nose.specs.Nose.{segmentsGood, noseAct}
 use Rattle.polygon.specs.Polygon.{polygonGood, polygonAct}
@@ -49,15 +49,16 @@ use Rattle.cuts.specs.Preview.{previewOf, previewNose, previewPolygon, previewC
 use Rattle.cuts.specs.declared.Tool.{Tool}
 use Rattle.cuts.specs.declared.Tool.the-variants.{Single, Nose, Polygon}
 use Rattle.cuts.specs.Tool.{previewTool}
-use Rattle.changes.specs.Commit.{onlyRemoves, appliesTo, firstFall, passes, eachFrom, passAll, Committed, commitIn, commitHeld, commitOf, applyOf, generationOf}
-use Rattle.changes.specs.Decide.{beginOf, stepsOf, concludeOf}
-use Rattle.changes.proofs.Decided.{conclude-is}
+use Rattle.changes.specs.Commit.{onlyRemoves, appliesTo, firstFall, passes, eachFrom, passAll, commitIn, commitHeld, askedStock, commitOf, applyOf, ownCommit}
+use Rattle.changes.specs.Decide.{onCells, stepsOf, outcomeOf, raisedOf}
+use Rattle.changes.proofs.Decided.{outcome-is}
+use Rattle.changes.proofs.Kept.{asked}
 use Rattle.changes.specs.Difference.{otherCell, differenceOf}
 use Rattle.rings.specs.declared.Ring.{Ring}
 use Rattle.rings.specs.Ring.{filled, kept, inHand, clip, left}
 use Rattle.rings.specs.Store.{barRing, ringsOf, ringRoom, countFits, storeFits, finiteRing, badRing}
 use Rattle.rings.specs.Remove.{roomFor, added, addedAll, storedNext, removeAllIn, removeRings, removeIn, removeRing, leaves}
-use Rattle.moves.specs.Move.{generationAfter, moveIn, moveOf, partsOf}
+use Rattle.moves.specs.Move.{generationAfter, movableOf, ringsMoved, takenOf, moveIn, moveOf, givenOf, partsOf}
 use Rattle.change_slices.specs.Move.{moveListOf}
 use Rattle.queries.specs.Envelope.{envelopeAt}
 use Rattle.queries.specs.Volume.{volumeOf}
@@ -79,7 +80,7 @@ use Rattle.job_words.specs.declared.Line.the-variants.{Bar, Cutting, Removing, 
 use Rattle.job_words.specs.Kind.{lineOf}
 use Rattle.job_run.specs.declared.line.Job.{Job}
 use Rattle.job_run.specs.Job.{lineLimit, cellsOfJob, barLine, madeCut, cutLine, removingLine, firstLine, laterLine, jobLine}
-use Rattle.demands.specs.Refused.{Asked, ask, Exactly, rootAsks, lengthAsks, countGood, specAsks, binAsks, newAsks, stockAsks, roomGood, previewCutAsks, previewAsks, previewNoseAsks, previewPolygonAsks, previewToolAsks, eachAsks, changeAsks, passAsks, commitInAsks, commitAsks, applyAsks, differenceAsks, removeAsks, roomForAll, allStored, removeRingsAsks, leftAsks, partsAsks, moveInAsks, moveListAsks, moveAsks, volumeAsks, keptAsks, renewAsks, pointsAsks, radiusAsks, withinAsks, barAsks, cutLineAsks, firstLineAsks, laterLineAsks, lineAsks, chordsFit, segmentsAsks, insertAsks, erodingAsks, fileAsks, fileLineAsks, compareAsks}
+use Rattle.demands.specs.Refused.{Asked, ask, Exactly, rootAsks, lengthAsks, countGood, specAsks, binAsks, newAsks, stockAsks, roomGood, previewCutAsks, previewAsks, previewNoseAsks, previewPolygonAsks, previewToolAsks, eachAsks, changeAsks, passAsks, commitInAsks, askedAsks, commitAsks, ownAsks, applyAsks, differenceAsks, removeAsks, roomForAll, allStored, removeRingsAsks, leftAsks, givenAsks, partsAsks, movableAsks, ringsMovedAsks, moveInAsks, moveListAsks, moveAsks, volumeAsks, keptAsks, renewAsks, pointsAsks, radiusAsks, withinAsks, barAsks, cutLineAsks, firstLineAsks, laterLineAsks, lineAsks, chordsFit, segmentsAsks, insertAsks, erodingAsks, fileAsks, fileLineAsks, compareAsks}
 use Rattle.demands.proofs.Asking.{refusalOf, Asks, exactly, exactly-as, asks-none, asks-more, asks-of, asks-at, asks-of-at, asks-found, placed-demand, asks-on, asks-then, asks-as, asks-holds, asks-fails, onward-demand, unless, firstFailing}
 
 -- ---- the root and the length
@@ -276,35 +277,47 @@ pub commit-unasked-exactly : (s : TurnStockSpec) (n : ℕ) (cs : List Float) (ge
     → Exactly (commitHeld s n cs gen is xs k) (commitInAsks s (answers n) cs gen (changesFrom is xs (min k (change.roomOf (length is) (length xs)))))
 commit-unasked-exactly s n cs gen is xs k = exactly (commit-asks s (answers n) n refl cs gen _)
 
-whole-asks : (k : TurnStock) (cs : List Float) (st : Stamp) (l : List TurnChange) → Asks (commitOf k cs st l) (commitAsks k cs st l)
-unfolding commitOf
-whole-asks k cs st l =
+-- a stock that is asked for a commit: 1, 2, 3, 19, 20
+asked-asks : (k : TurnStock) (cs bs : List Float) (st : Stamp) → Asks (askedStock k cs bs st) (askedAsks k cs bs st)
+unfolding askedStock
+asked-asks k cs bs st =
     asks-on (stockOf (k .spec) cs) _ (stock-asks (k .spec) cs) (λ n e.
     asks-more (sameStamp st (k .stamp)) 19 (λ _.
-    commit-asks (cleanSpec (k .spec)) (stockOf (k .spec) cs) n e cs (k .stamp .generation) l))
+    asks-of (stockOf (k .spec) cs) n e (λ n. matchesOf (cleanSpec (k .spec)) n cs bs) 20
+    (asks-none n)))
 
--- `change_slices::apply`, a commit of a list of changes with its stamp: 1, 2, 3, 19, 7, then change by change 8, 21, 22, 23, then 12
-pub commit-exactly : (k : TurnStock) (cs : List Float) (st : Stamp) (l : List TurnChange) → Exactly (commitOf k cs st l) (commitAsks k cs st l)
-commit-exactly k cs st l = exactly (whole-asks k cs st l)
+-- `asked_cells`: 1, 2, 3, 19, 20
+pub asked-exactly : (k : TurnStock) (cs bs : List Float) (st : Stamp) → Exactly (askedStock k cs bs st) (askedAsks k cs bs st)
+asked-exactly k cs bs st = exactly (asked-asks k cs bs st)
 
--- `conclude`, after `begin` and a `step` for each change: the same, of a list that a machine can hold
-pub conclude-exactly : (k : TurnStock) (cs : List Float) (st : Stamp) (l : List TurnChange) → length l ≤ lastPlace → Exactly (concludeOf (stepsOf cs (beginOf k cs st) l) (k .stamp .generation)) (commitAsks k cs st l)
-unfolding refusalOf
-conclude-exactly k cs st l h =
-    exactly-as (concludeOf (stepsOf cs (beginOf k cs st) l) (k .stamp .generation)) (ap refusalOf (conclude-is k cs st l h) ∙ same (commitOf k cs st l)) (commit-exactly k cs st l)
-  where
-    same : (p : Paper Committed) → refusalOf (generationOf p) ≡ refusalOf p
-    same (answers k) = refl
-    same (refuses n) = refl
+-- `change_slices::apply`, a commit of a list of changes with its stamp: 1, 2, 3, 19, 20, 7, then change by change 8, 21, 22, 23, then 12
+pub commit-exactly : (k : TurnStock) (cs bs : List Float) (st : Stamp) (l : List TurnChange) → Exactly (commitOf k cs bs st l) (commitAsks k cs bs st l)
+unfolding commitOf
+commit-exactly k cs bs st l =
+    exactly (asks-on (askedStock k cs bs st) _ (asked-asks k cs bs st) (λ n e.
+    commit-asks (cleanSpec (k .spec)) (stockOf (k .spec) cs) n (asked k cs bs st n e .stock) cs (k .stamp .generation) l))
 
--- `apply`, a commit of a change list from the lent lists: the same, with 6 directly after 19
-pub apply-exactly : (k : TurnStock) (cs : List Float) (list : ChangeList) (is : List ℕ) (xs : List Float) → Exactly (applyOf k cs list is xs) (applyAsks k cs list is xs)
+-- a stock's own list, of which no kept numbers are asked: 1, 2, 3, 7, then change by change 8, 21, 22, 23, then 12
+own-asks : (spec : TurnStockSpec) (cs : List Float) (gen : ℕ) (l : List TurnChange) → Asks (ownCommit spec cs gen l) (ownAsks spec cs gen l)
+unfolding ownCommit
+own-asks spec cs gen l = asks-on (stockOf spec cs) _ (stock-asks spec cs) (λ n e. commit-asks (cleanSpec spec) (stockOf spec cs) n e cs gen l)
+
+-- `outcome`, after `begin` and a `step` for each change, of a list that a machine can hold: 7, then change by change 8, 21, 22, 23
+pub outcome-exactly : (s : TurnStockSpec) (n : ℕ) (cs : List Float) (l : List TurnChange) → length l ≤ lastPlace → Exactly (outcomeOf (stepsOf cs (onCells s n) l)) (passAsks s (answers n) cs l)
+outcome-exactly s n cs l h = exactly (asks-as (outcome-is cs s n l h) (pass-asks s (answers n) n refl cs l))
+
+-- `raised`, of changes that say p: what they say, 12
+pub raised-exactly : (p : Paper (Unit {0})) (gen : ℕ) (l : List Asked) → Asks p l → Exactly (raisedOf p gen) (l ++ (ask (ltb gen lastGeneration) 12 ∷ []))
+unfolding raisedOf
+raised-exactly p gen l h = exactly (asks-on p _ h (λ _ _. asks-more (ltb gen lastGeneration) 12 (λ _. asks-none _)))
+
+-- `apply`, a commit of a change list from the lent lists: the same, with 6 directly after 20
+pub apply-exactly : (k : TurnStock) (cs bs : List Float) (list : ChangeList) (is : List ℕ) (xs : List Float) → Exactly (applyOf k cs bs list is xs) (applyAsks k cs bs list is xs)
 unfolding applyOf
-apply-exactly k cs list is xs =
-    exactly (asks-on (stockOf (k .spec) cs) _ (stock-asks (k .spec) cs) (λ n e.
-    asks-more (sameStamp (list .stamp) (k .stamp)) 19 (λ _.
+apply-exactly k cs bs list is xs =
+    exactly (asks-on (askedStock k cs bs (list .stamp)) _ (asked-asks k cs bs (list .stamp)) (λ n e.
     asks-more (leb (list .count) (change.roomOf (length is) (length xs))) 6 (λ _.
-    commit-asks (cleanSpec (k .spec)) (stockOf (k .spec) cs) n e cs (k .stamp .generation) (changesFrom is xs (list .count))))))
+    commit-asks (cleanSpec (k .spec)) (stockOf (k .spec) cs) n (asked k cs bs (list .stamp) n e .stock) cs (k .stamp .generation) (changesFrom is xs (list .count)))))
 
 -- ---- rings
 
@@ -366,42 +379,76 @@ left-exactly ks q = exactly (asks-more (inHand pieceLimit (kept q) ks) 11 (λ _.
 
 -- ---- parts and moves
 
--- `from_parts`: 1, 2, 3, 10, 11
-pub parts-exactly : (spec : TurnStockSpec) (cs given xs : List Float) → Exactly (partsOf spec cs given xs) (partsAsks spec cs given xs)
+-- rings given, into an empty store: 10, 11
+given-asks : (spec : TurnStockSpec) (given xs : List Float) → Asks (givenOf spec given xs) (givenAsks spec given xs)
+unfolding givenOf
+given-asks spec given xs = asks-found (badRing given) 10 (rings-room spec xs 0 given (le-leb 0 (ringRoom (length xs)) (omega arith)))
+
+renew-asks : (spec : TurnStockSpec) (cs : List Float) (len : ℕ) → Asks (renewOf spec cs len) (renewAsks spec cs len)
+unfolding renewOf
+renew-asks spec cs len = asks-on (stockOf spec cs) _ (stock-asks spec cs) (λ n e. asks-of (stockOf spec cs) n e (λ n. eqb len (2 * blocksIn n)) 20 (asks-none n))
+
+-- `from_parts`: 1, 2, 3, 20 for the count of kept numbers alone, 10, 11
+pub parts-exactly : (spec : TurnStockSpec) (cs : List Float) (len : ℕ) (given xs : List Float) → Exactly (partsOf spec cs len given xs) (partsAsks spec cs len given xs)
 unfolding partsOf
-parts-exactly spec cs given xs =
-    exactly (asks-on (stockOf spec cs) _ (stock-asks spec cs) (λ _ _.
-    asks-found (badRing given) 10
-    (rings-room spec xs 0 given (le-leb 0 (ringRoom (length xs)) (omega arith)))))
+parts-exactly spec cs len given xs = exactly (asks-on (renewOf spec cs len) _ (renew-asks spec cs len) (λ _ _. given-asks spec given xs))
 
 -- rings that pass refusal 4's test are no more than the room
 fits-room : (e : Ring) (xs : List Float) (n : ℕ) → countFits e xs n ≡ true → leb n (ringRoom (length xs)) ≡ true
 unfolding countFits
 fits-room e xs n h = and-both (leb n (ringRoom (length xs))) (storeFits e (ringsOf n xs)) h .0
 
-move-asks : (k : TurnStock) (n : ℕ) (cs xs : List Float) (st : Stamp) (l : List TurnChange) (removed : List Float) → stockOf (k .spec) cs ≡ answers n → Asks (moveIn k n cs xs st l removed) (moveInAsks k cs xs st l removed)
-unfolding moveIn
-move-asks k n cs xs st l removed e =
-    let spec = k .spec in
-    asks-more (countFits (barRing (cleanSpec spec)) xs (k .rings)) 4 (λ f.
+-- what is asked of a move before its changes: 4, 19, 20, 10
+movable-asks : (k : TurnStock) (n : ℕ) (cs bs xs : List Float) (st : Stamp) (removed : List Float) → stockOf (k .spec) cs ≡ answers n → Asks (movableOf k n cs bs xs st removed) (movableAsks k cs bs xs st removed)
+unfolding movableOf
+movable-asks k n cs bs xs st removed e =
+    asks-more (countFits (barRing (cleanSpec (k .spec))) xs (k .rings)) 4 (λ _.
     asks-more (sameStamp st (k .stamp)) 19 (λ _.
-    asks-found (badRing removed) 10
-    (asks-on (passAll (cleanSpec spec) n cs l) _ (pass-asks (cleanSpec spec) (stockOf spec cs) n e cs l) (λ _ _.
-    asks-more (leb (generationAfter spec (k .stamp .generation) removed) lastGeneration) 12 (λ _.
-    asks-then (removeRings spec xs (k .rings) removed) _ (rings-room spec xs (k .rings) removed (fits-room (barRing (cleanSpec spec)) xs (k .rings) f)) (λ _ _. asks-none _))))))
+    asks-of (stockOf (k .spec) cs) n e (λ n. matchesOf (cleanSpec (k .spec)) n cs bs) 20
+    (asks-found (badRing removed) 10
+    (asks-none tt))))
 
--- `change_slices::apply_move`, of a list of changes with its stamp: 1, 2, 3, 4, 19, 10, 7, then change by change 8, 21, 22, 23, then 12, 11
-pub move-list-exactly : (k : TurnStock) (cs xs : List Float) (st : Stamp) (l : List TurnChange) (removed : List Float) → Exactly (moveListOf k cs xs st l removed) (moveListAsks k cs xs st l removed)
+-- where it passes, the stored rings do
+movable-fits : (k : TurnStock) (n : ℕ) (cs bs xs : List Float) (st : Stamp) (removed : List Float) → movableOf k n cs bs xs st removed ≡ answers tt → countFits (barRing (cleanSpec (k .spec))) xs (k .rings) ≡ true
+unfolding movableOf
+movable-fits k n cs bs xs st removed e = demanded _ _ _ _ e .0
+
+-- the rings of a move, behind 4: 12, 11
+rings-moved-asks : (k : TurnStock) (xs removed : List Float) → countFits (barRing (cleanSpec (k .spec))) xs (k .rings) ≡ true → Asks (ringsMoved k xs removed) (ringsMovedAsks k xs removed)
+unfolding ringsMoved
+rings-moved-asks k xs removed f =
+    asks-more (leb (generationAfter (k .spec) (k .stamp .generation) removed) lastGeneration) 12 (λ _.
+    asks-then (removeRings (k .spec) xs (k .rings) removed) _ (rings-room (k .spec) xs (k .rings) removed (fits-room (barRing (cleanSpec (k .spec))) xs (k .rings) f)) (λ _ _. asks-none _))
+
+-- of a move whose changes say p, by the tests m
+taken-asks : (k : TurnStock) (n : ℕ) (cs bs xs : List Float) (st : Stamp) (p : Paper (Unit {0})) (m : List Asked) (removed : List Float) → stockOf (k .spec) cs ≡ answers n → Asks p m
+    → Asks (takenOf k n cs bs xs st p removed) (movableAsks k cs bs xs st removed ++ (m ++ ringsMovedAsks k xs removed))
+unfolding takenOf
+taken-asks k n cs bs xs st p m removed e h =
+    asks-on (movableOf k n cs bs xs st removed) _ (movable-asks k n cs bs xs st removed e) (λ _ f. asks-on p _ h (λ _ _. rings-moved-asks k xs removed (movable-fits k n cs bs xs st removed f)))
+
+-- `take_rings`, on n cells that are checked: 4, 19, 20, 10, what the changes say, 12, 11
+pub taken-exactly : (k : TurnStock) (n : ℕ) (cs bs xs : List Float) (st : Stamp) (p : Paper (Unit {0})) (m : List Asked) (removed : List Float) → stockOf (k .spec) cs ≡ answers n → Asks p m
+    → Exactly (takenOf k n cs bs xs st p removed) (movableAsks k cs bs xs st removed ++ (m ++ ringsMovedAsks k xs removed))
+taken-exactly k n cs bs xs st p m removed e h = exactly (taken-asks k n cs bs xs st p m removed e h)
+
+move-asks : (k : TurnStock) (n : ℕ) (cs bs xs : List Float) (st : Stamp) (l : List TurnChange) (removed : List Float) → stockOf (k .spec) cs ≡ answers n → Asks (moveIn k n cs bs xs st l removed) (moveInAsks k cs bs xs st l removed)
+unfolding moveIn
+move-asks k n cs bs xs st l removed e =
+    asks-then (takenOf k n cs bs xs st (passAll (cleanSpec (k .spec)) n cs l) removed) _ (taken-asks k n cs bs xs st _ _ removed e (pass-asks (cleanSpec (k .spec)) (stockOf (k .spec) cs) n e cs l)) (λ _ _. asks-none _)
+
+-- `change_slices::apply_move`, of a list of changes with its stamp: 1, 2, 3, 4, 19, 20, 10, 7, then change by change 8, 21, 22, 23, then 12, 11
+pub move-list-exactly : (k : TurnStock) (cs bs xs : List Float) (st : Stamp) (l : List TurnChange) (removed : List Float) → Exactly (moveListOf k cs bs xs st l removed) (moveListAsks k cs bs xs st l removed)
 unfolding moveListOf
-move-list-exactly k cs xs st l removed = exactly (asks-on (stockOf (k .spec) cs) _ (stock-asks (k .spec) cs) (λ n e. move-asks k n cs xs st l removed e))
+move-list-exactly k cs bs xs st l removed = exactly (asks-on (stockOf (k .spec) cs) _ (stock-asks (k .spec) cs) (λ n e. move-asks k n cs bs xs st l removed e))
 
 -- `apply_move`, of a change list from the lent lists: the same, with 6 directly after 3
-pub move-exactly : (k : TurnStock) (cs xs : List Float) (list : ChangeList) (is : List ℕ) (ys : List Float) (removed : List Float) → Exactly (moveOf k cs xs list is ys removed) (moveAsks k cs xs list is ys removed)
+pub move-exactly : (k : TurnStock) (cs bs xs : List Float) (list : ChangeList) (is : List ℕ) (ys : List Float) (removed : List Float) → Exactly (moveOf k cs bs xs list is ys removed) (moveAsks k cs bs xs list is ys removed)
 unfolding moveOf
-move-exactly k cs xs list is ys removed =
+move-exactly k cs bs xs list is ys removed =
     exactly (asks-on (stockOf (k .spec) cs) _ (stock-asks (k .spec) cs) (λ n e.
     asks-more (leb (list .count) (change.roomOf (length is) (length ys))) 6 (λ _.
-    move-asks k n cs xs (list .stamp) (changesFrom is ys (list .count)) removed e)))
+    move-asks k n cs bs xs (list .stamp) (changesFrom is ys (list .count)) removed e)))
 
 -- ---- volume and `envelope_at`
 
@@ -453,8 +500,7 @@ kept-exactly spec cs bs = exactly (kept-asks spec cs bs)
 
 -- `renew`: 1, 2, 3, and 20 for the count of the lent numbers alone
 pub renew-exactly : (spec : TurnStockSpec) (cs : List Float) (len : ℕ) → Exactly (renewOf spec cs len) (renewAsks spec cs len)
-unfolding renewOf
-renew-exactly spec cs len = exactly (asks-on (stockOf spec cs) _ (stock-asks spec cs) (λ n e. asks-of (stockOf spec cs) n e (λ n. eqb len (2 * blocksIn n)) 20 (asks-none n)))
+renew-exactly spec cs len = exactly (renew-asks spec cs len)
 
 -- `range`: 1, 2, 3, 20, whatever its ends are; `range_kept`, which asks nothing, refuses nothing
 pub range-exactly : (spec : TurnStockSpec) (cs bs : List Float) (lo hi : Float) → Exactly (rangeOf spec cs bs lo hi) (keptAsks spec cs bs)
@@ -505,7 +551,7 @@ cut-asks j cut room cs rs =
     let k = j .stock in
     asks-then (madeCut k own cut room) _
     (asks-on (previewCut (k .spec) own cut room) _ (preview-cut-asks (k .spec) own cut room) (λ l e.
-    subst (λ (p : Paper (List TurnChange)). Asks (commitOf k own (k .stamp) l) (commitAsks k own (k .stamp) (writtenOf p))) (sym e) (whole-asks k own (k .stamp) l)))
+    subst (λ (p : Paper (List TurnChange)). Asks (ownCommit (k .spec) own (k .stamp .generation) l) (ownAsks (k .spec) own (k .stamp .generation) (writtenOf p))) (sym e) (own-asks (k .spec) own (k .stamp .generation) l)))
     (λ _ _. asks-none _)
 
 ring-asks : (j : Job) (q : Ring) (cs rs : List Float) → Asks (removingLine j q cs rs) (removeAsks (j .stock .spec) rs (j .stock .rings) (j .stock .stamp .generation) q)

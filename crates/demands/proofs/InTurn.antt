@@ -33,7 +33,7 @@ use Rattle.changes.proofs.Rising.{at-most}
 use Rattle.changes.proofs.Proposals.{of-stock, same-listing}
 use Rattle.cuts.specs.Preview.{proposed, previewOf}
 use Rattle.changes.specs.Commit.{putAll, Committed, commitOf, ownCommit, applyOf}
-use Rattle.changes.proofs.Stamped.{own-commit}
+use Rattle.changes.proofs.Stamped.{Matching, own-commit}
 use Rattle.changes.proofs.Stocks.{Good, stock-good, good-stock}
 use Rattle.changes.proofs.Accepted.{commit-accepts, put-good, good-bins}
 use Rattle.changes.proofs.Proposal.{wrote, lent-is, lent-accepts, act-cuts}
@@ -41,13 +41,13 @@ use Rattle.demands.specs.Job.{Step, turned, turnedAll, actStep, actsOf, 
 
 -- ---- a preview, committed
 
--- the commit of a cut in turn asks for the list's stamp too, and the list has the stock's
-pub turned-asks : (k : TurnStock) (room : ℕ) (u : Step) (cs : List Float) → turned (k .spec) room u (record { cells = cs; generation = k .stamp .generation }) ≡ onward (u .preview cs room) (λ l. commitOf k cs (k .stamp) l)
+-- the commit of a cut in turn asks for the list's stamp and for the kept numbers too; the list has the stock's stamp, and the numbers match
+pub turned-asks : (k : TurnStock) (room : ℕ) (u : Step) (cs bs : List Float) → Matching (k .spec) cs bs → turned (k .spec) room u (record { cells = cs; generation = k .stamp .generation }) ≡ onward (u .preview cs room) (λ l. commitOf k cs bs (k .stamp) l)
 unfolding turned onward
-turned-asks k room u cs = go (u .preview cs room)
+turned-asks k room u cs bs m = go (u .preview cs room)
   where
-    go : (p : Paper (List TurnChange)) → onward p (λ l. ownCommit (k .spec) cs (k .stamp .generation) l) ≡ onward p (λ l. commitOf k cs (k .stamp) l)
-    go (answers l) = sym (own-commit k cs l)
+    go : (p : Paper (List TurnChange)) → onward p (λ l. ownCommit (k .spec) cs (k .stamp .generation) l) ≡ onward p (λ l. commitOf k cs bs (k .stamp) l)
+    go (answers l) = sym (own-commit k cs bs l m)
     go (refuses r) = refl
 
 -- by the rule of a stock's own list
@@ -59,35 +59,35 @@ own-commits {spec} {n} {u} s hs cs hc e room l p gen h =
     let q : m ≡ l = same-answer (demanded (leb (length m) room) 6 (answers m) l (sym (s .rule cs room e) ∙ p) .1) in
     rw (← q) (commit-accepts g (actCell (u .act)) (act-cuts g (u .act) (s .plain)) gen h)
 
--- WHAT A PREVIEW PROPOSES, A COMMIT ON THE SAME STOCK ACCEPTS, while generations last: where the preview of a sound cut answers with changes l, the commit of l, with the stock's stamp,
--- answers with the cells that have every after-cell in its bin, and the next generation.
-pub preview-commits : (k : TurnStock) {n : ℕ} {u : Step} → Sound (k .spec) n u → HeldSpec (k .spec) → (cs : List Float) → HeldList cs → stockOf (k .spec) cs ≡ answers n → (room : ℕ) (l : List TurnChange) → u .preview cs room ≡ answers l
-    → k .stamp .generation < lastGeneration → commitOf k cs (k .stamp) l ≡ answers (record { cells = putAll cs l; generation = k .stamp .generation + 1 })
-preview-commits k s hs cs hc e room l p h = own-commit k cs l ∙ own-commits s hs cs hc e room l p (k .stamp .generation) h
+-- WHAT A PREVIEW PROPOSES, A COMMIT ON THE SAME STOCK ACCEPTS, while generations last: where the preview of a sound cut answers with changes l, the commit of l, with the stock's stamp
+-- and with kept numbers that match the cells, answers with the cells that have every after-cell in its bin, and the next generation.
+pub preview-commits : (k : TurnStock) {n : ℕ} {u : Step} → Sound (k .spec) n u → HeldSpec (k .spec) → (cs bs : List Float) → HeldList cs → Matching (k .spec) cs bs → stockOf (k .spec) cs ≡ answers n → (room : ℕ) (l : List TurnChange) → u .preview cs room ≡ answers l
+    → k .stamp .generation < lastGeneration → commitOf k cs bs (k .stamp) l ≡ answers (record { cells = putAll cs l; generation = k .stamp .generation + 1 })
+preview-commits k s hs cs bs hc m e room l p h = own-commit k cs bs l m ∙ own-commits s hs cs hc e room l p (k .stamp .generation) h
 
 -- The same through the lent lists. A preview answered a list and left is', xs' in the lists that it was lent; a commit of that list to the stock is then `turned`:
 -- the preview and the commit by the rules alone, refused or accepted.
-pub lent-turned : (k : TurnStock) {n : ℕ} {u : Step} → Sound (k .spec) n u → (cs : List Float) → stockOf (k .spec) cs ≡ answers n
+pub lent-turned : (k : TurnStock) {n : ℕ} {u : Step} → Sound (k .spec) n u → (cs bs : List Float) → Matching (k .spec) cs bs → stockOf (k .spec) cs ≡ answers n
     → (list : ChangeList) (is is' : List ℕ) (xs xs' : List Float) → Proposed (k .stamp) (u .preview cs (roomOf (length is) (length xs))) (Listed list) is is' xs xs'
-    → applyOf k cs list is' xs' ≡ turned (k .spec) (roomOf (length is) (length xs)) u (record { cells = cs; generation = k .stamp .generation })
+    → applyOf k cs bs list is' xs' ≡ turned (k .spec) (roomOf (length is) (length xs)) u (record { cells = cs; generation = k .stamp .generation })
 unfolding turned
-lent-turned k {n} {u} s cs e list is is' xs xs' p =
+lent-turned k {n} {u} s cs bs m e list is is' xs xs' p =
     let spec = k .spec in
     let gen = k .stamp .generation in
     let room = roomOf (length is) (length xs) in
     let l : List TurnChange = changesTo (actCell (u .act)) cs n in
     let q = same-listing (k .stamp) (proposed (u .act) cs room n) (u .preview cs room) (Listed list) is is' xs xs' (sym (s .rule cs room e)) p in
     let r : u .preview cs room ≡ answers l = s .rule cs room e ∙ demand-true _ _ _ (le-leb (length l) room (wrote l (list .count) is is' xs xs' (of-stock (k .stamp) (proposed (u .act) cs room n) list is is' xs xs' q .tally) .room)) in
-    lent-is k cs list l is is' xs xs' q ∙ sym (ap (λ (x : Paper (List TurnChange)). onward x (λ y. ownCommit spec cs gen y)) r ∙ onward-answers _ _)
+    lent-is k cs bs m list l is is' xs xs' q ∙ sym (ap (λ (x : Paper (List TurnChange)). onward x (λ y. ownCommit spec cs gen y)) r ∙ onward-answers _ _)
 
 -- And it is accepted while generations last: each cell is what the cut makes of it.
-pub lent-commits : (k : TurnStock) {n : ℕ} {u : Step} → Sound (k .spec) n u → HeldSpec (k .spec) → (cs : List Float) → HeldList cs → stockOf (k .spec) cs ≡ answers n
+pub lent-commits : (k : TurnStock) {n : ℕ} {u : Step} → Sound (k .spec) n u → HeldSpec (k .spec) → (cs bs : List Float) → HeldList cs → Matching (k .spec) cs bs → stockOf (k .spec) cs ≡ answers n
     → (list : ChangeList) (is is' : List ℕ) (xs xs' : List Float) → k .stamp .generation < lastGeneration → Proposed (k .stamp) (u .preview cs (roomOf (length is) (length xs))) (Listed list) is is' xs xs'
-    → applyOf k cs list is' xs' ≡ answers (record { cells = putAll cs (changesTo (actCell (u .act)) cs n); generation = k .stamp .generation + 1 })
-lent-commits k {n} {u} s hs cs hc e list is is' xs xs' h p =
+    → applyOf k cs bs list is' xs' ≡ answers (record { cells = putAll cs (changesTo (actCell (u .act)) cs n); generation = k .stamp .generation + 1 })
+lent-commits k {n} {u} s hs cs bs hc m e list is is' xs xs' h p =
     let g = stock-good hs hc e in
     let room = roomOf (length is) (length xs) in
-    lent-accepts k g (actCell (u .act)) (act-cuts g (u .act) (s .plain)) list is is' xs xs' h
+    lent-accepts k bs m g (actCell (u .act)) (act-cuts g (u .act) (s .plain)) list is is' xs xs' h
     (same-listing (k .stamp) (proposed (u .act) cs room n) (u .preview cs room) (Listed list) is is' xs xs' (sym (s .rule cs room e)) p)
 
 -- ---- an act in its domain, whose numbers are plain, is sound

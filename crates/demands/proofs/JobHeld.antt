@@ -26,7 +26,7 @@ use Rattle.stock.proofs.Count.{demanded, no-answer, same-answer}
 use Rattle.stock.proofs.Cells.{length-like}
 use Rattle.stock.proofs.Bins.{HeldSpec, HeldList}
 use Rattle.reach.proofs.Fit.{CellFit}
-use Rattle.changes.specs.Commit.{Committed}
+use Rattle.changes.specs.Commit.{Committed, numbersKept}
 use Rattle.changes.proofs.Stocks.{Good, stock-good}
 use Rattle.moves.proofs.Answered.{answered}
 use Rattle.rings.specs.declared.Ring.{Ring}
@@ -45,6 +45,7 @@ use Rattle.demands.proofs.Cells.{fresh-good}
 use Rattle.demands.specs.Run.{Ran, start}
 use Rattle.demands.proofs.Calls.{run-good}
 use Rattle.demands.proofs.Second.{preview-is}
+use Rattle.demands.proofs.Matched.{own-matching}
 use Rattle.demands.proofs.Runs.{rule-ran}
 use Rattle.demands.proofs.JobOrder.{at-held, line-held, front-is, commit-long, CutMade, cut-made, job-any-order}
 
@@ -134,7 +135,7 @@ cut-held st l s h c =
     let a = 4 * st .run .job .cells in
     let k = c .left in
     let p = preview-is spec (lineCutter l) (ownOf st .cells) fullRoom (c .changes) (c .preview) in
-    let r : Ran spec (st .run .job .stock .stamp .edition) (st .run .job .stock .rings) (ownOf st) (lineCutter l ∷ []) k = rule-ran fullRoom (c .changes) k (c .preview) (c .commit) start in
+    let r : Ran spec (st .run .job .stock .stamp .edition) (st .run .job .stock .rings) (ownOf st) (lineCutter l ∷ []) k = rule-ran (numbersKept spec (ownOf st .cells)) (own-matching (h .spec) (stock-good (h .spec) (h .cells) (p .1))) fullRoom (c .changes) k (c .preview) (c .commit) start in
     let long = commit-long spec (ownOf st .cells) (ownOf st .generation) (c .changes) k (c .commit) in
     subst (λ (x : Stand). HeldRun (run.answered st (answers x))) (sym (c .stood))
     (record { spec = h .spec; cells = subst HeldList (sym (front-is a (k .cells) (st .cells) long)) (good-held (run-good (h .spec) (h .cells) (p .1) (line-held l, tt) r)) })

@@ -38,7 +38,6 @@ use Rattle.job_words.specs.Kind.{lineOf}
 use Rattle.job_run.specs.declared.line.Job.{Job}
 use Rattle.job_run.specs.Job.{Stand, lineLimit, fullRoom, cellsOfJob, madeCut, cutLine, jobLine}
 use Rattle.job_run.proofs.Carrying.{same-number}
-use Rattle.job_run.proofs.Made.{made-own}
 use Rattle.lines.specs.File.{piecesOf, ended, lineOn, overPieces}
 use Rattle.job_run.specs.Run.{State, state, next, refusedWith, answered, onLine, onLong, isEmpty, onEnd, stopped, jobOf}
 use Rattle.changes.specs.Change.{writtenOf}
@@ -96,7 +95,7 @@ later-numbered j (Cutting cut) room cs rs = (
           zero-lt-suc 4,
           (
             zero-lt-suc 5,
-            (zero-lt-suc 0, (zero-lt-suc 1, (zero-lt-suc 2, (zero-lt-suc 18, (found-numbered (firstFall (writtenOf (previewCut (j .stock .spec) (cellsOfJob j cs) cut room))) 7 (zero-lt-suc 6), numbered-append (eachAsks _ _ _ _ _) _ (each-numbered _ _ _ _ _) (zero-lt-suc 11, tt)))))),
+            (zero-lt-suc 0, (zero-lt-suc 1, (zero-lt-suc 2, (found-numbered (firstFall (writtenOf (previewCut (j .stock .spec) (cellsOfJob j cs) cut room))) 7 (zero-lt-suc 6), numbered-append (eachAsks _ _ _ _ _) _ (each-numbered _ _ _ _ _) (zero-lt-suc 11, tt))))),
           ),
         ),
       ),
@@ -123,10 +122,10 @@ line-number j s room cs rs k e =
 
 -- ---- a line that is a cut
 
--- What the commit of its changes asks again holds, the stamp of its list too, but for the generation: 1, 2, 3, 13, 5, 6, 12. The numbers handed over are values of f64.
+-- What the commit of its changes asks again holds, but for the generation: 1, 2, 3, 13, 5, 6, 12. The numbers handed over are values of f64.
 pub cut-line-exactly : (j : Job) (cut : Cut) (room : ℕ) (cs rs : List Float) → HeldSpec (j .stock .spec) → HeldList (cellsOfJob j cs) → HeldCut cut
     → Exactly (cutLine j cut room cs rs) (previewCutAsks (j .stock .spec) (cellsOfJob j cs) cut room ++ (ask (ltb (j .stock .stamp .generation) lastGeneration) 12 ∷ []))
-unfolding cutLine previewTool
+unfolding cutLine madeCut previewTool
 cut-line-exactly j cut room cs rs hs hc hu =
     let own = cellsOfJob j cs in
     let spec = j .stock .spec in
@@ -134,12 +133,11 @@ cut-line-exactly j cut room cs rs hs hc hu =
     let t = single cut in
     let f = actCell (cutterAct spec t) in
     exactly (asks-then (madeCut (j .stock) own cut room) _
-    (asks-as (made-own (j .stock) own cut room)
     (asks-on (previewCut spec own cut room) _ (preview-cut-asks spec own cut room) (λ l e.
     let p = preview-is spec t own room l e in
     let b = stock-good hs hc (p .1) in
     let s = tool-sound spec (p .0) hs (b .count) t hu (accepted-good spec t own room l e) in
-    asks-as (ap (ownCommit spec own gen) (p .2) ∙ commit-is b f (act-cuts b (cutterAct spec t) (s .plain)) gen) (asks-more (ltb gen lastGeneration) 12 (λ _. asks-none _)))))
+    asks-as (ap (ownCommit spec own gen) (p .2) ∙ commit-is b f (act-cuts b (cutterAct spec t) (s .plain)) gen) (asks-more (ltb gen lastGeneration) 12 (λ _. asks-none _))))
     (λ _ _. asks-none _))
 
 -- ---- one piece

@@ -61,7 +61,6 @@ use Rattle.job_run.specs.declared.line.Job.{Job}
 use Rattle.demands.specs.Refused.{hasPlace}
 use Rattle.job_run.specs.Job.{fullRoom, Stand, stand, barLine, madeCut, cutLine, removingLine, firstLine, laterLine, jobLine}
 use Rattle.job_run.specs.Run.{State, state, freshRun, refusedWith, answered, onLine, onLong, isEmpty, onEnd, stopped, jobOf}
-use Rattle.job_run.proofs.Made.{made-own}
 use Rattle.lines.specs.File.{piecesOf}
 use Rattle.lines.proofs.Alike.{alike-file}
 use Rattle.demands.specs.Tool.{single, cutterAct, cutterGood}
@@ -276,13 +275,12 @@ module _ (j : Job) (cs rs : List Float) (r : Running j cs rs) (long : length cs 
   -- a cut
   made-good : (u : Cut) → HeldCut u → isArc (cleanCut u) ≡ false → cutGood (cleanCut u) ≡ true
       → madeCut (j .stock) own u fullRoom ≡ demand (ltb gen lastGeneration) 12 (answers (record { cells = putAll own (changesTo (actCell (cutterAct spec (single u))) own (j .cells)); generation = gen + 1 }))
-  unfolding toolGood previewTool
+  unfolding toolGood previewTool madeCut
   made-good u hu ha hg =
       let good : cutterGood (single u) ≡ true = rw (ha, hg) in
       let s = tool-sound spec (j .cells) (r .held) (r .good .count) (single u) hu good in
       let e = good-accepted spec (j .cells) (single u) own fullRoom (good-stock (r .good)) (r .few) good in
-      made-own (j .stock) own u fullRoom
-      ∙ ap (λ (p : Paper (List TurnChange)). onward p (λ l. ownCommit spec own gen l)) e
+      ap (λ (p : Paper (List TurnChange)). onward p (λ l. ownCommit spec own gen l)) e
       ∙ onward-answers _ _
       ∙ commit-is (r .good) (actCell (cutterAct spec (single u))) (act-cuts (r .good) (cutterAct spec (single u)) (s .plain)) gen
 

@@ -19,11 +19,12 @@ use Rattle.floats.specs.Each.{Each}
 use Rattle.floats.specs.Pick.{pick, pick-true, pick-false}
 use Rattle.floats.proofs.Folds.{each-perm}
 use Rattle.stock.specs.declared.TurnStockSpec.{TurnStockSpec}
+use Rattle.stock.specs.Spec.{cellsOf}
 use Rattle.stock.specs.declared.TurnChange.{TurnChange}
 use Rattle.stock.specs.declared.TurnSide.{TurnSide}
 use Rattle.stock.specs.Cell.{stockOf}
 use Rattle.stock.specs.Stock.{stockWith}
-use Rattle.stock.proofs.Count.{demanded, no-answer, same-answer}
+use Rattle.stock.proofs.Count.{demanded, no-answer, same-answer, stocked}
 use Rattle.stock.proofs.Bins.{HeldSpec, HeldList}
 use Rattle.changes.specs.Commit.{Committed, putAll, commitIn, ownCommit}
 use Rattle.cuts.specs.declared.Cut.{Cut}
@@ -41,18 +42,18 @@ use Rattle.job_words.specs.Number.{positive, negative, fieldNumber}
 use Rattle.job_words.specs.Kind.{mmOf, at, numbers, barOf, noseOn, noseOf, threadOf, threadInnerOf, drillOf, ringOf, kindOf, lineOf, fieldsOf}
 use Rattle.job_run.specs.declared.line.Job.{Job}
 use Rattle.job_run.specs.Job.{Stand, stand, lineLimit, fullRoom, cellsOfJob, madeCut, cutLine, firstLine, laterLine, jobLine}
-use Rattle.job_run.proofs.Made.{made-own}
 use Rattle.lines.specs.File.{piecesOf}
 use Rattle.job_run.specs.Run as run
 use Rattle.job_run.specs.Run.{State, next, outputOf, jobOf}
 use Rattle.demands.specs.Tool.{Cutter, single, cutterPreview, HeldCutter, ToolsOf}
-use Rattle.demands.specs.Run.{Ran, start}
+use Rattle.demands.specs.Run.{RanUnasked, none-asked}
 use Rattle.demands.specs.Offending.{lineIn, linesOn, NoneOffends, cutIn, IsCut, lineCutter, ownOf}
 use Rattle.demands.proofs.Third.{perm-length}
+use Rattle.changes.proofs.Stocks.{stock-good}
 use Rattle.demands.proofs.Calls.{run-any-order}
 use Rattle.demands.proofs.Written.{changes-written}
 use Rattle.demands.proofs.Second.{preview-is}
-use Rattle.demands.proofs.Runs.{rule-ran}
+use Rattle.demands.proofs.Runs.{rule-unasked, unasked-ran}
 use Rattle.demands.proofs.JobLines.{job-answered}
 
 -- ---- the numbers of a line are values of f64
@@ -153,7 +154,7 @@ pub record CutMade (st : State) (l : List ℕ) (s : Stand) : Type 0 where
   pub stood : s ≡ stand (record { stock = stockWith (st .run .job .stock) (st .run .job .stock .rings) (left .generation); cells = st .run .job .cells }) (over (left .cells) (st .cells)) (st .rings)
 
 pub cut-made : (st : State) (l : List ℕ) (s : Stand) → IsCut l → eqb (st .run .job .cells) 0 ≡ false → lineIn st l ≡ answers s → CutMade st l s
-unfolding jobLine laterLine cutLine previewTool
+unfolding jobLine laterLine cutLine madeCut previewTool
 cut-made st l s c b e =
     let j = st .run .job in
     let u = cutIn (lineOf l) in
@@ -161,7 +162,7 @@ cut-made st l s c b e =
     let f : cutLine j u fullRoom (st .cells) (st .rings) ≡ answers s = ap (λ (x : Line). laterLine j x fullRoom (st .cells) (st .rings)) (sym c) ∙ sym (pick-false _ _ _ b) ∙ d in
     let own = cellsOfJob j (st .cells) in
     let m = answered (madeCut (j .stock) own u fullRoom) _ s f in
-    let p = answered (previewCut (j .stock .spec) own u fullRoom) _ (m .value) (sym (made-own (j .stock) own u fullRoom) ∙ m .first) in
+    let p = answered (previewCut (j .stock .spec) own u fullRoom) _ (m .value) (m .first) in
     record { changes = p .value; left = m .value; preview = p .first; commit = p .then; stood = sym (same-answer (m .then)) }
 
 -- a cut is carried out after the bar alone
@@ -180,9 +181,9 @@ unfoldable linesAfter : ℕ → ℕ → ℕ
 linesAfter zero n = n
 linesAfter (suc k) n = linesAfter k ((n + 1) % 2 ^ 64)
 
--- Lines that are cuts: a run of calls over the job's own cells. All else is as it was, but for the number of lines.
-record CutsMade (st : State) (ls : List (List ℕ)) (m : State) : Type 0 where
-  ran : Ran (st .run .job .stock .spec) (st .run .job .stock .stamp .edition) (st .run .job .stock .rings) (ownOf st) (map lineCutter ls) (ownOf m)
+-- Lines that are cuts: a run of calls over the job's own n cells, whose commits ask nothing again. All else is as it was, but for the number of lines.
+record CutsMade (n : ℕ) (st : State) (ls : List (List ℕ)) (m : State) : Type 0 where
+  ran : RanUnasked (st .run .job .stock .spec) (st .run .job .stock .stamp .edition) (st .run .job .stock .rings) n (ownOf st) (map lineCutter ls) (ownOf m)
   job : m .run .job ≡ record { stock = stockWith (st .run .job .stock) (st .run .job .stock .rings) (ownOf m .generation); cells = st .run .job .cells }
   lines : m .run .lines ≡ linesAfter (length ls) (st .run .lines)
   refused : m .run .refused ≡ 0
@@ -198,15 +199,15 @@ afterCut st k =
     (st .rings)
 
 -- one more before
-cut-more : (st m : State) (l : List ℕ) (ls : List (List ℕ)) (s : Stand) (c : CutMade st l s) → CutsMade (afterCut st (c .left)) ls m → CutsMade st (l ∷ ls) m
+cut-more : (n : ℕ) (st m : State) (l : List ℕ) (ls : List (List ℕ)) (s : Stand) (c : CutMade st l s) → cellsOf (st .run .job .stock .spec) ≡ answers n → CutsMade n (afterCut st (c .left)) ls m → CutsMade n st (l ∷ ls) m
 unfolding linesAfter
-cut-more st m l ls s c w =
+cut-more n st m l ls s c count w =
     let a = 4 * st .run .job .cells in
     let k = c .left in
     let long = commit-long (st .run .job .stock .spec) (ownOf st .cells) (ownOf st .generation) (c .changes) k (c .commit) in
     let f : ownOf (afterCut st k) ≡ k = λ i. record { cells = front-is a (k .cells) (st .cells) long i; generation = k .generation } in
     record {
-      ran = rule-ran fullRoom (c .changes) k (c .preview) (c .commit) (subst (λ (x : Committed). Ran (st .run .job .stock .spec) (st .run .job .stock .stamp .edition) (st .run .job .stock .rings) x (map lineCutter ls) (ownOf m)) f (w .ran));
+      ran = rule-unasked count fullRoom (c .changes) k (c .preview) (c .commit) (subst (λ (x : Committed). RanUnasked (st .run .job .stock .spec) (st .run .job .stock .stamp .edition) (st .run .job .stock .rings) n x (map lineCutter ls) (ownOf m)) f (w .ran));
       job = w .job;
       lines = w .lines;
       refused = w .refused;
@@ -214,25 +215,26 @@ cut-more st m l ls s c w =
       rings = w .rings;
     }
 
-cuts-made : (ls : List (List ℕ)) (st m : State) → st .run .refused ≡ 0 → eqb (st .run .job .cells) 0 ≡ false → Each IsCut ls → linesOn st ls ≡ answers m → CutsMade st ls m
+cuts-made : (n : ℕ) (ls : List (List ℕ)) (st m : State) → cellsOf (st .run .job .stock .spec) ≡ answers n → st .run .refused ≡ 0 → eqb (st .run .job .cells) 0 ≡ false → Each IsCut ls → linesOn st ls ≡ answers m → CutsMade n st ls m
 unfolding linesOn linesAfter run.answered
-cuts-made [] st m g b cs e = subst (CutsMade st []) (same-answer e) (record { ran = start; job = refl; lines = refl; refused = g; cells = refl; rings = refl })
-cuts-made (l ∷ ls) st m g b cs e =
+cuts-made n [] st m count g b cs e = subst (CutsMade n st []) (same-answer e) (record { ran = none-asked; job = refl; lines = refl; refused = g; cells = refl; rings = refl })
+cuts-made n (l ∷ ls) st m count g b cs e =
     let a = answered (lineIn st l) _ m e in
     let c = cut-made st l (a .value) (cs .0) b (a .first) in
     let f = subst (λ (x : Stand). linesOn (run.answered st (answers x)) ls ≡ answers m) (c .stood) (a .then) in
-    cut-more st m l ls (a .value) c (cuts-made ls (afterCut st (c .left)) m refl b (cs .1) f)
+    cut-more n st m l ls (a .value) c count (cuts-made n ls (afterCut st (c .left)) m count refl b (cs .1) f)
 
 -- ---- two orders
 
-module _ (st m m' : State) (ls ls' : List (List ℕ)) (d : List·Permᴰ ls ls') (hs : HeldSpec (st .run .job .stock .spec)) (hc : HeldList (ownOf st .cells)) (σ : TurnSide) (os : ToolsOf (st .run .job .stock .spec) σ (map lineCutter ls)) (c : CutsMade st ls m) (c' : CutsMade st ls' m') where
+module _ (st m m' : State) (ls ls' : List (List ℕ)) (d : List·Permᴰ ls ls') (hs : HeldSpec (st .run .job .stock .spec)) (hc : HeldList (ownOf st .cells)) (σ : TurnSide) (os : ToolsOf (st .run .job .stock .spec) σ (map lineCutter ls)) (n : ℕ) (e : stockOf (st .run .job .stock .spec) (ownOf st .cells) ≡ answers n) (c : CutsMade n st ls m) (c' : CutsMade n st ls' m') where
   -- the job's own cells stand first, and the rest is as it was
   cells-are : (x : State) (n : ℕ) → x .run .job .cells ≡ n → x .cells ≡ ownOf x .cells ++ drop (4 * n) (x .cells)
   cells-are x n e = sym (take-append-drop (4 * n) (x .cells)) ∙ ap (λ (k : ℕ). take (4 * k) (x .cells) ++ drop (4 * n) (x .cells)) (sym e)
 
-  same-states : (n : ℕ) → stockOf (st .run .job .stock .spec) (ownOf st .cells) ≡ answers n → m ≡ m'
-  same-states n e =
-      let own = run-any-order hs hc e (lines-held ls) (c .ran) (Permᴰ·map lineCutter d) (c' .ran) σ os in
+  same-states : m ≡ m'
+  same-states =
+      let b = stock-good hs hc e in
+      let own = run-any-order hs hc e (lines-held ls) (unasked-ran hs (lines-held ls) b (c .ran)) (Permᴰ·map lineCutter d) (unasked-ran hs (lines-held ls') b (c' .ran)) σ os in
       let a = st .run .job .cells in
       let job = c .job ∙ ap (λ (k : Committed). record { stock = stockWith (st .run .job .stock) (st .run .job .stock .rings) (k .generation); cells = a }) own ∙ sym (c' .job) in
       let lines = c .lines ∙ ap (λ (k : ℕ). linesAfter k (st .run .lines)) (perm-length d) ∙ sym (c' .lines) in
@@ -258,7 +260,8 @@ cuts-any-order st m m' (l ∷ ls) ls' d g hs hc cs σ os e e' =
     let b = cut-later st l (a .value) (cs .0) (a .first) in
     let c = cut-made st l (a .value) (cs .0) b (a .first) in
     let s = preview-is (st .run .job .stock .spec) (lineCutter l) (ownOf st .cells) fullRoom (c .changes) (c .preview) in
-    same-states st m m' (l ∷ ls) ls' d hs hc σ os (cuts-made (l ∷ ls) st m g b cs e) (cuts-made ls' st m' g b (each-perm IsCut d cs) e') (s .0) (s .1)
+    let count = stocked (st .run .job .stock .spec) (ownOf st .cells) (s .0) (s .1) .count in
+    same-states st m m' (l ∷ ls) ls' d hs hc σ os (s .0) (s .1) (cuts-made (s .0) (l ∷ ls) st m count g b cs e) (cuts-made (s .0) ls' st m' count g b (each-perm IsCut d cs) e')
 
 -- ---- a whole job
 

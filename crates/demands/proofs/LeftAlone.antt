@@ -26,16 +26,17 @@ use Rattle.changes.specs.declared.Previewed.{Previewed}
 use Rattle.changes.specs.declared.Previewed.the-variants as previewed
 use Rattle.changes.specs.Change.{previewedPaper, countOf, numbersOf, Proposed, stamped}
 use Rattle.changes.specs.declared.Applied.{Applied}
-use Rattle.changes.specs.Commit.{Committed, appliedPaper, generationOf, Applies, stockAt}
+use Rattle.changes.specs.Commit.{Committed, appliedPaper, generationOf, Applies, AppliesKept, stockAt, keptAfter}
 use Rattle.rings.specs.declared.Ring.{Ring}
 use Rattle.rings.specs.declared.StoredAs.{StoredAs}
 use Rattle.rings.specs.declared.Removed.{Removed}
+use Rattle.rings.specs.declared.Counts.{Counts}
 use Rattle.rings.specs.Remove as rings
-use Rattle.rings.specs.Remove.{RingStore, storedPaper, StoresAs, stockAfter, removedPaper, countsOf, ringsAfter, Removes}
+use Rattle.rings.specs.Remove.{RingStore, storedPaper, countsPaper, StoresAs, stockAfter, removedPaper, countsOf, ringsAfter, Removes}
 use Rattle.moves.specs.declared.Moved.{Moved}
 use Rattle.moves.specs.Move as moves
 use Rattle.moves.specs.declared.Rebuilt.{Rebuilt}
-use Rattle.moves.specs.Move.{Left, movedPaper, Moves, stockStored, rebuiltPaper, Rebuilds}
+use Rattle.moves.specs.Move.{Left, movedPaper, MovesKept, stockStored, rebuiltPaper, Rebuilds, RingsLeft, TakesRings}
 use Rattle.envelope.specs.Halving.{keptOf, Kept}
 use Rattle.change_slices.specs.Proposal.{Written}
 use Rattle.job_run.specs.declared.line.Carried.{Carried}
@@ -81,7 +82,7 @@ unfolding over
 records-left st (answers l) c rs rs' h = absurd (no-answer (reasonOf c) _ (h .answer))
 records-left st (refuses n) c rs rs' h = (same-number (h .answer), h .records)
 
--- ---- a commit, over flat lists or over records, and `commit_unasked`: the cells
+-- ---- a commit, over flat lists or over records, and `commit_unasked`: the cells, and the kept numbers of the first two
 
 pub commit-call : {k : TurnStock} {p : Paper Committed} {r : Applied} {cs cs' : List Float} {l : List Asked} → Applies k p r cs cs' → Exactly p l → Exactly (appliedPaper r) l
 unfolding refusalOf
@@ -94,6 +95,9 @@ commit-call {k} {p} {r} h x = exactly-as (appliedPaper r) (ap refusalOf (h .answ
 pub commit-left : (k : TurnStock) (p : Paper Committed) (r : Applied) (n : Reason) (cs cs' : List Float) → appliedPaper r ≡ refuses n → Applies k p r cs cs' → (p ≡ refuses n) × (cs' ≡ cs)
 commit-left k (answers m) r n cs cs' e h = absurd (no-answer n _ (sym e ∙ h .answer))
 commit-left k (refuses m) r n cs cs' e h = (same-number (sym e ∙ h .answer), h .cells)
+
+pub commit-kept : (k : TurnStock) (p : Paper Committed) (r : Applied) (n : Reason) (cs cs' bs bs' : List Float) → appliedPaper r ≡ refuses n → AppliesKept k p r cs cs' bs bs' → (p ≡ refuses n) × (cs' ≡ cs) × (bs' ≡ bs)
+commit-kept k p r n cs cs' bs bs' e h = let w = commit-left k p r n cs cs' e (h .left) in (w .0, w .1, h .kept ∙ ap (λ (q : Paper Committed). keptAfter k q bs) (w .0))
 
 -- ---- one ring: the rings
 
@@ -125,34 +129,48 @@ unfolding rings.countOf onward
 rings-left (answers k) r n xs ys e h = absurd (no-answer n (length k) (sym e ∙ h .answer))
 rings-left (refuses m) r n xs ys e h = (same-number (sym e ∙ h .answer), h .store)
 
--- ---- parts: the rings
+-- ---- the rings of a move alone
 
-pub parts-call : {spec : TurnStockSpec} {edition : ℕ} {p : Paper (List Ring)} {r : Rebuilt} {xs ys : List Float} {l : List Asked} → Rebuilds spec edition xs p r ys → Exactly p l → Exactly (rebuiltPaper r) l
+pub taken-call : {p : Paper RingsLeft} {r : Counts} {xs ys : List Float} {l : List Asked} → TakesRings p r xs ys → Exactly p l → Exactly (countsPaper r) l
+unfolding refusalOf
+taken-call {p} {r} h x = exactly-as (countsPaper r) (ap refusalOf (h .answer) ∙ same p) x
+  where
+    same : (p : Paper RingsLeft) → refusalOf (moves.countsLeft p) ≡ refusalOf p
+    same (answers a) = refl
+    same (refuses n) = refl
+
+pub taken-left : (p : Paper RingsLeft) (r : Counts) (n : Reason) (xs ys : List Float) → countsPaper r ≡ refuses n → TakesRings p r xs ys → (p ≡ refuses n) × (ys ≡ xs)
+taken-left (answers a) r n xs ys e h = absurd (no-answer n _ (sym e ∙ h .answer))
+taken-left (refuses m) r n xs ys e h = (same-number (sym e ∙ h .answer), h .rings)
+
+-- ---- parts: the kept numbers and the rings
+
+pub parts-call : {spec : TurnStockSpec} {edition : ℕ} {p : Paper (List Ring)} {cs : List Float} {r : Rebuilt} {bs bs' xs ys : List Float} {l : List Asked} → Rebuilds spec edition cs p r bs bs' xs ys → Exactly p l → Exactly (rebuiltPaper r) l
 unfolding refusalOf rings.countOf onward
-parts-call {spec} {edition} {p} {r} h x = exactly-as (rebuiltPaper r) (ap refusalOf (h .answer) ∙ same p) x
+parts-call {spec} {edition} {p} {cs} {r} h x = exactly-as (rebuiltPaper r) (ap refusalOf (h .answer) ∙ same p) x
   where
     same : (p : Paper (List Ring)) → refusalOf (stockStored spec edition (rings.countOf p)) ≡ refusalOf p
     same (answers k) = refl
     same (refuses n) = refl
 
-pub parts-left : (spec : TurnStockSpec) (edition : ℕ) (p : Paper (List Ring)) (r : Rebuilt) (n : Reason) (xs ys : List Float) → rebuiltPaper r ≡ refuses n → Rebuilds spec edition xs p r ys → (p ≡ refuses n) × (ys ≡ xs)
+pub parts-left : (spec : TurnStockSpec) (edition : ℕ) (cs : List Float) (p : Paper (List Ring)) (r : Rebuilt) (n : Reason) (bs bs' xs ys : List Float) → rebuiltPaper r ≡ refuses n → Rebuilds spec edition cs p r bs bs' xs ys → (p ≡ refuses n) × (bs' ≡ bs) × (ys ≡ xs)
 unfolding rings.countOf onward
-parts-left spec edition (answers k) r n xs ys e h = absurd (no-answer n _ (sym e ∙ h .answer))
-parts-left spec edition (refuses m) r n xs ys e h = (same-number (sym e ∙ h .answer), h .store)
+parts-left spec edition cs (answers k) r n bs bs' xs ys e h = absurd (no-answer n _ (sym e ∙ h .answer))
+parts-left spec edition cs (refuses m) r n bs bs' xs ys e h = (same-number (sym e ∙ h .answer), h .kept, h .store)
 
--- ---- a move: the cells and the rings, nothing of either written before all is decided
+-- ---- a move: the cells, the kept numbers and the rings, nothing of either written before all is decided
 
-pub move-call : {k : TurnStock} {p : Paper Left} {r : Moved} {cs cs' xs xs' : List Float} {l : List Asked} → Moves k p r cs cs' xs xs' → Exactly p l → Exactly (movedPaper r) l
+pub move-call : {k : TurnStock} {p : Paper Left} {r : Moved} {cs cs' bs bs' xs xs' : List Float} {l : List Asked} → MovesKept k p r cs cs' bs bs' xs xs' → Exactly p l → Exactly (movedPaper r) l
 unfolding refusalOf
-move-call {k} {p} {r} h x = exactly-as (movedPaper r) (ap refusalOf (h .answer) ∙ same p) x
+move-call {k} {p} {r} h x = exactly-as (movedPaper r) (ap refusalOf (h .left .answer) ∙ same p) x
   where
     same : (p : Paper Left) → refusalOf (stockAfter k (moves.countsOf p)) ≡ refusalOf p
     same (answers a) = refl
     same (refuses n) = refl
 
-pub move-left : (k : TurnStock) (p : Paper Left) (r : Moved) (n : Reason) (cs cs' xs xs' : List Float) → movedPaper r ≡ refuses n → Moves k p r cs cs' xs xs' → (p ≡ refuses n) × (cs' ≡ cs) × (xs' ≡ xs)
-move-left k (answers a) r n cs cs' xs xs' e h = absurd (no-answer n _ (sym e ∙ h .answer))
-move-left k (refuses m) r n cs cs' xs xs' e h = (same-number (sym e ∙ h .answer), h .cells, h .rings)
+pub move-left : (k : TurnStock) (p : Paper Left) (r : Moved) (n : Reason) (cs cs' bs bs' xs xs' : List Float) → movedPaper r ≡ refuses n → MovesKept k p r cs cs' bs bs' xs xs' → (p ≡ refuses n) × (cs' ≡ cs) × (bs' ≡ bs) × (xs' ≡ xs)
+move-left k (answers a) r n cs cs' bs bs' xs xs' e h = absurd (no-answer n _ (sym e ∙ h .left .answer))
+move-left k (refuses m) r n cs cs' bs bs' xs xs' e h = (same-number (sym e ∙ h .left .answer), h .left .cells, h .kept, h .left .rings)
 
 -- ---- a line of a job: the cells and the rings. The two lists are scratch of the call: at the last generation a cut has written its changes there when its commit answers 12
 

@@ -1,3 +1,4 @@
+pub mod Matched
 pub mod InTurn
 pub mod Third
 pub mod Tools
@@ -36,3 +37,4 @@ pub mod FileRoom
 pub mod Files
 pub mod SideBySide
 pub mod SideLines
+pub mod Kept

@@ -11,6 +11,7 @@
 --   nose      segment_at, segments_good, track_of, alike
 --   polygon   polygon_good, index_range
 --   changes   room, change_at, held_of, is_accepted, put_after
+--   moves     is_moved
 --   rings     rings_fit, raised_by; first_bad_ring (`same-judged`)
 --   queries   bins_at
 --   blocks    blocks_in, matches, renew_all, clear, renew_block, renew_changed
@@ -27,7 +28,7 @@
 --   reach     lower, upper, low_of (same-low), reach_from (same-reach)
 --   nose      sampled (same-sample), step (same-swept)
 --   polygon   lowest (same-low), extent_of (same-extent)
---   changes   first_refusal (same-passing), begin, step (same-deciding), conclude (same-applied)
+--   changes   first_refusal, outcome (same-passing), begin, step (same-deciding), raised (same-applied), asked_cells (same-counted)
 --   envelope  order_of (same-ordered), within_span (same-spanned), within_refusal (same-looked), radius_at (same-radius-at), radius_range (same-radius-range)
 --   insert    excess, penetration (same-touch), eroded (same-radius-at)
 --   queries   volume, envelope_at (Outcomes.volume-once, Outcomes.envelope-once of queries), shown (Outcomes.same-seen of queries)
@@ -39,10 +40,10 @@
 --   stock     fill (filled-once)
 --   polygon   swept_in (swept-once)
 --   cuts      preview_tool, preview_cut, preview, preview_polygon, thread_cut, thread_cut_inner, drill (Proposals.proposed-once of changes)
---   changes   list_change (listed-once), apply, commit_unasked (applied-once), changes_to (Proposals.proposed-once of changes); list_of (Proposals.same-previewed of changes)
+--   changes   list_change (listed-once), commit_unasked (applied-once), apply (applied-kept-once), changes_to (Proposals.proposed-once of changes); list_of (Proposals.same-previewed of changes)
 --   change_slices apply, read_changes, propose (Once of change_slices), apply_move (Once.moved-once of moves)
 --   rings     remove_ring (removed-once), remove_rings (Once.stored-once of moves), left_of (left-of-once)
---   moves     apply_move (Once.moved-once of moves), from_parts (Once.rebuilt-once of moves)
+--   moves     apply_move (Once.moved-once of moves), from_parts (Once.rebuilt-once of moves), take_rings (taken-rings-once); with_counts (Once.same-moved of moves)
 --   blocks    renew (renewed-once), leave_block (left-once), range_kept (kept-once)
 --   envelope  span_over (span-over-once), highest (highest-once)
 --   envelope  held::Envelope: new (new-once), order (order-once), within (within-once, of the numbers), radius_at (radius-at-once), radius_range (radius-range-once)
@@ -131,7 +132,7 @@ use Rattle.changes.specs.declared.Passing.the-variants as passing
 use Rattle.changes.specs.declared.Applied.{Applied}
 use Rattle.changes.specs.declared.Applied.the-variants as applied
 use Rattle.changes.specs.declared.Deciding.{Deciding}
-use Rattle.changes.specs.Commit.{passingPaper, Committed, appliedPaper, Applies}
+use Rattle.changes.specs.Commit.{passingPaper, Committed, appliedPaper, Applies, AppliesKept}
 use Rattle.changes.specs.Decide.{Decides, decidingPaper}
 use Rattle.rings.specs.declared.Removed.{Removed}
 use Rattle.rings.specs.declared.Removed.the-variants as removed
@@ -141,7 +142,10 @@ use Rattle.rings.specs.declared.Ring.{Ring}
 use Rattle.rings.specs.declared.Left.{Left}
 use Rattle.rings.specs.declared.Left.the-variants as pieces
 use Rattle.rings.specs.Store.{judgedPlace}
-use Rattle.rings.specs.Remove.{RingStore, removedPaper, Removes, leftPaper, LeavesOf}
+use Rattle.rings.specs.declared.Counts.{Counts}
+use Rattle.rings.specs.declared.Counts.the-variants as counts
+use Rattle.rings.specs.Remove.{RingStore, RingCount, countsPaper, removedPaper, Removes, leftPaper, LeavesOf}
+use Rattle.moves.specs.Move.{RingsLeft, TakesRings}
 use Rattle.text.specs.Wrote.{Wrote, Put}
 use Rattle.job_run.specs.declared.Run.{Run}
 use Rattle.job_run.specs.declared.Taken.{Taken}
@@ -260,9 +264,8 @@ same-passing (passing.RefusedAt c j) (passing.RefusedAt d k) h = let e = one-pla
 -- how far a list is decided
 pub same-deciding : (r r' : Deciding) → decidingPaper r ≡ decidingPaper r' → r ≡ r'
 same-deciding r r' h =
-    let stock = same-passing (r .stock) (r' .stock) (ap (λ (d : Decides). d .stock) h) in
     let found = same-passing (r .found) (r' .found) (ap (λ (d : Decides). d .found) h) in
-    λ i. record { s = h i .spec; n = h i .n; stock = stock i; any = h i .any; last = h i .last; rises = h i .rises; count = h i .count; fall = h i .fall; found = found i }
+    λ i. record { s = h i .spec; n = h i .n; any = h i .any; last = h i .last; rises = h i .rises; count = h i .count; fall = h i .fall; found = found i }
 
 pub same-applied : (r r' : Applied) → appliedPaper r ≡ appliedPaper r' → r ≡ r'
 same-applied (applied.Stock g) (applied.Stock k) h = ap applied.Stock (same-answer h)
@@ -274,6 +277,19 @@ same-applied (applied.RefusedAt c j) (applied.Stock g) h = absurd (no-answer _ _
 same-applied (applied.Refused c) (applied.RefusedAt d k) h = absurd (no-place c d k (same-number h))
 same-applied (applied.RefusedAt c j) (applied.Refused d) h = absurd (no-place d c j (same-number (sym h)))
 same-applied (applied.RefusedAt c j) (applied.RefusedAt d k) h = let e = one-place c d j k (same-number h) in ap₂ applied.RefusedAt (e .0) (e .1)
+
+pub same-counts : (r r' : Counts) → countsPaper r ≡ countsPaper r' → r ≡ r'
+same-counts (counts.Stored n g) (counts.Stored m h) e =
+    let f : _≡_ {A = RingCount} (record { rings = n; generation = g }) (record { rings = m; generation = h }) = same-answer e in
+    ap₂ counts.Stored (ap (λ (x : RingCount). x .rings) f) (ap (λ (x : RingCount). x .generation) f)
+same-counts (counts.Stored n g) (counts.Refused d) h = absurd (no-answer _ _ (sym h))
+same-counts (counts.Refused c) (counts.Stored m g) h = absurd (no-answer _ _ h)
+same-counts (counts.Refused c) (counts.Refused d) h = ap counts.Refused (same-refusal c d h)
+same-counts (counts.Stored n g) (counts.RefusedAt d j) h = absurd (no-answer _ _ (sym h))
+same-counts (counts.RefusedAt c j) (counts.Stored m g) h = absurd (no-answer _ _ h)
+same-counts (counts.Refused c) (counts.RefusedAt d k) h = absurd (no-place c d k (same-number h))
+same-counts (counts.RefusedAt c j) (counts.Refused d) h = absurd (no-place d c j (same-number (sym h)))
+same-counts (counts.RefusedAt c j) (counts.RefusedAt d k) h = let e = one-place c d j k (same-number h) in ap₂ counts.RefusedAt (e .0) (e .1)
 
 pub same-removed : (r r' : Removed) → removedPaper r ≡ removedPaper r' → r ≡ r'
 same-removed (removed.Stock k) (removed.Stock k') h = ap removed.Stock (same-answer h)
@@ -384,6 +400,12 @@ swept-once ps side excess b lo hi start end r r' m n =
 
 pub applied-once : (k : TurnStock) (p : Paper Committed) (r r' : Applied) (cs cs₁ cs₂ : List Float) → Applies k p r cs cs₁ → Applies k p r' cs cs₂ → (r ≡ r') × (cs₁ ≡ cs₂)
 applied-once k p r r' cs cs₁ cs₂ a b = (same-applied r r' (a .answer ∙ sym (b .answer)), a .cells ∙ sym (b .cells))
+
+pub applied-kept-once : (k : TurnStock) (p : Paper Committed) (r r' : Applied) (cs cs₁ cs₂ bs bs₁ bs₂ : List Float) → AppliesKept k p r cs cs₁ bs bs₁ → AppliesKept k p r' cs cs₂ bs bs₂ → (r ≡ r') × (cs₁ ≡ cs₂) × (bs₁ ≡ bs₂)
+applied-kept-once k p r r' cs cs₁ cs₂ bs bs₁ bs₂ a b = let w = applied-once k p r r' cs cs₁ cs₂ (a .left) (b .left) in (w .0, w .1, a .kept ∙ sym (b .kept))
+
+pub taken-rings-once : (p : Paper RingsLeft) (r r' : Counts) (xs xs₁ xs₂ : List Float) → TakesRings p r xs xs₁ → TakesRings p r' xs xs₂ → (r ≡ r') × (xs₁ ≡ xs₂)
+taken-rings-once p r r' xs xs₁ xs₂ a b = (same-counts r r' (a .answer ∙ sym (b .answer)), a .rings ∙ sym (b .rings))
 
 pub removed-once : (k : TurnStock) (xs : List Float) (p : Paper RingStore) (r r' : Removed) (xs₁ xs₂ : List Float) → Removes k xs p r xs₁ → Removes k xs p r' xs₂ → (r ≡ r') × (xs₁ ≡ xs₂)
 removed-once k xs p r r' xs₁ xs₂ a b = (same-removed r r' (a .answer ∙ sym (b .answer)), a .store ∙ sym (b .store))

@@ -85,9 +85,9 @@ list-by {xs} {ys} {p} {m} a = go p (a .answer) (a .store)
     go (refuses r) b c = absurd (no-answer r m (sym b))
     go (answers l) b c = record { rings = l; rule = refl; held = ap₂ ringsOf (same-answer b) c ∙ rings-stored xs l }
 
-pub rebuilt-by : {spec : TurnStockSpec} {edition : ℕ} {xs ys : List Float} {p : Paper (List Ring)} {a : TurnStock} → Rebuilds spec edition xs p (rebuilt.Stock a) ys → ListBy p (a .rings) ys
+pub rebuilt-by : {spec : TurnStockSpec} {edition : ℕ} {cs bs bs' xs ys : List Float} {p : Paper (List Ring)} {a : TurnStock} → Rebuilds spec edition cs p (rebuilt.Stock a) bs bs' xs ys → ListBy p (a .rings) ys
 unfolding rings.countOf onward
-rebuilt-by {spec} {edition} {xs} {ys} {p} {a} h = go p (h .answer) (h .store)
+rebuilt-by {spec} {edition} {cs} {bs} {bs'} {xs} {ys} {p} {a} h = go p (h .answer) (h .store)
   where
     go : (p : Paper (List Ring)) → answers a ≡ stockStored spec edition (rings.countOf p) → ys ≡ rings.storeAfter xs p → ListBy p (a .rings) ys
     go (refuses r) b c = absurd (no-answer r a (sym b))
@@ -195,38 +195,38 @@ module _ (spec : TurnStockSpec) (xs : List Float) (n : ℕ) (f : countFits (barR
 
 -- ---- a move
 
-module _ (k : TurnStock) (cs xs : List Float) (list : ChangeList) (is : List ℕ) (ys : List Float) where
+module _ (k : TurnStock) (cs bs xs : List Float) (list : ChangeList) (is : List ℕ) (ys : List Float) where
   -- the rings that an accepted move leaves cover what was covered and what its clipped rings cover, and nothing else: every ring of it, not the first alone
-  pub moved-covers : (removed : List Float) (a : Left) → moveOf k cs xs list is ys removed ≡ answers a → (z r : Float)
+  pub moved-covers : (removed : List Float) (a : Left) → moveOf k cs bs xs list is ys removed ≡ answers a → (z r : Float)
       → covered (a .rings) z r ≡ (covered (ringsOf (k .rings) xs) z r || covered (map (clipped (k .spec)) (ringsOf (length removed / 4) removed)) z r)
-  moved-covers removed a h = move-covers k cs xs list is ys removed a h
+  moved-covers removed a h = move-covers k cs bs xs list is ys removed a h
 
   -- no two of them share a point
-  pub moved-disjoint : (removed : List Float) (a : Left) → moveOf k cs xs list is ys removed ≡ answers a → Disjoint (a .rings)
-  moved-disjoint removed a h = move-disjoint k cs xs list is ys removed a h
+  pub moved-disjoint : (removed : List Float) (a : Left) → moveOf k cs bs xs list is ys removed ≡ answers a → Disjoint (a .rings)
+  moved-disjoint removed a h = move-disjoint k cs bs xs list is ys removed a h
 
   -- either order of its rings: the same cells, the same generation, the same points covered
-  module _ (removed removed' : List Float) (a a' : Left) (turn : List·Permᴰ (ringsOf (length removed / 4) removed) (ringsOf (length removed' / 4) removed')) (h : moveOf k cs xs list is ys removed ≡ answers a) (h' : moveOf k cs xs list is ys removed' ≡ answers a') where
+  module _ (removed removed' : List Float) (a a' : Left) (turn : List·Permᴰ (ringsOf (length removed / 4) removed) (ringsOf (length removed' / 4) removed')) (h : moveOf k cs bs xs list is ys removed ≡ answers a) (h' : moveOf k cs bs xs list is ys removed' ≡ answers a') where
     pub moved-either-cells : a .cells ≡ a' .cells
-    moved-either-cells = either-cells k cs xs list is ys removed removed' a a' turn h h'
+    moved-either-cells = either-cells k cs bs xs list is ys removed removed' a a' turn h h'
 
     pub moved-either-generation : a .generation ≡ a' .generation
-    moved-either-generation = either-generation k cs xs list is ys removed removed' a a' turn h h'
+    moved-either-generation = either-generation k cs bs xs list is ys removed removed' a a' turn h h'
 
     pub moved-either-order : (z r : Float) → covered (a .rings) z r ≡ covered (a' .rings) z r
-    moved-either-order = either-covers k cs xs list is ys removed removed' a a' turn h h'
+    moved-either-order = either-covers k cs bs xs list is ys removed removed' a a' turn h h'
 
   -- the same of the lent numbers that the call leaves
-  pub moved-call-covers : (removed : List Float) (k' : TurnStock) (cs' xs' : List Float) → Moves k (moveOf k cs xs list is ys removed) (moved.Stock k') cs cs' xs xs' → (z r : Float)
+  pub moved-call-covers : (removed : List Float) (k' : TurnStock) (cs' xs' : List Float) → Moves k (moveOf k cs bs xs list is ys removed) (moved.Stock k') cs cs' xs xs' → (z r : Float)
       → covered (ringsOf (k' .rings) xs') z r ≡ (covered (ringsOf (k .rings) xs) z r || covered (map (clipped (k .spec)) (ringsOf (length removed / 4) removed)) z r)
   moved-call-covers removed k' cs' xs' a z r = let w = left-by a in ap (λ (l : List Ring). covered l z r) (w .rings) ∙ moved-covers removed (w .left) (w .rule) z r
 
-  pub moved-call-disjoint : (removed : List Float) (k' : TurnStock) (cs' xs' : List Float) → Moves k (moveOf k cs xs list is ys removed) (moved.Stock k') cs cs' xs xs' → Disjoint (ringsOf (k' .rings) xs')
+  pub moved-call-disjoint : (removed : List Float) (k' : TurnStock) (cs' xs' : List Float) → Moves k (moveOf k cs bs xs list is ys removed) (moved.Stock k') cs cs' xs xs' → Disjoint (ringsOf (k' .rings) xs')
   moved-call-disjoint removed k' cs' xs' a = let w = left-by a in subst Disjoint (sym (w .rings)) (moved-disjoint removed (w .left) (w .rule))
 
   -- either order of its rings leaves the same cells and the same generation, and the same points covered
   pub moved-call-either-order : (removed removed' : List Float) (k' k'' : TurnStock) (cs' cs'' xs' xs'' : List Float) → List·Permᴰ (ringsOf (length removed / 4) removed) (ringsOf (length removed' / 4) removed')
-      → Moves k (moveOf k cs xs list is ys removed) (moved.Stock k') cs cs' xs xs' → Moves k (moveOf k cs xs list is ys removed') (moved.Stock k'') cs cs'' xs xs''
+      → Moves k (moveOf k cs bs xs list is ys removed) (moved.Stock k') cs cs' xs xs' → Moves k (moveOf k cs bs xs list is ys removed') (moved.Stock k'') cs cs'' xs xs''
       → (cs' ≡ cs'') × (k' .stamp ≡ k'' .stamp) × ((z r : Float) → covered (ringsOf (k' .rings) xs') z r ≡ covered (ringsOf (k'' .rings) xs'') z r)
   moved-call-either-order removed removed' k' k'' cs' cs'' xs' xs'' d a a' =
       let w = left-by a in
@@ -243,10 +243,10 @@ pub moves-cover : {spec : TurnStockSpec} {edition : ℕ} {s t : Held} {vs : List
     → covered (ringsOf (t .store .count) (t .store .numbers)) z r ≡ (covered (ringsOf (s .store .count) (s .store .numbers)) z r || covered (map (clipped spec) (ringsIn vs)) z r)
 unfolding covered ringsIn
 moves-cover {s = s} no-moves z r = sym (or-false (covered (ringsOf (s .store .count) (s .store .numbers)) z r))
-moves-cover {spec} {edition} (made-move {v} {vs} {cs} {cs'} {xs} {ys} {n} {g} {m} {h} a b) z r =
+moves-cover {spec} {edition} (made-move {v} {vs} {cs} {cs'} {bs} {bs'} {xs} {ys} {n} {g} {m} {h} a b) z r =
     let qs = ringsOf (length (v .removed) / 4) (v .removed) in
     moves-cover b z r
-    ∙ ap (λ (x : Bool). x || covered (map (clipped spec) (ringsIn vs)) z r) (moved-call-covers (stockFrom spec edition n g) cs xs (moveList edition g v) (v .indices) (v .numbers) (v .removed) (stockFrom spec edition m h) cs' ys a z r)
+    ∙ ap (λ (x : Bool). x || covered (map (clipped spec) (ringsIn vs)) z r) (moved-call-covers (stockFrom spec edition n g) cs bs xs (moveList edition g v) (v .indices) (v .numbers) (v .removed) (stockFrom spec edition m h) cs' ys (a .left) z r)
     ∙ or-assoc (covered (ringsOf n xs) z r) (covered (map (clipped spec) qs) z r) (covered (map (clipped spec) (ringsIn vs)) z r)
     ∙ ap (λ (x : Bool). covered (ringsOf n xs) z r || x) (sym (covers-append qs (ringsIn vs)))
   where
@@ -257,17 +257,17 @@ moves-cover {spec} {edition} (made-move {v} {vs} {cs} {cs'} {xs} {ys} {n} {g} {m
 -- No two stored rings share a point, if none did at the start.
 pub moves-disjoint : {spec : TurnStockSpec} {edition : ℕ} {s t : Held} {vs : List Move} → RanMoves spec edition s vs t → Disjoint (ringsOf (s .store .count) (s .store .numbers)) → Disjoint (ringsOf (t .store .count) (t .store .numbers))
 moves-disjoint no-moves d = d
-moves-disjoint {spec} {edition} (made-move {v} {vs} {cs} {cs'} {xs} {ys} {n} {g} {m} {h} a b) d = moves-disjoint b (moved-call-disjoint (stockFrom spec edition n g) cs xs (moveList edition g v) (v .indices) (v .numbers) (v .removed) (stockFrom spec edition m h) cs' ys a)
+moves-disjoint {spec} {edition} (made-move {v} {vs} {cs} {cs'} {bs} {bs'} {xs} {ys} {n} {g} {m} {h} a b) d = moves-disjoint b (moved-call-disjoint (stockFrom spec edition n g) cs bs xs (moveList edition g v) (v .indices) (v .numbers) (v .removed) (stockFrom spec edition m h) cs' ys (a .left))
 
 -- The generation rises by one for each move, and by one for each ring that is not empty after clipping.
 pub moves-rise : {spec : TurnStockSpec} {edition : ℕ} {s t : Held} {vs : List Move} → RanMoves spec edition s vs t → t .store .generation ≡ s .store .generation + length vs + raisedBy (barRing (cleanSpec spec)) (ringsIn vs)
 unfolding ringsIn raisedBy generationAfter
 moves-rise {s = s} no-moves = let g = s .store .generation in omega arith
-moves-rise {spec} {edition} (made-move {v} {vs} {cs} {cs'} {xs} {ys} {n} {g} {m} {h} a b) =
+moves-rise {spec} {edition} (made-move {v} {vs} {cs} {cs'} {bs} {bs'} {xs} {ys} {n} {g} {m} {h} a b) =
     let e = barRing (cleanSpec spec) in
     let qs = ringsOf (length (v .removed) / 4) (v .removed) in
-    let w = left-by a in
-    let x : h ≡ g + 1 + raisedBy e qs = w .generation ∙ taken (stockFrom spec edition n g) cs xs (moveList edition g v) (v .indices) (v .numbers) (v .removed) (w .left) (w .rule) .rises in
+    let w = left-by (a .left) in
+    let x : h ≡ g + 1 + raisedBy e qs = w .generation ∙ taken (stockFrom spec edition n g) cs bs xs (moveList edition g v) (v .indices) (v .numbers) (v .removed) (w .left) (w .rule) .rises in
     moves-rise b ∙ ap (λ (j : ℕ). j + length vs + raisedBy e (ringsIn vs)) x ∙ one g (raisedBy e qs) (length vs) (raisedBy e (ringsIn vs)) ∙ ap (λ (j : ℕ). g + suc (length vs) + j) (sym (raised-append e qs (ringsIn vs)))
   where
     one : (g a n b : ℕ) → g + 1 + a + n + b ≡ g + suc n + (a + b)
@@ -310,30 +310,30 @@ module _ {spec : TurnStockSpec} {edition : ℕ} {s t t' : Held} {vs vs' : List M
 
 -- ---- a stock rebuilt from its parts
 
-module _ (spec : TurnStockSpec) (cs xs : List Float) where
+module _ (spec : TurnStockSpec) (cs bs xs : List Float) where
   -- its rings cover what the clipped rings given cover, and nothing else
-  pub rebuilt-covers : (given : List Float) (l : List Ring) → partsOf spec cs given xs ≡ answers l → (z r : Float) → covered l z r ≡ covered (map (clipped spec) (ringsOf (length given / 4) given)) z r
-  rebuilt-covers given l h = parts-cover spec cs xs given l h
+  pub rebuilt-covers : (given : List Float) (l : List Ring) → partsOf spec cs (length bs) given xs ≡ answers l → (z r : Float) → covered l z r ≡ covered (map (clipped spec) (ringsOf (length given / 4) given)) z r
+  rebuilt-covers given l h = parts-cover spec cs (length bs) xs given l h
 
   -- no two of them share a point
-  pub rebuilt-disjoint : (given : List Float) (l : List Ring) → partsOf spec cs given xs ≡ answers l → Disjoint l
-  rebuilt-disjoint given l h = parts-disjoint spec cs xs given l h
+  pub rebuilt-disjoint : (given : List Float) (l : List Ring) → partsOf spec cs (length bs) given xs ≡ answers l → Disjoint l
+  rebuilt-disjoint given l h = parts-disjoint spec cs (length bs) xs given l h
 
   -- either order of the rings given covers the same points
-  pub rebuilt-either-order : (given given' : List Float) (l l' : List Ring) → List·Permᴰ (ringsOf (length given / 4) given) (ringsOf (length given' / 4) given') → partsOf spec cs given xs ≡ answers l → partsOf spec cs given' xs ≡ answers l'
+  pub rebuilt-either-order : (given given' : List Float) (l l' : List Ring) → List·Permᴰ (ringsOf (length given / 4) given) (ringsOf (length given' / 4) given') → partsOf spec cs (length bs) given xs ≡ answers l → partsOf spec cs (length bs) given' xs ≡ answers l'
       → (z r : Float) → covered l z r ≡ covered l' z r
-  rebuilt-either-order given given' l l' d h h' = parts-either-order spec cs xs given given' l l' d h h'
+  rebuilt-either-order given given' l l' d h h' = parts-either-order spec cs (length bs) xs given given' l l' d h h'
 
   -- the same of the lent numbers that the call leaves
-  pub rebuilt-call-covers : (edition : ℕ) (given : List Float) (b : TurnStock) (ys : List Float) → Rebuilds spec edition xs (partsOf spec cs given xs) (rebuilt.Stock b) ys → (z r : Float) → covered (ringsOf (b .rings) ys) z r ≡ covered (map (clipped spec) (ringsOf (length given / 4) given)) z r
-  rebuilt-call-covers edition given b ys a z r = let w = rebuilt-by a in ap (λ (l : List Ring). covered l z r) (w .held) ∙ rebuilt-covers given (w .rings) (w .rule) z r
+  pub rebuilt-call-covers : (edition : ℕ) (given : List Float) (b : TurnStock) (bs' ys : List Float) → Rebuilds spec edition cs (partsOf spec cs (length bs) given xs) (rebuilt.Stock b) bs bs' xs ys → (z r : Float) → covered (ringsOf (b .rings) ys) z r ≡ covered (map (clipped spec) (ringsOf (length given / 4) given)) z r
+  rebuilt-call-covers edition given b bs' ys a z r = let w = rebuilt-by a in ap (λ (l : List Ring). covered l z r) (w .held) ∙ rebuilt-covers given (w .rings) (w .rule) z r
 
-  pub rebuilt-call-disjoint : (edition : ℕ) (given : List Float) (b : TurnStock) (ys : List Float) → Rebuilds spec edition xs (partsOf spec cs given xs) (rebuilt.Stock b) ys → Disjoint (ringsOf (b .rings) ys)
-  rebuilt-call-disjoint edition given b ys a = let w = rebuilt-by a in subst Disjoint (sym (w .held)) (rebuilt-disjoint given (w .rings) (w .rule))
+  pub rebuilt-call-disjoint : (edition : ℕ) (given : List Float) (b : TurnStock) (bs' ys : List Float) → Rebuilds spec edition cs (partsOf spec cs (length bs) given xs) (rebuilt.Stock b) bs bs' xs ys → Disjoint (ringsOf (b .rings) ys)
+  rebuilt-call-disjoint edition given b bs' ys a = let w = rebuilt-by a in subst Disjoint (sym (w .held)) (rebuilt-disjoint given (w .rings) (w .rule))
 
-  pub rebuilt-call-either-order : (edition : ℕ) (given given' : List Float) (b b' : TurnStock) (ys ys' : List Float) → List·Permᴰ (ringsOf (length given / 4) given) (ringsOf (length given' / 4) given') → Rebuilds spec edition xs (partsOf spec cs given xs) (rebuilt.Stock b) ys
-      → Rebuilds spec edition xs (partsOf spec cs given' xs) (rebuilt.Stock b') ys' → (z r : Float) → covered (ringsOf (b .rings) ys) z r ≡ covered (ringsOf (b' .rings) ys') z r
-  rebuilt-call-either-order edition given given' b b' ys ys' d a a' z r =
+  pub rebuilt-call-either-order : (edition : ℕ) (given given' : List Float) (b b' : TurnStock) (bs₁ bs₂ ys ys' : List Float) → List·Permᴰ (ringsOf (length given / 4) given) (ringsOf (length given' / 4) given') → Rebuilds spec edition cs (partsOf spec cs (length bs) given xs) (rebuilt.Stock b) bs bs₁ xs ys
+      → Rebuilds spec edition cs (partsOf spec cs (length bs) given' xs) (rebuilt.Stock b') bs bs₂ xs ys' → (z r : Float) → covered (ringsOf (b .rings) ys) z r ≡ covered (ringsOf (b' .rings) ys') z r
+  rebuilt-call-either-order edition given given' b b' bs₁ bs₂ ys ys' d a a' z r =
       let w = rebuilt-by a in
       let w' = rebuilt-by a' in
       ap (λ (l : List Ring). covered l z r) (w .held) ∙ rebuilt-either-order given given' (w .rings) (w' .rings) d (w .rule) (w' .rule) z r ∙ ap (λ (l : List Ring). covered l z r) (sym (w' .held))

@@ -43,8 +43,10 @@ use Rattle.changes.specs.Change.{changesTo, changesFrom, indicesOf, numbersOf, 
 use Rattle.changes.proofs.ReadBack.{read-back}
 use Rattle.cuts.specs.Preview.{previewOf, previewCut}
 use Rattle.changes.specs.declared.Applied.the-variants as commit
-use Rattle.changes.specs.Commit.{Committed, putAll, commitIn, applyOf, generationOf, stockAt, cellsAfter, Applies}
+use Rattle.changes.specs.Commit.{Committed, putAll, commitIn, askedStock, applyOf, generationOf, stockAt, cellsAfter, Applies}
 use Rattle.changes.specs.Difference.{otherCell, differenceOf}
+use Rattle.changes.proofs.Stamped.{Matching}
+use Rattle.changes.proofs.Kept.{asked}
 use Rattle.changes.proofs.Stocks.{stock-good}
 use Rattle.changes.proofs.Accepted.{good-bins}
 use Rattle.changes.proofs.Proposal.{act-cuts}
@@ -144,63 +146,63 @@ difference-lists spec cs ds room l e =
 -- ---- commits
 
 -- WHAT A COMMIT WRITES: each change of the list, and no other bin; the generation rises by 1, also with no changes. The list has the stock's stamp: its edition and its generation.
-pub commit-writes : (k : TurnStock) (cs : List Float) (list : ChangeList) (is : List ℕ) (xs : List Float) (m : Committed) → applyOf k cs list is xs ≡ answers m
+pub commit-writes : (k : TurnStock) (cs bs : List Float) (list : ChangeList) (is : List ℕ) (xs : List Float) (m : Committed) → applyOf k cs bs list is xs ≡ answers m
     → Writes (changesFrom is xs (list .count)) cs (m .cells) × (m .generation ≡ k .stamp .generation + 1) × (list .stamp ≡ k .stamp)
 unfolding applyOf commitIn
-commit-writes k cs list is xs m h =
+commit-writes k cs bs list is xs m h =
     let l = changesFrom is xs (list .count) in
-    let s = answered (stockOf (k .spec) cs) _ m h in
-    let d19 = demanded _ _ _ _ (s .then) in
-    let d6 = demanded _ _ _ _ (d19 .1) in
+    let s = answered (askedStock k cs bs (list .stamp)) _ m h in
+    let f = asked k cs bs (list .stamp) (s .value) (s .first) in
+    let d6 = demanded _ _ _ _ (s .then) in
     let p = answered _ _ _ (d6 .1) in
     let d12 = demanded _ _ _ _ (p .then) in
     let v : _≡_ {A = Committed} (record { cells = putAll cs l; generation = k .stamp .generation + 1 }) m = same-answer (d12 .1) in (
-      subst (λ (y : Committed). Writes l cs (y .cells)) v (changes-written (k .spec) cs (s .value) l (s .first) (p .first)),
+      subst (λ (y : Committed). Writes l cs (y .cells)) v (changes-written (k .spec) cs (s .value) l (f .stock) (p .first)),
       sym (ap (λ (y : Committed). y .generation) v),
-      stamps-agree (list .stamp) (k .stamp) (d19 .0),
+      stamps-agree (list .stamp) (k .stamp) (f .own),
     )
 
 -- the same of the call: what it leaves in the lent cells, and the stock that it answers, whose edition and rings are as they were
-pub commit-call-writes : (k k' : TurnStock) (cs cs' : List Float) (list : ChangeList) (is : List ℕ) (xs : List Float) → Applies k (applyOf k cs list is xs) (commit.Stock k') cs cs'
+pub commit-call-writes : (k k' : TurnStock) (cs cs' bs : List Float) (list : ChangeList) (is : List ℕ) (xs : List Float) → Applies k (applyOf k cs bs list is xs) (commit.Stock k') cs cs'
     → Writes (changesFrom is xs (list .count)) cs cs' × (k' ≡ stockWith k (k .rings) (k .stamp .generation + 1)) × (list .stamp ≡ k .stamp)
-commit-call-writes k k' cs cs' list is xs a = go (applyOf k cs list is xs) refl (a .answer) (a .cells)
+commit-call-writes k k' cs cs' bs list is xs a = go (applyOf k cs bs list is xs) refl (a .answer) (a .cells)
   where
-    go : (p : Paper Committed) → applyOf k cs list is xs ≡ p → answers k' ≡ stockAt k (generationOf p) → cs' ≡ cellsAfter p cs
+    go : (p : Paper Committed) → applyOf k cs bs list is xs ≡ p → answers k' ≡ stockAt k (generationOf p) → cs' ≡ cellsAfter p cs
         → Writes (changesFrom is xs (list .count)) cs cs' × (k' ≡ stockWith k (k .rings) (k .stamp .generation + 1)) × (list .stamp ≡ k .stamp)
     go (refuses n) e b c = absurd (no-answer n k' (sym b))
     go (answers m) e b c =
-        let w = commit-writes k cs list is xs m e in
+        let w = commit-writes k cs bs list is xs m e in
         (subst (Writes (changesFrom is xs (list .count)) cs) (sym c) (w .0), same-answer b ∙ ap (stockWith k (k .rings)) (w .1), w .2)
 
--- PREVIEWS ALWAYS COMMIT: what a preview left in the lists, a commit of its list to the same stock accepts while generations last; each cell is then what the cut makes of it.
-pub previews-commit : (k : TurnStock) (n : ℕ) (t : Cutter) → HeldSpec (k .spec) → HeldCutter t → (cs : List Float) → HeldList cs → stockOf (k .spec) cs ≡ answers n
+-- PREVIEWS ALWAYS COMMIT: what a preview left in the lists, a commit of its list to the same stock accepts while generations last, with kept numbers that match the cells; each cell is then what the cut makes of it.
+pub previews-commit : (k : TurnStock) (n : ℕ) (t : Cutter) → HeldSpec (k .spec) → HeldCutter t → (cs bs : List Float) → HeldList cs → Matching (k .spec) cs bs → stockOf (k .spec) cs ≡ answers n
     → (list : ChangeList) (is is' : List ℕ) (xs xs' : List Float) → k .stamp .generation < lastGeneration → Proposed (k .stamp) (cutterPreview (k .spec) t cs (roomOf (length is) (length xs))) (Listed list) is is' xs xs'
-    → (m : Committed) × (applyOf k cs list is' xs' ≡ answers m) × (m .generation ≡ k .stamp .generation + 1) × ((i : ℕ) → i < n → cellAt (m .cells) i ≡ actCell (cutterAct (k .spec) t) i (cellAt cs i))
-previews-commit k n t hs ht cs hc e list is is' xs xs' h p =
+    → (m : Committed) × (applyOf k cs bs list is' xs' ≡ answers m) × (m .generation ≡ k .stamp .generation + 1) × ((i : ℕ) → i < n → cellAt (m .cells) i ≡ actCell (cutterAct (k .spec) t) i (cellAt cs i))
+previews-commit k n t hs ht cs bs hc m e list is is' xs xs' h p =
     let spec = k .spec in
     let room = roomOf (length is) (length xs) in
     let w = read (cutterPreview spec t cs room) p in
     let s = tool-sound spec n hs (stocked spec cs n e .count) t ht (accepted-good spec t cs room (w .changes) (w .answer)) in
     let g = stock-good hs hc e in
     let f = actCell (cutterAct spec t) in
-    (record { cells = putAll cs (changesTo f cs n); generation = k .stamp .generation + 1 }, lent-commits k s hs cs hc e list is is' xs xs' h p, refl, good-bins g f (act-cuts g (cutterAct spec t) (s .plain)))
+    (record { cells = putAll cs (changesTo f cs n); generation = k .stamp .generation + 1 }, lent-commits k s hs cs bs hc m e list is is' xs xs' h p, refl, good-bins g f (act-cuts g (cutterAct spec t) (s .plain)))
 
 -- ---- moves
 
 -- WHAT A MOVE LEAVES: each change in its bin and no other bin touched; every point that was covered or that one of its rings covers, clipped to the stock; the generation
 -- raised by 1 for the commit and by 1 for each ring that is not empty after clipping.
-pub move-writes : (k : TurnStock) (cs xs : List Float) (list : ChangeList) (is : List ℕ) (ys : List Float) (removed : List Float) (a : Left) → moveOf k cs xs list is ys removed ≡ answers a
+pub move-writes : (k : TurnStock) (cs bs xs : List Float) (list : ChangeList) (is : List ℕ) (ys : List Float) (removed : List Float) (a : Left) → moveOf k cs bs xs list is ys removed ≡ answers a
     → Writes (changesFrom is ys (list .count)) cs (a .cells) × ((z r : Float) → covered (a .rings) z r ≡ (covered (ringsOf (k .rings) xs) z r || covered (map (clip (barRing (cleanSpec (k .spec)))) (ringsOf (length removed / 4) removed)) z r))
     × (a .generation ≡ generationAfter (k .spec) (k .stamp .generation) removed)
-move-writes k cs xs list is ys removed a h =
-    let t = taken k cs xs list is ys removed a h in
-    (subst (Writes (changesFrom is ys (list .count)) cs) (sym (t .cells)) (changes-written (k .spec) cs (t .bins) (changesFrom is ys (list .count)) (t .counted) (t .pass)), moved-covers k cs xs list is ys removed a h, t .rises)
+move-writes k cs bs xs list is ys removed a h =
+    let t = taken k cs bs xs list is ys removed a h in
+    (subst (Writes (changesFrom is ys (list .count)) cs) (sym (t .cells)) (changes-written (k .spec) cs (t .bins) (changesFrom is ys (list .count)) (t .counted) (t .pass)), moved-covers k cs bs xs list is ys removed a h, t .rises)
 
 -- the same of the call: what it leaves in the lent cells and rings, and the stock that it answers, whose edition is as it was
-pub move-call-writes : (k k' : TurnStock) (cs cs' xs xs' : List Float) (list : ChangeList) (is : List ℕ) (ys : List Float) (removed : List Float) → Moves k (moveOf k cs xs list is ys removed) (Stock k') cs cs' xs xs'
+pub move-call-writes : (k k' : TurnStock) (cs cs' bs xs xs' : List Float) (list : ChangeList) (is : List ℕ) (ys : List Float) (removed : List Float) → Moves k (moveOf k cs bs xs list is ys removed) (Stock k') cs cs' xs xs'
     → Writes (changesFrom is ys (list .count)) cs cs' × ((z r : Float) → covered (ringsOf (k' .rings) xs') z r ≡ (covered (ringsOf (k .rings) xs) z r || covered (map (clip (barRing (cleanSpec (k .spec)))) (ringsOf (length removed / 4) removed)) z r))
     × (k' ≡ stockWith k (k' .rings) (generationAfter (k .spec) (k .stamp .generation) removed))
-move-call-writes k k' cs cs' xs xs' list is ys removed m =
+move-call-writes k k' cs cs' bs xs xs' list is ys removed m =
     let t = left-by m in
-    let w = move-writes k cs xs list is ys removed (t .left) (t .rule) in
+    let w = move-writes k cs bs xs list is ys removed (t .left) (t .rule) in
     (subst (Writes (changesFrom is ys (list .count)) cs) (sym (t .cells)) (w .0), λ z r. ap (λ (l : List Ring). covered l z r) (t .rings) ∙ w .1 z r, t .stock ∙ ap (stockWith k (k' .rings)) (w .2))

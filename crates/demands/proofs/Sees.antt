@@ -20,7 +20,8 @@ use Rattle.changes.specs.Change.{changesFrom}
 use Rattle.stock.specs.declared.TurnStock.{TurnStock}
 use Rattle.changes.specs.declared.ChangeList.{ChangeList}
 use Rattle.changes.specs.declared.Applied.the-variants.{Stock}
-use Rattle.changes.specs.Commit.{Committed, onlyRemoves, passAll, putAll, commitIn, applyOf, generationOf, stockAt, cellsAfter, Applies}
+use Rattle.changes.specs.Commit.{Committed, onlyRemoves, passAll, putAll, commitIn, askedStock, applyOf, generationOf, stockAt, cellsAfter, Applies}
+use Rattle.changes.proofs.Kept.{asked}
 use Rattle.moves.proofs.Answered.{answered}
 use Rattle.moves.proofs.Cells.{passed-stock, passed-removes}
 use Rattle.queries.specs.declared.Band.{Band}
@@ -30,7 +31,7 @@ use Rattle.queries.proofs.Envelopes.{at-clean}
 use Rattle.queries.proofs.Sights.{Less, seen-less}
 
 -- cells that only lose
-less-of : (c c' : TurnCell) → onlyRemoves c c' ≡ true → Less c c'
+pub less-of : (c c' : TurnCell) → onlyRemoves c c' ≡ true → Less c c'
 less-of c c' r =
     let A = le (c' .outer .«upper_mm») (c .outer .«upper_mm») in
     let B = le (c' .outer .«lower_mm») (c .outer .«lower_mm») in
@@ -51,17 +52,17 @@ passed-sees spec cs n l e h z b' f =
     (r .0, at-clean spec cs z n e ∙ ap answers (r .1), r .2)
 
 -- AFTER A COMMIT LESS IS SEEN: whatever meets the commit's promise and is accepted, at each height nothing is seen of the cells afterwards, or a band within the one that was seen before.
-pub cut-sees-less : (k k' : TurnStock) (cs cs' : List Float) (list : ChangeList) (is : List ℕ) (xs : List Float) → Applies k (applyOf k cs list is xs) (Stock k') cs cs'
+pub cut-sees-less : (k k' : TurnStock) (cs cs' bs : List Float) (list : ChangeList) (is : List ℕ) (xs : List Float) → Applies k (applyOf k cs bs list is xs) (Stock k') cs cs'
     → (z : Float) (b' : Band) → envelopeAt (k .spec) cs' z ≡ answers (some b') → (b : Band) × (envelopeAt (k .spec) cs z ≡ answers (some b)) × Nested b' b
 unfolding applyOf commitIn
-cut-sees-less k k' cs cs' list is xs a z b' f = go (applyOf k cs list is xs) refl (a .answer) (a .cells)
+cut-sees-less k k' cs cs' bs list is xs a z b' f = go (applyOf k cs bs list is xs) refl (a .answer) (a .cells)
   where
-    go : (p : Paper Committed) → applyOf k cs list is xs ≡ p → answers k' ≡ stockAt k (generationOf p) → cs' ≡ cellsAfter p cs → (b : Band) × (envelopeAt (k .spec) cs z ≡ answers (some b)) × Nested b' b
+    go : (p : Paper Committed) → applyOf k cs bs list is xs ≡ p → answers k' ≡ stockAt k (generationOf p) → cs' ≡ cellsAfter p cs → (b : Band) × (envelopeAt (k .spec) cs z ≡ answers (some b)) × Nested b' b
     go (refuses n) e b c = absurd (no-answer n k' (sym b))
     go (answers m) e b c =
         let l = changesFrom is xs (list .count) in
-        let s = answered (stockOf (k .spec) cs) _ m e in
-        let p = answered _ _ _ (demanded _ _ _ _ (demanded _ _ _ _ (s .then) .1) .1) in
+        let s = answered (askedStock k cs bs (list .stamp)) _ m e in
+        let p = answered _ _ _ (demanded _ _ _ _ (s .then) .1) in
         let v : _≡_ {A = Committed} (record { cells = putAll cs l; generation = k .stamp .generation + 1 }) m = same-answer (demanded _ _ _ _ (p .then) .1) in
         let same : cs' ≡ putAll cs l = c ∙ sym (ap (λ (y : Committed). y .cells) v) in
-        passed-sees (k .spec) cs (s .value) l (s .first) (p .first) z b' (subst (λ (x : List Float). envelopeAt (k .spec) x z ≡ answers (some b')) same f)
+        passed-sees (k .spec) cs (s .value) l (asked k cs bs (list .stamp) (s .value) (s .first) .stock) (p .first) z b' (subst (λ (x : List Float). envelopeAt (k .spec) x z ≡ answers (some b')) same f)

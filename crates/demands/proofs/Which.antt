@@ -30,7 +30,7 @@ use Rattle.reach.proofs.Fit.{same-test}
 use Rattle.stock.proofs.Places.{none-some}
 use Rattle.changes.specs.Change.{changeOf, changeAt, changesTo, indicesOf}
 use Rattle.changes.specs.Commit.{onlyRemoves, appliesTo, passes, eachFrom, fallAfter, firstFall, passAll, putAll, Committed, commitIn, commitOf, ownCommit}
-use Rattle.changes.proofs.Stamped.{own-commit}
+use Rattle.changes.proofs.Stamped.{Matching, own-commit}
 use Rattle.changes.specs.Decide.{risesAfter, rises}
 use Rattle.changes.specs.Difference.{otherCell, differenceOf}
 use Rattle.changes.proofs.Rising.{rising}
@@ -366,34 +366,34 @@ module _ (s : TurnStockSpec) (n : ℕ) (ds : List Float) where
           )
 
 -- a commit, by how its changes come out
-module _ (stock : TurnStock) (n : ℕ) (ds : List Float) (l : List TurnChange) (st : stockOf (stock .spec) ds ≡ answers n) where
-  commit-goes : stock .stamp .generation < lastGeneration → passAll (cleanSpec (stock .spec)) n ds l ≡ answers tt → commitOf stock ds (stock .stamp) l ≡ answers (record { cells = putAll ds l; generation = stock .stamp .generation + 1 })
+module _ (stock : TurnStock) (n : ℕ) (ds bs : List Float) (mt : Matching (stock .spec) ds bs) (l : List TurnChange) (st : stockOf (stock .spec) ds ≡ answers n) where
+  commit-goes : stock .stamp .generation < lastGeneration → passAll (cleanSpec (stock .spec)) n ds l ≡ answers tt → commitOf stock ds bs (stock .stamp) l ≡ answers (record { cells = putAll ds l; generation = stock .stamp .generation + 1 })
   unfolding ownCommit commitIn
-  commit-goes h e = own-commit stock ds l ∙ simp (st, e, onward-answers) (demand-true _ _ _ (lt-ltb (stock .stamp .generation) lastGeneration h))
+  commit-goes h e = own-commit stock ds bs l mt ∙ simp (st, e, onward-answers) (demand-true _ _ _ (lt-ltb (stock .stamp .generation) lastGeneration h))
 
-  commit-stops : (r : Reason) → passAll (cleanSpec (stock .spec)) n ds l ≡ refuses r → commitOf stock ds (stock .stamp) l ≡ refuses r
+  commit-stops : (r : Reason) → passAll (cleanSpec (stock .spec)) n ds l ≡ refuses r → commitOf stock ds bs (stock .stamp) l ≡ refuses r
   unfolding ownCommit commitIn
-  commit-stops r e = own-commit stock ds l ∙ simp (papers, st, e)
+  commit-stops r e = own-commit stock ds bs l mt ∙ simp (papers, st, e)
 
--- THE LAW: a list that passes on one stock is, on any other of the (stock .spec) that is not refused and with generations to spare, accepted, or refused with 22 at the first listed bin whose cell differs; with 7, 8, 21 and 23 never.
-pub stale-is-22 : (stock : TurnStock) (n : ℕ) (cs ds : List Float) (l : List TurnChange) → passAll (cleanSpec (stock .spec)) n cs l ≡ answers tt → stockOf (stock .spec) ds ≡ answers n → stock .stamp .generation < lastGeneration
-    → (commitOf stock ds (stock .stamp) l ≡ answers (record { cells = putAll ds l; generation = stock .stamp .generation + 1 })) ⊎ ((k : ℕ) × (commitOf stock ds (stock .stamp) l ≡ refuses (at 22 k)) × StaleAt ds l k)
+-- THE LAW: a list that passes on one stock is, on any other of the (stock .spec) that is not refused, with kept numbers that match it and with generations to spare, accepted, or refused with 22 at the first listed bin whose cell differs; with 7, 8, 21 and 23 never.
+pub stale-is-22 : (stock : TurnStock) (n : ℕ) (cs ds bs : List Float) → Matching (stock .spec) ds bs → (l : List TurnChange) → passAll (cleanSpec (stock .spec)) n cs l ≡ answers tt → stockOf (stock .spec) ds ≡ answers n → stock .stamp .generation < lastGeneration
+    → (commitOf stock ds bs (stock .stamp) l ≡ answers (record { cells = putAll ds l; generation = stock .stamp .generation + 1 })) ⊎ ((k : ℕ) × (commitOf stock ds bs (stock .stamp) l ≡ refuses (at 22 k)) × StaleAt ds l k)
 unfolding passAll
-stale-is-22 stock n cs ds l h st g = go (stale-each (cleanSpec (stock .spec)) n ds 0 l (each-fits (cleanSpec (stock .spec)) n cs 0 l (d .1)))
+stale-is-22 stock n cs ds bs mt l h st g = go (stale-each (cleanSpec (stock .spec)) n ds 0 l (each-fits (cleanSpec (stock .spec)) n cs 0 l (d .1)))
   where
     d : (firstFall l ≡ none) × (eachFrom (cleanSpec (stock .spec)) n cs 0 l ≡ answers tt)
     d = none-demanded (firstFall l) 7 (eachFrom (cleanSpec (stock .spec)) n cs 0 l) tt h
 
-    go : Stale (cleanSpec (stock .spec)) n ds 0 l → (commitOf stock ds (stock .stamp) l ≡ answers (record { cells = putAll ds l; generation = stock .stamp .generation + 1 })) ⊎ ((k : ℕ) × (commitOf stock ds (stock .stamp) l ≡ refuses (at 22 k)) × StaleAt ds l k)
-    go (inl f) = inl (commit-goes stock n ds l st g (demandNone-none _ _ _ (d .0) ∙ f))
+    go : Stale (cleanSpec (stock .spec)) n ds 0 l → (commitOf stock ds bs (stock .stamp) l ≡ answers (record { cells = putAll ds l; generation = stock .stamp .generation + 1 })) ⊎ ((k : ℕ) × (commitOf stock ds bs (stock .stamp) l ≡ refuses (at 22 k)) × StaleAt ds l k)
+    go (inl f) = inl (commit-goes stock n ds bs mt l st g (demandNone-none _ _ _ (d .0) ∙ f))
     go (inr w) =
         let z : 0 + w .0 ≡ w .0 = omega arith in
-        inr (w .0, commit-stops stock n ds l st (at 22 (w .0)) (demandNone-none _ _ _ (d .0) ∙ w .1 ∙ ap (λ (m : ℕ). refuses (at 22 m)) z), w .2)
+        inr (w .0, commit-stops stock n ds bs mt l st (at 22 (w .0)) (demandNone-none _ _ _ (d .0) ∙ w .1 ∙ ap (λ (m : ℕ). refuses (at 22 m)) z), w .2)
 
 -- so of what an accepted preview proposed
-pub preview-stale : (stock : TurnStock) (t : Cutter) (cs ds : List Float) (n room : ℕ) (l : List TurnChange) → HeldSpec (stock .spec) → HeldList cs → HeldCutter t → cutterPreview (stock .spec) t cs room ≡ answers l → stockOf (stock .spec) ds ≡ answers n → stock .stamp .generation < lastGeneration
-    → (commitOf stock ds (stock .stamp) l ≡ answers (record { cells = putAll ds l; generation = stock .stamp .generation + 1 })) ⊎ ((k : ℕ) × (commitOf stock ds (stock .stamp) l ≡ refuses (at 22 k)) × StaleAt ds l k)
-preview-stale stock t cs ds n room l hs hc ht e st g =
+pub preview-stale : (stock : TurnStock) (t : Cutter) (cs ds bs : List Float) → Matching (stock .spec) ds bs → (n room : ℕ) (l : List TurnChange) → HeldSpec (stock .spec) → HeldList cs → HeldCutter t → cutterPreview (stock .spec) t cs room ≡ answers l → stockOf (stock .spec) ds ≡ answers n → stock .stamp .generation < lastGeneration
+    → (commitOf stock ds bs (stock .stamp) l ≡ answers (record { cells = putAll ds l; generation = stock .stamp .generation + 1 })) ⊎ ((k : ℕ) × (commitOf stock ds bs (stock .stamp) l ≡ refuses (at 22 k)) × StaleAt ds l k)
+preview-stale stock t cs ds bs mt n room l hs hc ht e st g =
     let p = preview-is (stock .spec) t cs room l e in
     let m = p .0 in
     let b = stock-good hs hc (p .1) in
@@ -401,7 +401,7 @@ preview-stale stock t cs ds n room l hs hc ht e st g =
     let act = cutterAct (stock .spec) t in
     let pass = good-pass b (actCell act) (act-cuts b act (s .plain)) in
     let same : m ≡ n = same-answer (sym (b .count) ∙ stocked (stock .spec) ds n st .count) in
-    stale-is-22 stock m cs ds l (ap (passAll (cleanSpec (stock .spec)) m cs) (p .2) ∙ pass) (st ∙ ap answers (sym same)) g
+    stale-is-22 stock m cs ds bs mt l (ap (passAll (cleanSpec (stock .spec)) m cs) (p .2) ∙ pass) (st ∙ ap answers (sym same)) g
 
 -- and of the difference of two stocks, which may add material: accepted, 22 or 23
 one-fits : (s : TurnStockSpec) (n k : ℕ) (f : ℕ → TurnCell → TurnCell) (cs : List Float) → k < n → cellFits s (f k (cellAt cs k)) ≡ true → (t : Bool) → Each (Fit s n) (pick t [] (changeOf f cs k ∷ []))
@@ -418,20 +418,20 @@ whole : (s : TurnStockSpec) (n : ℕ) (ds : List Float) (l : List TurnChange) �
 unfolding passAll
 whole s n ds l f p q = demandNone-none _ _ _ f ∙ q
 
-pub difference-stale : (stock : TurnStock) (cs es ds : List Float) (n room : ℕ) (l : List TurnChange) → differenceOf (stock .spec) cs es room ≡ answers l → stockOf (stock .spec) cs ≡ answers n → stockOf (stock .spec) ds ≡ answers n → stock .stamp .generation < lastGeneration
-    → (commitOf stock ds (stock .stamp) l ≡ answers (record { cells = putAll ds l; generation = stock .stamp .generation + 1 })) ⊎ ((k : ℕ) × ((commitOf stock ds (stock .stamp) l ≡ refuses (at 22 k)) ⊎ (commitOf stock ds (stock .stamp) l ≡ refuses (at 23 k))))
-difference-stale stock cs es ds n room l e first st g =
+pub difference-stale : (stock : TurnStock) (cs es ds bs : List Float) → Matching (stock .spec) ds bs → (n room : ℕ) (l : List TurnChange) → differenceOf (stock .spec) cs es room ≡ answers l → stockOf (stock .spec) cs ≡ answers n → stockOf (stock .spec) ds ≡ answers n → stock .stamp .generation < lastGeneration
+    → (commitOf stock ds bs (stock .stamp) l ≡ answers (record { cells = putAll ds l; generation = stock .stamp .generation + 1 })) ⊎ ((k : ℕ) × ((commitOf stock ds bs (stock .stamp) l ≡ refuses (at 22 k)) ⊎ (commitOf stock ds bs (stock .stamp) l ≡ refuses (at 23 k))))
+difference-stale stock cs es ds bs mt n room l e first st g =
     let is = difference-is (stock .spec) cs es n room l first e in
     let fits = stock-fits (stock .spec) es n (second-stock (stock .spec) cs es n room l first e) in
     let none-falls : firstFall l ≡ none = ap firstFall is ∙ rises-none _ (rises-test 0 n (changesTo (otherCell es) cs n) (rising (otherCell es) cs n)) in
     go none-falls (subst (Either (cleanSpec (stock .spec)) n ds 0) (sym is) (either-each (cleanSpec (stock .spec)) n ds 0 (changesTo (otherCell es) cs n) (all-fit (cleanSpec (stock .spec)) n (otherCell es) cs fits n (omega arith))))
   where
-    by : (k : ℕ) → firstFall l ≡ none → (eachFrom (cleanSpec (stock .spec)) n ds 0 l ≡ refuses (at 22 k)) ⊎ (eachFrom (cleanSpec (stock .spec)) n ds 0 l ≡ refuses (at 23 k)) → (commitOf stock ds (stock .stamp) l ≡ refuses (at 22 k)) ⊎ (commitOf stock ds (stock .stamp) l ≡ refuses (at 23 k))
-    by k f (inl q) = inl (commit-stops stock n ds l st (at 22 k) (whole (cleanSpec (stock .spec)) n ds l f (refuses (at 22 k)) q))
-    by k f (inr q) = inr (commit-stops stock n ds l st (at 23 k) (whole (cleanSpec (stock .spec)) n ds l f (refuses (at 23 k)) q))
+    by : (k : ℕ) → firstFall l ≡ none → (eachFrom (cleanSpec (stock .spec)) n ds 0 l ≡ refuses (at 22 k)) ⊎ (eachFrom (cleanSpec (stock .spec)) n ds 0 l ≡ refuses (at 23 k)) → (commitOf stock ds bs (stock .stamp) l ≡ refuses (at 22 k)) ⊎ (commitOf stock ds bs (stock .stamp) l ≡ refuses (at 23 k))
+    by k f (inl q) = inl (commit-stops stock n ds bs mt l st (at 22 k) (whole (cleanSpec (stock .spec)) n ds l f (refuses (at 22 k)) q))
+    by k f (inr q) = inr (commit-stops stock n ds bs mt l st (at 23 k) (whole (cleanSpec (stock .spec)) n ds l f (refuses (at 23 k)) q))
 
-    go : firstFall l ≡ none → Either (cleanSpec (stock .spec)) n ds 0 l → (commitOf stock ds (stock .stamp) l ≡ answers (record { cells = putAll ds l; generation = stock .stamp .generation + 1 })) ⊎ ((k : ℕ) × ((commitOf stock ds (stock .stamp) l ≡ refuses (at 22 k)) ⊎ (commitOf stock ds (stock .stamp) l ≡ refuses (at 23 k))))
-    go f (inl q) = inl (commit-goes stock n ds l st g (whole (cleanSpec (stock .spec)) n ds l f (answers tt) q))
+    go : firstFall l ≡ none → Either (cleanSpec (stock .spec)) n ds 0 l → (commitOf stock ds bs (stock .stamp) l ≡ answers (record { cells = putAll ds l; generation = stock .stamp .generation + 1 })) ⊎ ((k : ℕ) × ((commitOf stock ds bs (stock .stamp) l ≡ refuses (at 22 k)) ⊎ (commitOf stock ds bs (stock .stamp) l ≡ refuses (at 23 k))))
+    go f (inl q) = inl (commit-goes stock n ds bs mt l st g (whole (cleanSpec (stock .spec)) n ds l f (answers tt) q))
     go f (inr w) = inr (w .0, by (w .0) f (w .1))
 
 -- and on the first stock itself: accepted, or 23 at the first change that adds material
@@ -445,17 +445,17 @@ unfolding changesTo changeAt
 all-held s n f cs fits same zero h = tt
 all-held s n f cs fits same (suc k) h = each-append (λ (c : TurnChange). Fit s n c × (sameCell (cellAt cs (c .index)) (c .before) ≡ true)) (changesTo f cs k) (changeAt f cs k) (all-held s n f cs fits same k (omega arith)) (one-held s n k f cs h (fits k h) (same k h) (sameCell (cellAt cs k) (f k (cellAt cs k))))
 
-pub difference-adds : (stock : TurnStock) (cs es : List Float) (n room : ℕ) (l : List TurnChange) → HeldSpec (stock .spec) → HeldList cs → differenceOf (stock .spec) cs es room ≡ answers l → stockOf (stock .spec) cs ≡ answers n → stock .stamp .generation < lastGeneration
-    → (commitOf stock cs (stock .stamp) l ≡ answers (record { cells = putAll cs l; generation = stock .stamp .generation + 1 })) ⊎ ((k : ℕ) × (commitOf stock cs (stock .stamp) l ≡ refuses (at 23 k)) × AddsAt l k)
-difference-adds stock cs es n room l hs hc e first g =
+pub difference-adds : (stock : TurnStock) (cs es bs : List Float) → Matching (stock .spec) cs bs → (n room : ℕ) (l : List TurnChange) → HeldSpec (stock .spec) → HeldList cs → differenceOf (stock .spec) cs es room ≡ answers l → stockOf (stock .spec) cs ≡ answers n → stock .stamp .generation < lastGeneration
+    → (commitOf stock cs bs (stock .stamp) l ≡ answers (record { cells = putAll cs l; generation = stock .stamp .generation + 1 })) ⊎ ((k : ℕ) × (commitOf stock cs bs (stock .stamp) l ≡ refuses (at 23 k)) × AddsAt l k)
+difference-adds stock cs es bs mt n room l hs hc e first g =
     let is = difference-is (stock .spec) cs es n room l first e in
     let fits = stock-fits (stock .spec) es n (second-stock (stock .spec) cs es n room l first e) in
     let b = stock-good hs hc first in
     let none-falls : firstFall l ≡ none = ap firstFall is ∙ rises-none _ (rises-test 0 n (changesTo (otherCell es) cs n) (rising (otherCell es) cs n)) in
     go none-falls (subst (Adds (cleanSpec (stock .spec)) n cs 0) (sym is) (adds-each (cleanSpec (stock .spec)) n cs 0 (changesTo (otherCell es) cs n) (all-held (cleanSpec (stock .spec)) n (otherCell es) cs fits (λ i p. same-test (cleanSpec (stock .spec)) (cellAt cs i) (b .fit i p)) n (omega arith))))
   where
-    go : firstFall l ≡ none → Adds (cleanSpec (stock .spec)) n cs 0 l → (commitOf stock cs (stock .stamp) l ≡ answers (record { cells = putAll cs l; generation = stock .stamp .generation + 1 })) ⊎ ((k : ℕ) × (commitOf stock cs (stock .stamp) l ≡ refuses (at 23 k)) × AddsAt l k)
-    go f (inl q) = inl (commit-goes stock n cs l first g (whole (cleanSpec (stock .spec)) n cs l f (answers tt) q))
+    go : firstFall l ≡ none → Adds (cleanSpec (stock .spec)) n cs 0 l → (commitOf stock cs bs (stock .stamp) l ≡ answers (record { cells = putAll cs l; generation = stock .stamp .generation + 1 })) ⊎ ((k : ℕ) × (commitOf stock cs bs (stock .stamp) l ≡ refuses (at 23 k)) × AddsAt l k)
+    go f (inl q) = inl (commit-goes stock n cs bs mt l first g (whole (cleanSpec (stock .spec)) n cs l f (answers tt) q))
     go f (inr w) =
         let z : 0 + w .0 ≡ w .0 = omega arith in
-        inr (w .0, commit-stops stock n cs l first (at 23 (w .0)) (whole (cleanSpec (stock .spec)) n cs l f (refuses (at 23 (w .0))) (w .1 ∙ ap (λ (m : ℕ). refuses (at 23 m)) z)), w .2)
+        inr (w .0, commit-stops stock n cs bs mt l first (at 23 (w .0)) (whole (cleanSpec (stock .spec)) n cs l f (refuses (at 23 (w .0))) (w .1 ∙ ap (λ (m : ℕ). refuses (at 23 m)) z)), w .2)

@@ -14,35 +14,36 @@ use Rattle.stock.specs.Cell.{stockOf}
 use Rattle.changes.specs.declared.ChangeList.{ChangeList}
 use Rattle.changes.specs.declared.Applied.the-variants as commit
 use Rattle.changes.specs.Change.{roomOf}
-use Rattle.changes.specs.Commit.{Committed, commitOf, applyOf, Applies}
+use Rattle.changes.specs.Commit.{Committed, commitOf, applyOf, AppliesKept}
 use Rattle.rings.specs.declared.Ring.{Ring}
 use Rattle.rings.specs.declared.Removed.the-variants as ring
 use Rattle.rings.specs.Store.{barRing, countFits}
 use Rattle.rings.specs.Remove.{removeRing, Removes}
 use Rattle.moves.specs.declared.Moved.the-variants as move
-use Rattle.moves.specs.Move.{Left, moveOf, Moves}
+use Rattle.moves.specs.Move.{Left, moveOf, MovesKept}
 use Rattle.change_slices.specs.Move.{moveListOf}
 
--- a stock, with its cells and its rings in lent memory
+-- a stock, with its cells, its kept numbers and its rings in lent memory
 pub record Owned : Type 0 where
   pub stock : TurnStock
   pub cells : List Float
+  pub blocks : List Float
   pub rings : List Float
 
-abbrev pub owned : TurnStock → List Float → List Float → Owned
-owned k cs rs = record { stock = k; cells = cs; rings = rs }
+abbrev pub owned : TurnStock → List Float → List Float → List Float → Owned
+owned k cs bs rs = record { stock = k; cells = cs; blocks = bs; rings = rs }
 
 -- From one to another by calls that were accepted, whatever was handed to them: commits and moves, from lists or over records, and rings. Each answered the stock that the next was handed,
 -- and left the lent numbers, by its promise. A rebuild is none of them.
 pub data History : Owned → Owned → Type 0 where
   nothing-called : {k : Owned} → History k k
-  committed : {s s' : TurnStock} {cs cs' rs : List Float} {m : Owned} (list : ChangeList) (is : List ℕ) (xs : List Float) → Applies s (applyOf s cs list is xs) (commit.Stock s') cs cs' → History (owned s' cs' rs) m → History (owned s cs rs) m
-  committed-records : {s s' : TurnStock} {cs cs' rs : List Float} {m : Owned} (st : Stamp) (l : List TurnChange) → Applies s (commitOf s cs st l) (commit.Stock s') cs cs' → History (owned s' cs' rs) m → History (owned s cs rs) m
-  moved : {s s' : TurnStock} {cs cs' rs rs' : List Float} {m : Owned} (list : ChangeList) (is : List ℕ) (xs removed : List Float) → Moves s (moveOf s cs rs list is xs removed) (move.Stock s') cs cs' rs rs'
-      → History (owned s' cs' rs') m → History (owned s cs rs) m
-  moved-records : {s s' : TurnStock} {cs cs' rs rs' : List Float} {m : Owned} (st : Stamp) (l : List TurnChange) (removed : List Float) → Moves s (moveListOf s cs rs st l removed) (move.Stock s') cs cs' rs rs'
-      → History (owned s' cs' rs') m → History (owned s cs rs) m
-  ringed : {s s' : TurnStock} {cs rs rs' : List Float} {m : Owned} (q : Ring) → Removes s rs (removeRing (s .spec) rs (s .rings) (s .stamp .generation) q) (ring.Stock s') rs' → History (owned s' cs rs') m → History (owned s cs rs) m
+  committed : {s s' : TurnStock} {cs cs' bs bs' rs : List Float} {m : Owned} (list : ChangeList) (is : List ℕ) (xs : List Float) → AppliesKept s (applyOf s cs bs list is xs) (commit.Stock s') cs cs' bs bs' → History (owned s' cs' bs' rs) m → History (owned s cs bs rs) m
+  committed-records : {s s' : TurnStock} {cs cs' bs bs' rs : List Float} {m : Owned} (st : Stamp) (l : List TurnChange) → AppliesKept s (commitOf s cs bs st l) (commit.Stock s') cs cs' bs bs' → History (owned s' cs' bs' rs) m → History (owned s cs bs rs) m
+  moved : {s s' : TurnStock} {cs cs' bs bs' rs rs' : List Float} {m : Owned} (list : ChangeList) (is : List ℕ) (xs removed : List Float) → MovesKept s (moveOf s cs bs rs list is xs removed) (move.Stock s') cs cs' bs bs' rs rs'
+      → History (owned s' cs' bs' rs') m → History (owned s cs bs rs) m
+  moved-records : {s s' : TurnStock} {cs cs' bs bs' rs rs' : List Float} {m : Owned} (st : Stamp) (l : List TurnChange) (removed : List Float) → MovesKept s (moveListOf s cs bs rs st l removed) (move.Stock s') cs cs' bs bs' rs rs'
+      → History (owned s' cs' bs' rs') m → History (owned s cs bs rs) m
+  ringed : {s s' : TurnStock} {cs bs rs rs' : List Float} {m : Owned} (q : Ring) → Removes s rs (removeRing (s .spec) rs (s .rings) (s .stamp .generation) q) (ring.Stock s') rs' → History (owned s' cs bs rs') m → History (owned s cs bs rs) m
 
 -- ---- what a list of another stamp is refused with
 

@@ -139,6 +139,18 @@ newAsks spec len = specAsks spec ++ (ask (ofAnswer (cellsOf spec) (λ n. eqb len
 abbrev pub stockAsks : TurnStockSpec → List Float → List Asked
 stockAsks spec cs = specAsks spec ++ (ask (ofAnswer (cellsOf spec) (λ n. cellsFit (cleanSpec spec) cs n)) 3 ∷ [])
 
+-- the kept numbers are those of the cells
+abbrev pub matching : TurnStockSpec → List Float → List Float → Bool
+matching spec cs bs = ofAnswer (stockOf spec cs) (λ n. matchesOf (cleanSpec spec) n cs bs)
+
+-- 1, 2, 3, 20: a stock with its kept numbers
+abbrev pub keptAsks : TurnStockSpec → List Float → List Float → List Asked
+keptAsks spec cs bs = stockAsks spec cs ++ (ask (matching spec cs bs) 20 ∷ [])
+
+-- 1, 2, 3, 20: kept numbers that are worked out, two for each block
+abbrev pub renewAsks : TurnStockSpec → List Float → ℕ → List Asked
+renewAsks spec cs len = stockAsks spec cs ++ (ask (ofAnswer (stockOf spec cs) (λ n. eqb len (2 * blocksIn n))) 20 ∷ [])
+
 -- ---- previews
 
 -- no more changes than room, where f says what the cell of each bin becomes
@@ -197,17 +209,23 @@ passAsks s p cs l = askNone (firstFall l) 7 ∷ eachAsks s p cs 0 l
 abbrev pub commitInAsks : TurnStockSpec → Paper ℕ → List Float → ℕ → List TurnChange → List Asked
 commitInAsks s p cs gen l = passAsks s p cs l ++ (ask (ltb gen lastGeneration) 12 ∷ [])
 
--- 1, 2, 3, 19, 7, then 8, 21, 22, 23 change by change, 12: a list with its stamp
-abbrev pub commitAsks : TurnStock → List Float → Stamp → List TurnChange → List Asked
-commitAsks k cs st l =
-    stockAsks (k .spec) cs ++ (ask (sameStamp st (k .stamp)) 19 ∷ commitInAsks (cleanSpec (k .spec)) (stockOf (k .spec) cs) cs (k .stamp .generation) l)
+-- 1, 2, 3, 19, 20: a stock that is asked for a commit
+abbrev pub askedAsks : TurnStock → List Float → List Float → Stamp → List Asked
+askedAsks k cs bs st = stockAsks (k .spec) cs ++ (ask (sameStamp st (k .stamp)) 19 ∷ ask (matching (k .spec) cs bs) 20 ∷ [])
 
--- 1, 2, 3, 19, 6, 7, then 8, 21, 22, 23 change by change, 12: a change list from the lent lists
-abbrev pub applyAsks : TurnStock → List Float → ChangeList → List ℕ → List Float → List Asked
-applyAsks k cs list is xs =
-    stockAsks (k .spec) cs
-    ++ (ask (sameStamp (list .stamp) (k .stamp)) 19
-    ∷ ask (leb (list .count) (change.roomOf (length is) (length xs))) 6
+-- 1, 2, 3, 19, 20, 7, then 8, 21, 22, 23 change by change, 12: a list with its stamp
+abbrev pub commitAsks : TurnStock → List Float → List Float → Stamp → List TurnChange → List Asked
+commitAsks k cs bs st l = askedAsks k cs bs st ++ commitInAsks (cleanSpec (k .spec)) (stockOf (k .spec) cs) cs (k .stamp .generation) l
+
+-- 1, 2, 3, 7, then 8, 21, 22, 23 change by change, 12: a stock's own list, of which no kept numbers are asked
+abbrev pub ownAsks : TurnStockSpec → List Float → ℕ → List TurnChange → List Asked
+ownAsks spec cs gen l = stockAsks spec cs ++ commitInAsks (cleanSpec spec) (stockOf spec cs) cs gen l
+
+-- 1, 2, 3, 19, 20, 6, 7, then 8, 21, 22, 23 change by change, 12: a change list from the lent lists
+abbrev pub applyAsks : TurnStock → List Float → List Float → ChangeList → List ℕ → List Float → List Asked
+applyAsks k cs bs list is xs =
+    askedAsks k cs bs (list .stamp)
+    ++ (ask (leb (list .count) (change.roomOf (length is) (length xs))) 6
     ∷ commitInAsks (cleanSpec (k .spec)) (stockOf (k .spec) cs) cs (k .stamp .generation) (changesFrom is xs (list .count)))
 
 -- 1, 2, 3 of the first list and of the second, 6
@@ -244,27 +262,39 @@ removeRingsAsks spec xs n removed = ask (leb n (ringRoom (length xs))) 4 ∷ ask
 abbrev pub leftAsks : List Ring → Ring → List Asked
 leftAsks ks q = ask (inHand pieceLimit (kept q) ks) 11 ∷ []
 
--- 1, 2, 3, 10, 11
-abbrev pub partsAsks : TurnStockSpec → List Float → List Float → List Float → List Asked
-partsAsks spec cs given xs = stockAsks spec cs ++ (askNone (badRing given) 10 ∷ ask (allStored spec xs 0 given) 11 ∷ [])
+-- 10, 11: rings given, into an empty store
+abbrev pub givenAsks : TurnStockSpec → List Float → List Float → List Asked
+givenAsks spec given xs = askNone (badRing given) 10 ∷ ask (allStored spec xs 0 given) 11 ∷ []
 
--- 4, 19, 10, 7, then 8, 21, 22, 23 change by change, 12, 11; behind the tests of a stock
-abbrev pub moveInAsks : TurnStock → List Float → List Float → Stamp → List TurnChange → List Float → List Asked
-moveInAsks k cs xs st l removed =
+-- 1, 2, 3, 20 for the count of kept numbers alone, 10, 11
+abbrev pub partsAsks : TurnStockSpec → List Float → ℕ → List Float → List Float → List Asked
+partsAsks spec cs len given xs = renewAsks spec cs len ++ givenAsks spec given xs
+
+-- 4, 19, 20, 10; behind the tests of a stock
+abbrev pub movableAsks : TurnStock → List Float → List Float → List Float → Stamp → List Float → List Asked
+movableAsks k cs bs xs st removed =
     ask (countFits (barRing (cleanSpec (k .spec))) xs (k .rings)) 4
     ∷ ask (sameStamp st (k .stamp)) 19
+    ∷ ask (matching (k .spec) cs bs) 20
     ∷ askNone (badRing removed) 10
-    ∷ passAsks (cleanSpec (k .spec)) (stockOf (k .spec) cs) cs l
-    ++ (ask (leb (generationAfter (k .spec) (k .stamp .generation) removed) lastGeneration) 12 ∷ ask (allStored (k .spec) xs (k .rings) removed) 11 ∷ [])
+    ∷ []
 
--- 1, 2, 3, 4, 19, 10, 7, then 8, 21, 22, 23 change by change, 12, 11: a list of changes with its stamp, 01's order with Req 08's 19 and with Req 04's three in the place of 9
-abbrev pub moveListAsks : TurnStock → List Float → List Float → Stamp → List TurnChange → List Float → List Asked
-moveListAsks k cs xs st l removed = stockAsks (k .spec) cs ++ moveInAsks k cs xs st l removed
+-- 12, 11: the rings of a move and its generation
+abbrev pub ringsMovedAsks : TurnStock → List Float → List Float → List Asked
+ringsMovedAsks k xs removed = ask (leb (generationAfter (k .spec) (k .stamp .generation) removed) lastGeneration) 12 ∷ ask (allStored (k .spec) xs (k .rings) removed) 11 ∷ []
 
--- 1, 2, 3, 6, 4, 19, 10, 7, then 8, 21, 22, 23 change by change, 12, 11: a change list from the lent lists
-abbrev pub moveAsks : TurnStock → List Float → List Float → ChangeList → List ℕ → List Float → List Float → List Asked
-moveAsks k cs xs list is ys removed =
-    stockAsks (k .spec) cs ++ (ask (leb (list .count) (change.roomOf (length is) (length ys))) 6 ∷ moveInAsks k cs xs (list .stamp) (changesFrom is ys (list .count)) removed)
+-- 4, 19, 20, 10, 7, then 8, 21, 22, 23 change by change, 12, 11; behind the tests of a stock
+abbrev pub moveInAsks : TurnStock → List Float → List Float → List Float → Stamp → List TurnChange → List Float → List Asked
+moveInAsks k cs bs xs st l removed = movableAsks k cs bs xs st removed ++ (passAsks (cleanSpec (k .spec)) (stockOf (k .spec) cs) cs l ++ ringsMovedAsks k xs removed)
+
+-- 1, 2, 3, 4, 19, 20, 10, 7, then 8, 21, 22, 23 change by change, 12, 11: a list of changes with its stamp, 01's order with Req 08's 19, Req 09's 20 and with Req 04's three in the place of 9
+abbrev pub moveListAsks : TurnStock → List Float → List Float → List Float → Stamp → List TurnChange → List Float → List Asked
+moveListAsks k cs bs xs st l removed = stockAsks (k .spec) cs ++ moveInAsks k cs bs xs st l removed
+
+-- 1, 2, 3, 6, 4, 19, 20, 10, 7, then 8, 21, 22, 23 change by change, 12, 11: a change list from the lent lists
+abbrev pub moveAsks : TurnStock → List Float → List Float → List Float → ChangeList → List ℕ → List Float → List Float → List Asked
+moveAsks k cs bs xs list is ys removed =
+    stockAsks (k .spec) cs ++ (ask (leb (list .count) (change.roomOf (length is) (length ys))) 6 ∷ moveInAsks k cs bs xs (list .stamp) (changesFrom is ys (list .count)) removed)
 
 -- ---- a stock file
 
@@ -285,14 +315,6 @@ compareAsks s a t b = ask (sameBar s t) 24 ∷ ask (bothInHand a b) 11 ∷ []
 -- ---- volume: 1, 2, 3, 4. `envelope_at` asks as a stock does.
 abbrev pub volumeAsks : TurnStockSpec → List Float → List Float → ℕ → List Asked
 volumeAsks spec cs xs k = stockAsks spec cs ++ (ask (countFits (barRing (cleanSpec spec)) xs k) 4 ∷ [])
-
--- a stock with its kept numbers
-abbrev pub keptAsks : TurnStockSpec → List Float → List Float → List Asked
-keptAsks spec cs bs = stockAsks spec cs ++ (ask (ofAnswer (stockOf spec cs) (λ n. matchesOf (cleanSpec spec) n cs bs)) 20 ∷ [])
-
--- kept numbers that are worked out: two for each block
-abbrev pub renewAsks : TurnStockSpec → List Float → ℕ → List Asked
-renewAsks spec cs len = stockAsks spec cs ++ (ask (ofAnswer (stockOf spec cs) (λ n. eqb len (2 * blocksIn n))) 20 ∷ [])
 
 -- ---- envelopes: 14
 
@@ -318,7 +340,7 @@ barAsks spec cs = specAsks spec ++ (ask (ofAnswer (cellsOf spec) (λ n. leb (4 *
 abbrev pub cutLineAsks : Job → Cut → ℕ → List Float → List Asked
 cutLineAsks j cut room cs =
     let own = cellsOfJob j cs in
-    previewCutAsks (j .stock .spec) own cut room ++ commitAsks (j .stock) own (j .stock .stamp) (writtenOf (previewCut (j .stock .spec) own cut room))
+    previewCutAsks (j .stock .spec) own cut room ++ ownAsks (j .stock .spec) own (j .stock .stamp .generation) (writtenOf (previewCut (j .stock .spec) own cut room))
 
 -- anything but a bar before it is 15
 unfoldable pub firstLineAsks : Line → List Float → List Asked

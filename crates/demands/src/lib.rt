@@ -52,6 +52,12 @@
 // there, or a band within the one before. Crate `queries` has what an answer says of the bins that are
 // looked at (`proofs/Sights`).
 //
+// Numbers kept beside the cells (`proofs/Kept`, over `proofs/Matched`): from numbers that match the cells
+// any accepted commits, moves and rings lead to numbers that match, and a rebuild has them whatever stood
+// there. With them no later call gives 20, and a range answers what the walk over its bins says; after an
+// accepted commit it shows nothing, or a band within the one before. Crate `blocks` has the laws behind it
+// (`proofs/Ranges`, `proofs/Stocks`, `proofs/Laws`).
+//
 // Jobs longer than memory (`proofs/Streamed`): however the bytes of a job are cut into parts for
 // `take_part`, and whatever the lent room held, the bytes that `output_line` puts after `finish` are the
 // answer to the whole file. `proofs/JobNumbers`: a job is refused with 1, 2, 5, 11, 13 or 15, and with
@@ -70,8 +76,10 @@
 // Two stocks side by side (`proofs/SideBySide`): the lines of cells are the changes from the first to
 // the second; the written rings cover what exactly one of the two stores covers, each point once; no
 // byte is written exactly where the cells are equal and the same points are covered; with the stocks
-// exchanged the parts change places; and so it is however the files are cut. Each written ring reads
-// back from its line (`proofs/SideLines`). Crate `side_by_side` has the laws behind it.
+// exchanged the parts change places; and so it is however the files are cut. The first's written rings,
+// taken one by one into the second's store, make it cover what either covers (`compared-joins`). Each
+// written ring reads back from its line (`proofs/SideLines`). Crate `side_by_side` has the laws behind
+// it.
 //
 // Demand 3, of cuts: below. Of rings (`proofs/Rings`): accepted rings cover the same points in every
 // order, and no two stored rings share one; so it is of single rings, of a list, of a move, of several

@@ -31,7 +31,6 @@ use Rattle.job_words.specs.declared.Line.the-variants.{Bar, Cutting, Removing, 
 use Rattle.job_words.specs.Kind.{lineOf}
 use Rattle.job_run.specs.declared.line.Job.{Job}
 use Rattle.job_run.specs.Job.{fullRoom, Stand, barLine, madeCut, cutLine, removingLine, firstLine, laterLine, jobLine}
-use Rattle.job_run.proofs.Made.{made-own}
 use Rattle.job_run.specs.Run.{State, next, refusedWith, answered, onLine, onLong, onEnd, stopped, outputOf, jobOf}
 
 -- ---- lists with the same front
@@ -143,12 +142,11 @@ own spec cs gen cut room = onward (previewCut spec cs cut room) (λ l. ownCommit
 
 module _ (j k : Job) (cs ds rs ss : List Float) (h : AlikeJobs j k cs ds rs ss) (started : j .cells ≡ 0 → ⊥) where
   same-cut : (cut : Cut) (room : ℕ) → madeCut (j .stock) (take (4 * j .cells) cs) cut room ≡ madeCut (k .stock) (take (4 * k .cells) ds) cut room
+  unfolding madeCut
   same-cut cut room =
-      made-own (j .stock) (take (4 * j .cells) cs) cut room
-      ∙ ap (λ (x : TurnStockSpec). own x (take (4 * j .cells) cs) (j .stock .stamp .generation) cut room) (h .spec started)
+      ap (λ (x : TurnStockSpec). own x (take (4 * j .cells) cs) (j .stock .stamp .generation) cut room) (h .spec started)
       ∙ ap (λ (x : List Float). own (k .stock .spec) x (j .stock .stamp .generation) cut room) (h .cells ∙ ap (λ (n : ℕ). take (4 * n) ds) (h .count))
       ∙ ap (λ (g : ℕ). own (k .stock .spec) (take (4 * k .cells) ds) g cut room) (h .generation)
-      ∙ sym (made-own (k .stock) (take (4 * k .cells) ds) cut room)
 
   alike-cut : (cut : Cut) (room : ℕ) → AlikePapers (cutLine j cut room cs rs) (cutLine k cut room ds ss)
   unfolding cutLine over

@@ -19,7 +19,7 @@ use Rattle.stock.specs.Stock.{newStock, stockWith}
 use Rattle.changes.specs.Change.{indicesOf, numbersOf, roomOf, writtenOf}
 use Rattle.cuts.specs.declared.Cut.{Cut}
 use Rattle.cuts.specs.Preview.{previewCut}
-use Rattle.changes.specs.Commit.{Committed, commitOf}
+use Rattle.changes.specs.Commit.{Committed, ownCommit}
 use Rattle.rings.specs.declared.Ring.{Ring}
 use Rattle.rings.specs.Store.{storeAs}
 use Rattle.rings.specs.Remove.{removeRing}
@@ -60,9 +60,9 @@ barLine edition spec cs rs =
     demand (leb (4 * n) (length cs)) 3
     (answers (stand (record { stock = newStock spec edition; cells = n }) (over (cellsLike (freshCell (cleanSpec spec)) n) cs) rs)))
 
--- a cut: its preview, with room for so many changes, and the commit of its list, whose stamp is the stock's
+-- a cut: its preview, with room for so many changes, and the commit of its list, which is the stock's own
 unfoldable pub madeCut : TurnStock → List Float → Cut → ℕ → Paper Committed
-madeCut k cs cut room = onward (previewCut (k .spec) cs cut room) (λ l. commitOf k cs (k .stamp) l)
+madeCut k cs cut room = onward (previewCut (k .spec) cs cut room) (λ l. ownCommit (k .spec) cs (k .stamp .generation) l)
 
 -- the job's cells, which stand first in the lent ones
 abbrev pub cellsOfJob : Job → List Float → List Float

@@ -15,7 +15,8 @@ use Rattle.stock.specs.Stock.{sameStamp}
 use Rattle.changes.specs.declared.ChangeList.{ChangeList}
 use Rattle.stock.specs.Spec.{cleanSpec}
 use Rattle.stock.specs.Cell.{stockOf}
-use Rattle.stock.proofs.Count.{same-answer, demanded, none-demanded, checked, stocked}
+use Rattle.stock.proofs.Count.{demanded, checked, stocked}
+use Rattle.blocks.specs.Block.{matchesOf}
 use Rattle.changes.specs.Change.{roomOf, changesFrom}
 use Rattle.rings.specs.declared.Ring.{Ring}
 use Rattle.rings.specs.Ring.{covered, filled, clip}
@@ -23,12 +24,12 @@ use Rattle.rings.specs.Points.{Disjoint}
 use Rattle.rings.specs.Store.{barRing, ringsOf, storeAs, storeFits, countFits, ringsGood, raisedBy}
 use Rattle.rings.specs.Remove.{removeRings}
 use Rattle.rings.proofs.Flat.{rings-stored}
-use Rattle.rings.proofs.Bad.{none-good}
 use Rattle.rings.proofs.Fitting.{store-disjoint}
 use Rattle.rings.proofs.Taken.{rings-pass, rings-pass-again, rings-cover, rings-either-order}
 use Rattle.changes.specs.Commit.{passAll, putAll}
-use Rattle.moves.specs.Move.{Left, generationAfter, moveIn, moveOf}
+use Rattle.moves.specs.Move.{Left, generationAfter, moveOf}
 use Rattle.moves.proofs.Answered.{answered}
+use Rattle.moves.proofs.Taking.{taken-in}
 use Rattle.moves.proofs.Cells.{passed-stock}
 
 -- ---- lent rings that pass refusal 4's test at the front of a list
@@ -38,12 +39,13 @@ passed-disjoint e xs l f = store-disjoint e l (sym (ap (storeFits e) (rings-stor
 
 -- ---- a move
 -- what an accepted move says of the rule
-pub record Taken (stock : TurnStock) (cs xs : List Float) (list : ChangeList) (is : List ℕ) (ys : List Float) (removed : List Float) (a : Left) : Type 0 where
+pub record Taken (stock : TurnStock) (cs bs xs : List Float) (list : ChangeList) (is : List ℕ) (ys : List Float) (removed : List Float) (a : Left) : Type 0 where
   pub bins : ℕ
   pub counted : stockOf (stock .spec) cs ≡ answers bins
   pub room : list .count ≤ roomOf (length is) (length ys)
   pub fits : countFits (barRing (cleanSpec (stock .spec))) xs (stock .rings) ≡ true
   pub own : sameStamp (list .stamp) (stock .stamp) ≡ true
+  pub matched : matchesOf (cleanSpec (stock .spec)) bins cs bs ≡ true
   pub good : ringsGood removed ≡ true
   pub pass : passAll (cleanSpec (stock .spec)) bins cs (changesFrom is ys (list .count)) ≡ answers tt
   pub last : generationAfter (stock .spec) (stock .stamp .generation) removed ≤ lastGeneration
@@ -64,34 +66,29 @@ raised-turns e (List·Permᴰ·swap {a = a} {b = b} {a′ = a′} {l = l} p q) =
     swap x y w = omega arith
 raised-turns e (List·Permᴰ·trans d d′) = raised-turns e d ∙ raised-turns e d′
 
-module _ (stock : TurnStock) (cs xs : List Float) (list : ChangeList) (is : List ℕ) (ys : List Float) where
-  pub taken : (removed : List Float) (a : Left) → moveOf stock cs xs list is ys removed ≡ answers a → Taken stock cs xs list is ys removed a
-  unfolding moveOf moveIn
+module _ (stock : TurnStock) (cs bs xs : List Float) (list : ChangeList) (is : List ℕ) (ys : List Float) where
+  pub taken : (removed : List Float) (a : Left) → moveOf stock cs bs xs list is ys removed ≡ answers a → Taken stock cs bs xs list is ys removed a
+  unfolding moveOf
   taken removed a h =
       let s = answered _ _ _ h in
       let d6 = demanded _ _ _ _ (s .then) in
-      let d4 = demanded _ _ _ _ (d6 .1) in
-      let d19 = demanded _ _ _ _ (d4 .1) in
-      let d10 = none-demanded _ _ _ _ (d19 .1) in
-      let p = answered _ _ _ (d10 .1) in
-      let d12 = demanded _ _ _ _ (p .then) in
-      let r = answered _ _ _ (d12 .1) in
-      let v : _≡_ {A = Left} (record { cells = putAll cs (changesFrom is ys (list .count)); rings = r .value; generation = generationAfter (stock .spec) (stock .stamp .generation) removed }) a = same-answer (r .then) in
+      let t = taken-in stock (s .value) cs bs xs (list .stamp) (changesFrom is ys (list .count)) removed a (d6 .1) in
       record {
         bins = s .value;
         counted = s .first;
         room = leb-true (list .count) (roomOf (length is) (length ys)) (d6 .0);
-        fits = d4 .0;
-        own = d19 .0;
-        good = none-good removed (d10 .0);
-        pass = p .first;
-        last = leb-true (generationAfter (stock .spec) (stock .stamp .generation) removed) lastGeneration (d12 .0);
-        rule = r .first ∙ ap (λ (x : Left). answers (x .rings)) v;
-        cells = sym (ap (λ (x : Left). x .cells) v);
-        rises = sym (ap (λ (x : Left). x .generation) v);
+        fits = t .fits;
+        own = t .own;
+        matched = t .matched;
+        good = t .good;
+        pass = t .pass;
+        last = t .last;
+        rule = t .rule;
+        cells = t .cells;
+        rises = t .rises;
       }
 
-  module _ (removed : List Float) (a : Left) (h : moveOf stock cs xs list is ys removed ≡ answers a) where
+  module _ (removed : List Float) (a : Left) (h : moveOf stock cs bs xs list is ys removed ≡ answers a) where
     -- the stock afterwards has as many cells, and they fit
     pub move-stock : stockOf (stock .spec) (a .cells) ≡ stockOf (stock .spec) cs
     move-stock =
@@ -113,7 +110,7 @@ module _ (stock : TurnStock) (cs xs : List Float) (list : ChangeList) (is : List
     move-covers = let t = taken removed a h in rings-cover (stock .spec) xs (stock .rings) (t .fits) removed (a .rings) (t .rule)
 
   -- two orders of the rings of a move, both accepted: the same cells, the same generation, and the same points covered
-  module _ (removed removed' : List Float) (a a' : Left) (turn : List·Permᴰ (ringsOf (length removed / 4) removed) (ringsOf (length removed' / 4) removed')) (h : moveOf stock cs xs list is ys removed ≡ answers a) (h' : moveOf stock cs xs list is ys removed' ≡ answers a') where
+  module _ (removed removed' : List Float) (a a' : Left) (turn : List·Permᴰ (ringsOf (length removed / 4) removed) (ringsOf (length removed' / 4) removed')) (h : moveOf stock cs bs xs list is ys removed ≡ answers a) (h' : moveOf stock cs bs xs list is ys removed' ≡ answers a') where
     pub either-cells : a .cells ≡ a' .cells
     either-cells = taken removed a h .cells ∙ sym (taken removed' a' h' .cells)
 

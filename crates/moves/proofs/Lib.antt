@@ -1,7 +1,9 @@
 pub mod Answered
 pub mod Moving
-pub mod Parting
+pub mod Taking
 pub mod Once
 pub mod Cells
 pub mod Accepted
 pub mod FromParts
+pub mod Kept
+pub mod Parting

@@ -19,10 +19,10 @@ use Rattle.moves.specs.declared.Moved.{Moved}
 use Rattle.moves.specs.declared.Moved.the-variants as moved
 use Rattle.moves.specs.declared.Rebuilt.{Rebuilt}
 use Rattle.moves.specs.declared.Rebuilt.the-variants as rebuilt
-use Rattle.moves.specs.Move.{Left, movedPaper, Moves, rebuiltPaper, Rebuilds}
+use Rattle.moves.specs.Move.{Left, movedPaper, MovesKept, rebuiltPaper, Rebuilds}
 
 -- ---- a move
-same-moved : (r r' : Moved) → movedPaper r ≡ movedPaper r' → r ≡ r'
+pub same-moved : (r r' : Moved) → movedPaper r ≡ movedPaper r' → r ≡ r'
 same-moved (moved.Stock k) (moved.Stock k') h = let e : k ≡ k' = same-answer h in ap (λ (x : TurnStock). moved.Stock x) e
 same-moved (moved.Stock k) (moved.Refused c) h = absurd (no-answer (reasonOf c) k (sym h))
 same-moved (moved.Refused c) (moved.Stock k) h = absurd (no-answer (reasonOf c) k h)
@@ -36,9 +36,10 @@ same-moved (moved.RefusedAt c k) (moved.RefusedAt c' k') h =
     let p = one-place c c' k k' e in
     ap₂ (λ (x : Refusal) (j : ℕ). moved.RefusedAt x j) (p .0) (p .1)
 
--- the answer, the cells and the rings
-pub moved-once : (k : TurnStock) (p : Paper Left) (r r' : Moved) (cs cs₁ cs₂ xs xs₁ xs₂ : List Float) → Moves k p r cs cs₁ xs xs₁ → Moves k p r' cs cs₂ xs xs₂ → (r ≡ r') × (cs₁ ≡ cs₂) × (xs₁ ≡ xs₂)
-moved-once k p r r' cs cs₁ cs₂ xs xs₁ xs₂ a b = (same-moved r r' (a .answer ∙ sym (b .answer)), a .cells ∙ sym (b .cells), a .rings ∙ sym (b .rings))
+-- the answer, the cells, the kept numbers and the rings
+pub moved-once : (k : TurnStock) (p : Paper Left) (r r' : Moved) (cs cs₁ cs₂ bs bs₁ bs₂ xs xs₁ xs₂ : List Float) → MovesKept k p r cs cs₁ bs bs₁ xs xs₁ → MovesKept k p r' cs cs₂ bs bs₂ xs xs₂ → (r ≡ r') × (cs₁ ≡ cs₂) × (bs₁ ≡ bs₂) × (xs₁ ≡ xs₂)
+moved-once k p r r' cs cs₁ cs₂ bs bs₁ bs₂ xs xs₁ xs₂ a b =
+    (same-moved r r' (a .left .answer ∙ sym (b .left .answer)), a .left .cells ∙ sym (b .left .cells), a .kept ∙ sym (b .kept), a .left .rings ∙ sym (b .left .rings))
 
 -- ---- a list of rings stored
 same-stored : (r r' : StoredAs) → storedPaper r ≡ storedPaper r' → r ≡ r'
@@ -74,6 +75,7 @@ same-rebuilt (rebuilt.RefusedAt c k) (rebuilt.RefusedAt c' k') h =
     let p = one-place c c' k k' e in
     ap₂ (λ (x : Refusal) (j : ℕ). rebuilt.RefusedAt x j) (p .0) (p .1)
 
--- the answer and the rings
-pub rebuilt-once : (spec : TurnStockSpec) (edition : ℕ) (p : Paper (List Ring)) (r r' : Rebuilt) (xs xs₁ xs₂ : List Float) → Rebuilds spec edition xs p r xs₁ → Rebuilds spec edition xs p r' xs₂ → (r ≡ r') × (xs₁ ≡ xs₂)
-rebuilt-once spec edition p r r' xs xs₁ xs₂ a b = (same-rebuilt r r' (a .answer ∙ sym (b .answer)), a .store ∙ sym (b .store))
+-- the answer, the kept numbers and the rings
+pub rebuilt-once : (spec : TurnStockSpec) (edition : ℕ) (cs : List Float) (p : Paper (List Ring)) (r r' : Rebuilt) (bs bs₁ bs₂ xs xs₁ xs₂ : List Float) → Rebuilds spec edition cs p r bs bs₁ xs xs₁ → Rebuilds spec edition cs p r' bs bs₂ xs xs₂
+    → (r ≡ r') × (bs₁ ≡ bs₂) × (xs₁ ≡ xs₂)
+rebuilt-once spec edition cs p r r' bs bs₁ bs₂ xs xs₁ xs₂ a b = (same-rebuilt r r' (a .answer ∙ sym (b .answer)), a .kept ∙ sym (b .kept), a .store ∙ sym (b .store))

@@ -4,13 +4,16 @@
 // rings are taken one after the other, each cut against those before it, and everything is decided
 // before anything is written. The generation rises by one for the commit and by one for each ring
 // that is not empty within the stock. Parts are cells and rings that were kept elsewhere: the rings
-// are taken into an empty store, and the generation is 0 again.
+// are taken into an empty store, and the generation is 0 again. Both leave the kept numbers of the cells
+// as they are then.
 ghost use mathlib.Core.Path.{_≡_};
 ghost use Prim.Native.Nat.{_≤_};
 ghost use lib.ListN.{length};
 ghost use Rattle.changes.specs.Change.{roomOf, changesFrom};
+ghost use Rattle.changes.specs.Commit.{passingPaper};
 ghost use Rattle.rings.specs.Remove.{storedPaper, countsPaper, StoresAs, stockAfter};
-ghost use Rattle.moves.specs.Move.{moveIn, moveOf, ShiftsLent, movedPaper, MovesLent, partsOf, stockStored, rebuiltPaper, Rebuilds};
+ghost use Rattle.moves.specs.Move.{movableOf, ringsMoved, takenOf, TakesRings, isMoved, moveIn, moveOf, movedPaper, MovesLent, givenOf, partsOf, stockStored, rebuiltPaper, RebuildsLent};
+ghost use Rattle.moves.specs.Then.{ShiftsThen, ShiftsLent, storedKept};
 use changes::ChangeList;
 use changes::Passing;
 use refusals::LAST_GENERATION;
@@ -39,12 +42,98 @@ pub enum Rebuilt {
     RefusedAt(Refusal, usize),
 }
 
-// A move on a stock whose n cells are checked, of changes that the lists hold; 4, 19, 10, 7, then change
-// by change 8, 21, 22, 23, then 12, 11.
+// What is asked of a move on n checked cells before its changes, with the stamp of their list; 4, 19,
+// 20, 10.
+fn movable(
+    stock: TurnStock,
+    n: usize,
+    cells: &[f64],
+    blocks: &[f64],
+    rings: &[f64],
+    stamp: Stamp,
+    removed: &[f64],
+) -> Passing
+    ensures { λ r. ⌜ passingPaper r ≡ movableOf stock n (now (cells .entry)) (now (blocks .entry)) (now (rings .entry)) stamp (now (removed .entry)) ⌝ }
+{
+    if !rings::rings_fit(stock.spec, rings, stock.rings) {
+        return Passing::Refused(Refusal::StoredRings);
+    }
+    if !stock::same_stamp(stamp, stock.stamp) {
+        return Passing::Refused(Refusal::ListStale);
+    }
+    if !blocks::matches(stock::clean_spec(stock.spec), n, cells, blocks) {
+        return Passing::Refused(Refusal::BlocksDoNotMatch);
+    }
+    let judged = rings::first_bad_ring(removed);
+    if let Judged::Bad(at) = judged {
+        return Passing::RefusedAt(Refusal::RingOutside, at);
+    }
+    Passing::Pass
+}
+
+// The rings `removed`, taken, and the generation then; 12, 11.
+fn rings_moved(stock: TurnStock, rings: &mut [f64], removed: &[f64]) -> Counts
+    ensures { λ r. ⌜ TakesRings (ringsMoved stock (now (rings .entry)) (now (removed .entry))) r (now (rings .entry)) (now (rings .exit)) ⌝ }
+{
+    let raised = rings::raised_by(stock.spec, removed) as u64;
+    let generation = stock.stamp.generation;
+    if LAST_GENERATION - generation <= raised {
+        return Counts::Refused(Refusal::GenerationsSpent);
+    }
+    let stored = rings::remove_rings(stock.spec, rings, stock.rings, removed);
+    match stored {
+        StoredAs::Refused(r) => Counts::Refused(r),
+        StoredAs::RefusedAt(r, at) => Counts::RefusedAt(r, at),
+        StoredAs::Rings(m) => Counts::Stored(m, generation + 1 + raised),
+    }
+}
+
+// The rings of a move on n checked cells, taken, where its changes say `found`; 4, 19, 20, 10, then what
+// they say, 12, 11.
+pub fn take_rings(
+    stock: TurnStock,
+    n: usize,
+    cells: &[f64],
+    blocks: &[f64],
+    rings: &mut [f64],
+    stamp: Stamp,
+    found: Passing,
+    removed: &[f64],
+) -> Counts
+    ensures { λ r. ⌜ TakesRings
+        (takenOf stock n (now (cells .entry)) (now (blocks .entry)) (now (rings .entry)) stamp (passingPaper found) (now (removed .entry)))
+        r (now (rings .entry)) (now (rings .exit)) ⌝ }
+{
+    let asked = movable(stock, n, cells, blocks, rings, stamp, removed);
+    match asked {
+        Passing::Refused(r) => Counts::Refused(r),
+        Passing::RefusedAt(r, at) => Counts::RefusedAt(r, at),
+        Passing::Pass => match found {
+            Passing::Refused(r) => Counts::Refused(r),
+            Passing::RefusedAt(r, at) => Counts::RefusedAt(r, at),
+            Passing::Pass => rings_moved(stock, rings, removed),
+        },
+    }
+}
+
+// The rings are taken, and the changes may be written.
+pub fn is_moved(counts: Counts) -> bool
+    ensures { λ r. ⌜ r ≡ isMoved counts ⌝ }
+{
+    match counts {
+        Counts::Stored(_, _) => true,
+        Counts::Refused(_) => false,
+        Counts::RefusedAt(_, _) => false,
+    }
+}
+
+// A move on a stock whose n cells are checked, of changes that the lists hold; 4, 19, 20, 10, 7, then
+// change by change 8, 21, 22, 23, then 12, 11.
 fn move_in(
     stock: TurnStock,
     n: usize,
     cells: &mut [f64],
+    blocks: &mut [f64],
     rings: &mut [f64],
     list: ChangeList,
     indices: &[usize],
@@ -52,60 +141,37 @@ fn move_in(
     removed: &[f64],
 ) -> Counts
     requires { ⌜ list .count ≤ roomOf (length (now indices)) (length (now records)) ⌝ }
-    ensures { λ r. ⌜ ShiftsLent
-        (moveIn stock n (now (cells .entry)) (now (rings .entry)) (list .stamp)
+    ensures { λ r. ⌜ ShiftsThen stock n
+        (moveIn stock n (now (cells .entry)) (now (blocks .entry)) (now (rings .entry)) (list .stamp)
         (changesFrom (now (indices .entry)) (now (records .entry)) (list .count))
         (now (removed .entry)))
-        r cells rings ⌝ }
+        r (now (cells .entry)) (now (cells .exit)) (now (blocks .entry)) (now (blocks .exit)) (now (rings .entry)) (now (rings .exit)) (now (indices .entry)) (list .count) ⌝ }
 {
-    let spec = stock.spec;
-    if !rings::rings_fit(spec, rings, stock.rings) {
-        return Counts::Refused(Refusal::StoredRings);
-    }
-    if !stock::same_stamp(list.stamp, stock.stamp) {
-        return Counts::Refused(Refusal::ListStale);
-    }
-    let judged = rings::first_bad_ring(removed);
-    if let Judged::Bad(at) = judged {
-        return Counts::RefusedAt(Refusal::RingOutside, at);
-    }
-    let s = stock::clean_spec(spec);
+    let s = stock::clean_spec(stock.spec);
     let found = changes::first_refusal(s, n, cells, indices, records, list.count);
-    match found {
-        Passing::Refused(r) => Counts::Refused(r),
-        Passing::RefusedAt(r, at) => Counts::RefusedAt(r, at),
-        Passing::Pass => {
-            let raised = rings::raised_by(spec, removed) as u64;
-            let generation = stock.stamp.generation;
-            if LAST_GENERATION - generation <= raised {
-                return Counts::Refused(Refusal::GenerationsSpent);
-            }
-            let stored = rings::remove_rings(spec, rings, stock.rings, removed);
-            match stored {
-                StoredAs::Refused(r) => Counts::Refused(r),
-                StoredAs::RefusedAt(r, at) => Counts::RefusedAt(r, at),
-                StoredAs::Rings(m) => {
-                    changes::put_after(cells, indices, records, list.count);
-                    Counts::Stored(m, generation + 1 + raised)
-                }
-            }
-        }
+    let counts = take_rings(stock, n, cells, blocks, rings, list.stamp, found, removed);
+    if !is_moved(counts) {
+        return counts;
     }
+    changes::put_after(cells, indices, records, list.count);
+    blocks::renew_changed(s, n, cells, blocks, indices, list.count);
+    counts
 }
 
 // A move of a stock that is asked; 1, 2, 3, 6 where the lists hold fewer changes, then as above.
 fn move_from(
     stock: TurnStock,
     cells: &mut [f64],
+    blocks: &mut [f64],
     rings: &mut [f64],
     list: ChangeList,
     indices: &[usize],
     records: &[f64],
     removed: &[f64],
 ) -> Counts
-    ensures { λ r. ⌜ ShiftsLent
-        (moveOf stock (now (cells .entry)) (now (rings .entry)) list (now (indices .entry)) (now (records .entry)) (now (removed .entry)))
-        r cells rings ⌝ }
+    ensures { λ r. ⌜ ShiftsLent stock
+        (moveOf stock (now (cells .entry)) (now (blocks .entry)) (now (rings .entry)) list (now (indices .entry)) (now (records .entry)) (now (removed .entry)))
+        r cells blocks rings ⌝ }
 {
     let counted = stock::cells_fit(stock.spec, cells);
     match counted {
@@ -114,13 +180,23 @@ fn move_from(
             if changes::room(indices.len(), records.len()) < list.count {
                 return Counts::Refused(Refusal::ChangesOverRoom);
             }
-            move_in(stock, n, cells, rings, list, indices, records, removed)
+            move_in(
+                stock,
+                n,
+                cells,
+                blocks,
+                rings,
+                list,
+                indices,
+                records,
+                removed,
+            )
         }
     }
 }
 
 // The stock with the rings and the generation that it has then.
-fn with_counts(stock: TurnStock, counts: Counts) -> Moved
+pub fn with_counts(stock: TurnStock, counts: Counts) -> Moved
     ensures { λ r. ⌜ movedPaper r ≡ stockAfter stock (countsPaper counts) ⌝ }
 {
     match counts {
@@ -131,11 +207,12 @@ fn with_counts(stock: TurnStock, counts: Counts) -> Moved
 }
 
 // Commit a change list and take the rings `removed`: the stock afterwards; 1, 2, 3, 6 where the lists
-// hold fewer changes, 4, 19 where the list's stamp is not the stock's, 10, 7, then change by change 8,
-// 21, 22, 23, then 12, 11.
+// hold fewer changes, 4, 19 where the list's stamp is not the stock's, 20 where the kept numbers do not
+// match the cells, 10, 7, then change by change 8, 21, 22, 23, then 12, 11.
 pub fn apply_move(
     stock: TurnStock,
     cells: &mut [f64],
+    blocks: &mut [f64],
     rings: &mut [f64],
     list: ChangeList,
     indices: &[usize],
@@ -143,26 +220,42 @@ pub fn apply_move(
     removed: &[f64],
 ) -> Moved
     ensures { λ r. ⌜ MovesLent stock
-        (moveOf stock (now (cells .entry)) (now (rings .entry)) list (now (indices .entry)) (now (records .entry)) (now (removed .entry)))
-        r cells rings ⌝ }
+        (moveOf stock (now (cells .entry)) (now (blocks .entry)) (now (rings .entry)) list (now (indices .entry)) (now (records .entry)) (now (removed .entry)))
+        r cells blocks rings ⌝ }
 {
-    let counts = move_from(stock, cells, rings, list, indices, records, removed);
+    let counts = move_from(stock, cells, blocks, rings, list, indices, records, removed);
     with_counts(stock, counts)
 }
 
-// How many of the rings `given` are stored in `rings`; 1, 2, 3, 10, 11.
-fn store_parts(spec: TurnStockSpec, cells: &[f64], given: &[f64], rings: &mut [f64]) -> StoredAs
-    ensures { λ r. ⌜ StoresAs (now (rings .entry)) (partsOf spec (now (cells .entry)) (now (given .entry)) (now (rings .entry))) r (now (rings .exit)) ⌝ }
+// How many of the rings `given` are stored in `rings`; 10, 11.
+fn store_given(spec: TurnStockSpec, given: &[f64], rings: &mut [f64]) -> StoredAs
+    ensures { λ r. ⌜ StoresAs (now (rings .entry)) (givenOf spec (now (given .entry)) (now (rings .entry))) r (now (rings .exit)) ⌝ }
+{
+    let judged = rings::first_bad_ring(given);
+    if let Judged::Bad(at) = judged {
+        return StoredAs::RefusedAt(Refusal::RingOutside, at);
+    }
+    rings::remove_rings(spec, rings, 0, given)
+}
+
+// The same of cells that are asked, with room for so many kept numbers; 1, 2, 3, 20, 10, 11.
+fn store_parts(
+    spec: TurnStockSpec,
+    cells: &[f64],
+    len: usize,
+    given: &[f64],
+    rings: &mut [f64],
+) -> StoredAs
+    ensures { λ r. ⌜ StoresAs (now (rings .entry)) (partsOf spec (now (cells .entry)) len (now (given .entry)) (now (rings .entry))) r (now (rings .exit)) ⌝ }
 {
     let counted = stock::cells_fit(spec, cells);
     match counted {
         Counted::Refused(r) => StoredAs::Refused(r),
-        Counted::Cells(_) => {
-            let judged = rings::first_bad_ring(given);
-            if let Judged::Bad(at) = judged {
-                return StoredAs::RefusedAt(Refusal::RingOutside, at);
+        Counted::Cells(n) => {
+            if len != 2 * blocks::blocks_in(n) {
+                return StoredAs::Refused(Refusal::BlocksDoNotMatch);
             }
-            rings::remove_rings(spec, rings, 0, given)
+            store_given(spec, given, rings)
         }
     }
 }
@@ -185,17 +278,36 @@ fn with_rings(spec: TurnStockSpec, edition: u32, stored: StoredAs) -> Rebuilt
     }
 }
 
+// The kept numbers, worked out of the cells where rings are stored.
+fn renew_stored(stored: StoredAs, spec: TurnStockSpec, cells: &[f64], blocks: &mut [f64])
+    ensures { λ _. ⌜ now (blocks .exit) ≡ storedKept stored spec (now (cells .entry)) (now (blocks .entry)) ⌝ }
+{
+    match stored {
+        StoredAs::Refused(_) => return,
+        StoredAs::RefusedAt(_, _) => return,
+        StoredAs::Rings(_) => {
+            let s = stock::clean_spec(spec);
+            blocks::renew_all(s, cells.len() / 4, cells, blocks);
+        }
+    }
+}
+
 // A stock of an edition, which is the caller's, from its cells and the rings `given`, which are stored
-// in `rings`; its generation is 0; 1, 2, 3, 10, 11.
+// in `rings`; its generation is 0, and its kept numbers are worked out of the cells; 1, 2, 3, 20 where
+// they are not two for each block, 10, 11.
 pub fn from_parts(
     spec: TurnStockSpec,
     edition: u32,
     cells: &[f64],
+    blocks: &mut [f64],
     given: &[f64],
     rings: &mut [f64],
 ) -> Rebuilt
-    ensures { λ r. ⌜ Rebuilds spec edition (now (rings .entry)) (partsOf spec (now (cells .entry)) (now (given .entry)) (now (rings .entry))) r (now (rings .exit)) ⌝ }
+    ensures { λ r. ⌜ RebuildsLent spec edition (now (cells .entry))
+        (partsOf spec (now (cells .entry)) (length (now (blocks .entry))) (now (given .entry)) (now (rings .entry)))
+        r blocks rings ⌝ }
 {
-    let stored = store_parts(spec, cells, given, rings);
+    let stored = store_parts(spec, cells, blocks.len(), given, rings);
+    renew_stored(stored, spec, cells, blocks);
     with_rings(spec, edition, stored)
 }

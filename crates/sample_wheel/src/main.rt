@@ -5,14 +5,15 @@
 // Their answers are the rules that the calls are proved to follow. `specs/Table` has the rows, and
 // `proofs/Holds` the one statement: every row's question has the row's answer.
 //
-// The program runs 01's other examples, and those of a list kept from another edition or generation, and
-// writes what it finds, a line each.
+// The program runs 01's other examples, those of a list kept from another edition or generation, and
+// those of kept numbers, and writes what it finds, a line each.
 use changes::Applied;
 use changes::ChangeList;
 use changes::Previewed;
 use cuts::Cut;
 use moves::Rebuilt;
 use numbers::Rooted;
+use queries::Seen;
 use refusals::Refusal;
 use rings::Removed;
 use rings::Ring;
@@ -165,14 +166,23 @@ fn thread_on(
 fn commit(
     stock: TurnStock,
     lent: &mut [f64],
+    kept: &mut [f64],
     previewed: Previewed,
     indices: &[usize],
     records: &[f64],
 ) {
     match previewed {
         Previewed::Refused(r) => say_no(r),
-        Previewed::Listed(list) => say_applied(changes::apply(stock, lent, list, indices, records)),
+        Previewed::Listed(list) => {
+            say_applied(changes::apply(stock, lent, kept, list, indices, records));
+        }
     }
+}
+
+// A bar of 4 cells of an edition, with its kept numbers: those of one block.
+fn new_bar(edition: u32, lent: &mut [f64], kept: &mut [f64]) {
+    stock::fill(bar(4.0), edition, lent);
+    blocks::renew(bar(4.0), lent, kept);
 }
 
 fn say_applied(answer: Applied) {
@@ -186,19 +196,27 @@ fn say_applied(answer: Applied) {
 // A list kept from one edition, committed to another, whose bins hold the same.
 fn kept_from(first: u32, second: u32) {
     let mut lent = [0.0f64; 16];
+    let mut kept = [0.0f64; 2];
     let mut indices = [0usize; 4];
     let mut records = [0.0f64; 32];
-    stock::fill(bar(4.0), first, &mut lent);
+    new_bar(first, &mut lent, &mut kept);
     io::write_all(1, b"edition: ");
     let previewed = thread_on(bar_of(first), &lent, &mut indices, &mut records);
-    commit(bar_of(second), &mut lent, previewed, &indices, &records);
+    commit(
+        bar_of(second),
+        &mut lent,
+        &mut kept,
+        previewed,
+        &indices,
+        &records,
+    );
 }
 
 // The stock after a commit of no changes; the same where it is refused.
-fn gone_on(stock: TurnStock, lent: &mut [f64]) -> TurnStock {
+fn gone_on(stock: TurnStock, lent: &mut [f64], kept: &mut [f64]) -> TurnStock {
     let stamp = stock.stamp;
     let none = ChangeList { count: 0, stamp };
-    let applied = changes::apply(stock, lent, none, &[], &[]);
+    let applied = changes::apply(stock, lent, kept, none, &[], &[]);
     match applied {
         Applied::Stock(after) => after,
         Applied::Refused(_) => stock,
@@ -209,13 +227,14 @@ fn gone_on(stock: TurnStock, lent: &mut [f64]) -> TurnStock {
 // A list kept over a commit that changed no cell.
 fn kept_over_commit() {
     let mut lent = [0.0f64; 16];
+    let mut kept = [0.0f64; 2];
     let mut indices = [0usize; 4];
     let mut records = [0.0f64; 32];
-    stock::fill(bar(4.0), 2, &mut lent);
+    new_bar(2, &mut lent, &mut kept);
     io::write_all(1, b"commit: ");
     let previewed = thread_on(bar_of(2), &lent, &mut indices, &mut records);
-    let after = gone_on(bar_of(2), &mut lent);
-    commit(after, &mut lent, previewed, &indices, &records);
+    let after = gone_on(bar_of(2), &mut lent, &mut kept);
+    commit(after, &mut lent, &mut kept, previewed, &indices, &records);
 }
 
 // The stock after a ring; the same where it is refused.
@@ -231,10 +250,11 @@ fn with_ring(stock: TurnStock, store: &mut [f64], ring: Ring) -> TurnStock {
 // A list kept over a ring, in a stock that has the ring z 0..2 r 2..6.
 fn kept_over_ring(ring: Ring) {
     let mut lent = [0.0f64; 16];
+    let mut kept = [0.0f64; 2];
     let mut store = [0.0f64; 32];
     let mut indices = [0usize; 4];
     let mut records = [0.0f64; 32];
-    stock::fill(bar(4.0), 2, &mut lent);
+    new_bar(2, &mut lent, &mut kept);
     let first = Ring {
         z0: 0.0,
         z1: 2.0,
@@ -245,19 +265,20 @@ fn kept_over_ring(ring: Ring) {
     io::write_all(1, b"ring: ");
     let previewed = thread_on(grooved, &lent, &mut indices, &mut records);
     let after = with_ring(grooved, &mut store, ring);
-    commit(after, &mut lent, previewed, &indices, &records);
+    commit(after, &mut lent, &mut kept, previewed, &indices, &records);
 }
 
 // The list that was previewed, committed to a rebuilt stock.
 fn commit_rebuilt(
     rebuilt: Rebuilt,
     lent: &mut [f64],
+    kept: &mut [f64],
     previewed: Previewed,
     indices: &[usize],
     records: &[f64],
 ) {
     match rebuilt {
-        Rebuilt::Stock(stock) => commit(stock, lent, previewed, indices, records),
+        Rebuilt::Stock(stock) => commit(stock, lent, kept, previewed, indices, records),
         Rebuilt::Refused(r) => say_no(r),
         Rebuilt::RefusedAt(r, _) => say_no(r),
     }
@@ -266,14 +287,68 @@ fn commit_rebuilt(
 // A list kept over a rebuild of the same cells: the stamp is the same again.
 fn kept_over_rebuild(edition: u32) {
     let mut lent = [0.0f64; 16];
+    let mut kept = [0.0f64; 2];
     let mut store = [0.0f64; 32];
     let mut indices = [0usize; 4];
     let mut records = [0.0f64; 32];
-    stock::fill(bar(4.0), 2, &mut lent);
+    new_bar(2, &mut lent, &mut kept);
     io::write_all(1, b"rebuild: ");
     let previewed = thread_on(bar_of(2), &lent, &mut indices, &mut records);
-    let rebuilt = moves::from_parts(bar(4.0), edition, &lent, &[], &mut store);
-    commit_rebuilt(rebuilt, &mut lent, previewed, &indices, &records);
+    let rebuilt = moves::from_parts(bar(4.0), edition, &lent, &mut kept, &[], &mut store);
+    commit_rebuilt(rebuilt, &mut lent, &mut kept, previewed, &indices, &records);
+}
+
+// Whether the most that may remain from 1 to 3 reaches just so far out.
+fn say_range(lent: &[f64], kept: &[f64], wanted: f64) {
+    io::write_all(1, b"range: ");
+    let seen = blocks::range(bar(4.0), lent, kept, 1.0, 3.0);
+    match seen {
+        Seen::Radii(_, outer) => {
+            if outer == wanted {
+                io::write_all(1, b"yes\n");
+            } else {
+                io::write_all(1, b"no\n");
+            }
+        }
+        Seen::Nothing => {
+            io::write_all(1, b"nothing\n");
+        }
+        Seen::Refused(r) => say_no(r),
+    }
+}
+
+// The bar turned down to 7, by a nose along all of it.
+fn turned_down(lent: &mut [f64], kept: &mut [f64]) {
+    let mut indices = [0usize; 4];
+    let mut records = [0.0f64; 32];
+    io::write_all(1, b"kept: ");
+    let previewed = cuts::preview(
+        bar_of(2),
+        lent,
+        TurnSide::Outer,
+        0.5,
+        &[7.5, -2.0, 7.5, 6.0, 0.0],
+        &mut indices,
+        &mut records,
+    );
+    commit(bar_of(2), lent, kept, previewed, &indices, &records);
+}
+
+// A range before and after a commit, which renews the kept numbers; and by those of before it.
+fn ranges_in(lent: &mut [f64], kept: &mut [f64], before: &mut [f64]) {
+    new_bar(2, lent, kept);
+    new_bar(2, lent, before);
+    say_range(lent, kept, 10.0);
+    turned_down(lent, kept);
+    say_range(lent, kept, 7.0);
+    say_range(lent, before, 7.0);
+}
+
+fn ranges() {
+    let mut lent = [0.0f64; 16];
+    let mut kept = [0.0f64; 2];
+    let mut before = [0.0f64; 2];
+    ranges_in(&mut lent, &mut kept, &mut before);
 }
 
 fn main() {
@@ -304,4 +379,5 @@ fn main() {
     });
     kept_over_rebuild(2);
     kept_over_rebuild(3);
+    ranges();
 }

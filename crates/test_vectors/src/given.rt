@@ -21,11 +21,12 @@ const LIST: u8 = 76;
 pub const TO_CHANGES: u64 = 5;
 
 // Where the parts of a call stand, in the order in which any call has them: its spec with the stamp
-// of its stock, from word 1 on; cells or points, rings, a size, numbers, changes, more points, the
-// room that is lent, the answer. The lengths of rings and changes that are only lent stand in the
-// room.
+// of its stock, from word 1 on; cells or points, kept numbers, rings, a size, numbers, changes, more
+// points, the room that is lent, the answer. The lengths of rings and changes that are only lent stand
+// in the room; of cells and kept numbers that are only lent there is the length alone.
 pub struct Places {
     pub cells: usize,
+    pub blocks: usize,
     pub rings: usize,
     pub size: usize,
     pub numbers: usize,
@@ -68,20 +69,22 @@ fn either(i: usize, end: usize, other: usize) -> usize {
 
 pub fn places_of(words: &[u64; LIMIT], kind: usize) -> Places {
     let cells = past(words, kind, PARTS, 1);
-    let rings = past(words, kind, PARTS + 1, cells);
-    let size = past(words, kind, PARTS + 2, rings);
-    let numbers = past(words, kind, PARTS + 3, size);
-    let changes = past(words, kind, PARTS + 4, numbers);
-    let points = past(words, kind, PARTS + 5, changes);
-    let room = past(words, kind, PARTS + 6, points);
+    let blocks = past(words, kind, PARTS + 1, cells);
+    let rings = past(words, kind, PARTS + 2, blocks);
+    let size = past(words, kind, PARTS + 3, rings);
+    let numbers = past(words, kind, PARTS + 4, size);
+    let changes = past(words, kind, PARTS + 5, numbers);
+    let points = past(words, kind, PARTS + 6, changes);
+    let room = past(words, kind, PARTS + 7, points);
     Places {
         cells,
+        blocks,
         rings: either(rings, size, room),
         size,
         numbers,
         changes: either(changes, points, room),
         points,
-        answer: past(words, kind, PARTS + 7, room),
+        answer: past(words, kind, PARTS + 8, room),
     }
 }
 

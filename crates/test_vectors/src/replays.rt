@@ -36,9 +36,11 @@ fn said(kind: usize, code: u32, n: u64, m: u64, found: bool, x: f64, y: f64) -> 
 // A call that writes sizes or numbers. Of those before ENVELOPE_AT none says whether there are any.
 fn asked(words: &[u64; LIMIT], kind: usize, p: Places, g: Given) -> Mark {
     let mut cells = [0.0f64; ROOM];
+    let mut blocks = [0.0f64; ROOM];
     let mut points = [0.0f64; ROOM];
     let mut rings = [0.0f64; ROOM];
     let c = given::lent(words, p.cells, 1, PLAIN, &mut cells);
+    let b = given::lent(words, p.blocks, 1, PLAIN, &mut blocks);
     let q = given::lent(words, p.points, 1, PLAIN, &mut points);
     let r = given::lent(words, p.rings, 2, PLAIN, &mut rings);
     let mut n: usize = 0;
@@ -46,7 +48,19 @@ fn asked(words: &[u64; LIMIT], kind: usize, p: Places, g: Given) -> Mark {
     let mut found: u32 = 0;
     let mut x: f64 = 0.0;
     let mut y: f64 = 0.0;
-    let code = calls::ask(kind, g, c, q, r, &mut n, &mut m, &mut found, &mut x, &mut y);
+    let code = calls::ask(
+        kind,
+        g,
+        c,
+        b,
+        q,
+        r,
+        &mut n,
+        &mut m,
+        &mut found,
+        &mut x,
+        &mut y,
+    );
     let any = (found != 0) | (kind < table::ENVELOPE_AT);
     let s = said(kind, code, n as u64 | found as u64, m as u64, any, x, y);
     answers::answer(words, p.answer, s)
@@ -107,24 +121,30 @@ fn stock(
     s: Said,
     position: usize,
     cells: &[f64],
+    blocks: &[f64],
     rings: &[f64],
 ) -> Mark {
     let done = s.code == 0;
     let chords = kind == table::SEGMENTS;
-    let c = done & (kind != table::REMOVE_RING) & (kind != table::FROM_PARTS) & !chords;
-    let r = done & (kind != table::APPLY) & (kind != table::NEW);
+    let b = done & (kind != table::REMOVE_RING) & !chords;
+    let c = b & (kind != table::FROM_PARTS) & (kind != table::RENEW);
+    let r = done & (kind != table::APPLY) & (kind != table::NEW) & (kind != table::RENEW);
     let n = cells.len() as u64;
+    let l = blocks.len() as u64;
     let m = answers::place(words, answers::answer(words, p.answer, s), position);
     let i = answers::list(words, m, c, n, n, cells);
-    let q = answers::list(words, i, r & !chords, s.m, 4 * (s.m % 65536), rings);
+    let j = answers::list(words, i, b, l, l, blocks);
+    let q = answers::list(words, j, r & !chords, s.m, 4 * (s.m % 65536), rings);
     let k = answers::list(words, q, r & chords, s.m, 5 * (s.m % 65536), rings);
     let c_kept = words::only(n, !done);
+    let b_kept = words::only(l, !done);
     let r_kept = words::only(rings.len() as u64, !done);
     Mark {
         at: k.at,
         ok: k.ok
             & (done | ((s.n == generation_before(kind, g)) & (s.m == g.rings as u64)))
             & answers::numbers_are(words, words::after(p.cells, 1), PLAIN, cells, c_kept)
+            & answers::numbers_are(words, words::after(p.blocks, 1), PLAIN, blocks, b_kept)
             & answers::numbers_are(words, words::after(p.rings, 2), PLAIN, rings, r_kept),
     }
 }
@@ -133,11 +153,13 @@ fn stock(
 fn changed(words: &[u64; LIMIT], kind: usize, p: Places, g: Given) -> Mark {
     let room = words::after(p.changes, 1);
     let mut cells = [0.0f64; ROOM];
+    let mut blocks = [0.0f64; ROOM];
     let mut points = [0.0f64; ROOM];
     let mut rings = [0.0f64; ROOM];
     let mut indices = [0usize; INDICES];
     let mut records = [0.0f64; ROOM];
     let c = given::lent(words, p.cells, 1, PLAIN, &mut cells);
+    let b = given::lent(words, p.blocks, 1, PLAIN, &mut blocks);
     let q = given::lent(words, p.points, 1, PLAIN, &mut points);
     let r = given::lent(words, p.rings, 2, PLAIN, &mut rings);
     let i = given::lent_indices(words, p.changes, &mut indices);
@@ -145,9 +167,9 @@ fn changed(words: &[u64; LIMIT], kind: usize, p: Places, g: Given) -> Mark {
     let mut n = generation_before(kind, g);
     let mut m = g.rings;
     let mut position = answers::UNTOLD;
-    let code = calls::change(kind, g, c, q, r, i, t, &mut m, &mut n, &mut position);
+    let code = calls::change(kind, g, c, b, q, r, i, t, &mut m, &mut n, &mut position);
     let s = said(kind, code, n, m as u64, false, 0.0, 0.0);
-    stock(words, kind, p, g, s, position, c, r)
+    stock(words, kind, p, g, s, position, c, b, r)
 }
 
 // Replays the call of a line, and says how far that is as recorded.
@@ -166,7 +188,8 @@ pub fn replay(words: &[u64; LIMIT], kind: usize) -> Mark {
         | table::REMOVE_RING
         | table::APPLY_MOVE
         | table::FROM_PARTS
-        | table::SEGMENTS => changed(words, kind, p, g),
+        | table::SEGMENTS
+        | table::RENEW => changed(words, kind, p, g),
         _ => asked(words, kind, p, g),
     }
 }

@@ -51,8 +51,12 @@ pub const PENETRATION: usize = 23;
 
 pub const ERODED: usize = 24;
 
+pub const RENEW: usize = 25;
+
+pub const RANGE: usize = 26;
+
 // A line whose name is not in the table.
-pub const UNREAD: usize = 25;
+pub const UNREAD: usize = 27;
 
 // Calls of kind k at k, those that differ at APART + k.
 const APART: usize = 32;
@@ -61,49 +65,51 @@ pub const COUNTS: usize = 64;
 
 // A row has a name, the parts of a call from column PARTS on (`given`), and how many sizes and
 // numbers the call writes besides lists.
-const ROW: usize = 27;
+const ROW: usize = 28;
 
-const ROWS: usize = 26;
+const ROWS: usize = 28;
 
 const NAME: usize = 16;
 
 pub const PARTS: usize = 16;
 
-pub const SIZES: usize = 25;
+pub const SIZES: usize = 26;
 
-pub const NUMBERS: usize = 26;
+pub const NUMBERS: usize = 27;
 
 const SPACE: u8 = 32;
 
 // Byte j of the row of kind k.
 pub fn cell(k: usize, j: usize) -> u8 {
     let rows = b"\
-root            00001000 01\
-length          00002000 01\
-validate        60000000 10\
-bin             60010000 02\
-new             80000001 10\
-preview         8N0110N2 00\
-preview_polygon 8N0110N2 00\
-thread_cut      8N003002 00\
-thread_cut_inner8N003002 00\
-drill           8N003002 00\
-changes_to      8N0000N2 00\
-apply           8N000L00 10\
-remove_ring     60S14000 10\
-apply_move      8NS00LN0 10\
-from_parts      8N0000N1 10\
-volume          6NS00000 02\
-envelope_at     6N001000 12\
-envelope_order  0N000000 10\
-within          0N002000 20\
-radius_at       0N001000 11\
-radius_range    0N002000 12\
-segments        0N001001 00\
-excess          0N0010N0 11\
-penetration     0N0010N0 11\
-eroded          0N002000 11\
-unread          00000000 00";
+root            000001000 01\
+length          000002000 01\
+validate        600000000 10\
+bin             600010000 02\
+new             811000000 10\
+preview         8N00110N2 00\
+preview_polygon 8N00110N2 00\
+thread_cut      8N0003002 00\
+thread_cut_inner8N0003002 00\
+drill           8N0003002 00\
+changes_to      8N00000N2 00\
+apply           8NN000L00 10\
+remove_ring     600S14000 10\
+apply_move      8NNS00LN0 10\
+from_parts      8NN0000N1 10\
+volume          6N0S00000 02\
+envelope_at     6N0001000 12\
+envelope_order  0N0000000 10\
+within          0N0002000 20\
+radius_at       0N0001000 11\
+radius_range    0N0002000 12\
+segments        0N0001001 00\
+excess          0N00010N0 11\
+penetration     0N00010N0 11\
+eroded          0N0002000 11\
+renew           6NN000000 00\
+range           6NN002000 12\
+unread          000000000 00";
     rows[ROW * (k % ROWS) + j % ROW]
 }
 

@@ -14,12 +14,11 @@ use Rattle.stock.specs.declared.TurnStockSpec.{TurnStockSpec}
 use Rattle.stock.specs.declared.Stamp.{Stamp}
 use Rattle.stock.specs.declared.TurnStock.{TurnStock}
 use Rattle.stock.specs.declared.TurnChange.{TurnChange}
-use Rattle.stock.specs.declared.Made.{Made}
 use Rattle.stock.specs.declared.ZRange.{ZRange}
 use Rattle.stock.specs.declared.TurnSide.{TurnSide}
 use Rattle.stock.specs.declared.TurnSide.the-variants.{Outer, Inner}
-use Rattle.stock.specs.Cell.{newOf, stockOf}
-use Rattle.stock.specs.Stock.{stockFrom, madePaper, stockMade, Filled}
+use Rattle.stock.specs.Cell.{stockOf}
+use Rattle.stock.specs.Stock.{stockFrom}
 use Rattle.changes.specs.declared.Tally.the-variants as tally
 use Rattle.changes.specs.declared.ChangeList.{ChangeList}
 use Rattle.changes.specs.declared.Previewed.{Previewed}
@@ -27,7 +26,7 @@ use Rattle.changes.specs.declared.Previewed.the-variants as previewed
 use Rattle.changes.specs.Change.{previewedPaper, Proposed}
 use Rattle.changes.proofs.Proposals.{left, as-list}
 use Rattle.changes.specs.declared.Applied.{Applied}
-use Rattle.changes.specs.Commit.{Committed, appliedPaper, generationOf, stockAt, applyOf, Applies}
+use Rattle.changes.specs.Commit.{Committed, appliedPaper, generationOf, stockAt, applyOf, cellsAfter, keptAfter, AppliesKept}
 use Rattle.changes.specs.Difference.{differenceOf}
 use Rattle.cuts.specs.declared.Cut.{Cut}
 use Rattle.cuts.specs.Preview.{previewCut}
@@ -41,8 +40,8 @@ use Rattle.profile.specs.Chords.{Chord, choppedPaper, segmentsOf, Segmented}
 use Rattle.moves.specs.declared.Moved.{Moved}
 use Rattle.moves.specs.Move as Move
 use Rattle.moves.specs.declared.Rebuilt.{Rebuilt}
-use Rattle.moves.specs.Move.{Left, movedPaper, Moves, stockStored, rebuiltPaper, Rebuilds}
-use Rattle.turning.specs.Boundary.{codeOf, outOf, placeOut, Gives, GivesPlace, GivesBin, GivesCells, GivesList, GivesChanges, GivesStock, bySide, GivesTwo, GivesTwoPlace, generationIn, GivesRings, GivesMove, GivesStore, GivesChords, GivesFound, GivesFoundTwo}
+use Rattle.moves.specs.Move.{Left, movedPaper, movedCells, movedKept, MovesKept, stockStored, partsOf, rebuiltPaper, rebuiltKept, Rebuilds}
+use Rattle.turning.specs.Boundary.{codeOf, outOf, placeOut, keptOut, Gives, GivesPlace, GivesBin, GivesList, GivesChanges, GivesStock, bySide, GivesTwo, GivesTwoPlace, generationIn, GivesRings, GivesMove, GivesStore, GivesChords, GivesFound, GivesFoundTwo}
 
 -- a refusal hands out its number and nothing else, whatever its number is
 pub gives-refused : {A : Type 0} (p : Paper A) (c : Refusal) (r : ℕ) (x : A) → p ≡ refuses (reasonOf c) → r ≡ numberOf c → Gives p r x x
@@ -82,21 +81,6 @@ gives p q r x x' e g = subst (λ z. Gives z r x x') e g
 pub gives-bin : (p q : Paper ZRange) (r : ℕ) (za za' zb zb' : Float) → p ≡ q → GivesBin p r za za' zb zb' → GivesBin q r za za' zb zb'
 gives-bin p q r za za' zb zb' e g = subst (λ z. GivesBin z r za za' zb zb') e g
 
-pub gives-cells : (spec : TurnStockSpec) (edition : ℕ) (a : Made) (r : ℕ) (cs cs' : List Float) (g g' : ℕ) → Gives (generationIn (madePaper a)) r g g' → Filled spec edition a cs cs' → GivesCells spec (newOf spec (length cs)) r cs cs' g g'
-gives-cells spec edition a r cs cs' g g' h f = record {
-  code = h .code ∙ ap (λ (z : Paper TurnStock). codeOf (generationIn z)) (f .answer) ∙ same-code (newOf spec (length cs));
-  cells = f .cells;
-  generation = h .out ∙ ap (λ (z : Paper TurnStock). outOf (λ (n : ℕ). n) (generationIn z) g) (f .answer) ∙ same-generation (newOf spec (length cs));
-}
-  where
-    same-code : (p : Paper ℕ) → codeOf (generationIn (stockMade spec edition p)) ≡ codeOf p
-    same-code (answers n) = refl
-    same-code (refuses n) = refl
-
-    same-generation : (p : Paper ℕ) → outOf (λ (n : ℕ). n) (generationIn (stockMade spec edition p)) g ≡ outOf (λ (n : ℕ). 0) p g
-    same-generation (answers n) = refl
-    same-generation (refuses n) = refl
-
 pub gives-changes : (st : Stamp) (p : Paper (List TurnChange)) (a : Previewed) (r k k' e e' g g' : ℕ) (is is' : List ℕ) (xs xs' : List Float) → GivesList (previewedPaper a) r k k' e e' g g' → Proposed st p a is is' xs xs' → GivesChanges st p r k k' e e' g g' is is' xs xs'
 gives-changes st p a r k k' e e' g g' is is' xs xs' h q = record {
   list = subst (λ (z : Paper ChangeList). GivesList z r k k' e e' g g') (q .answer) h;
@@ -104,14 +88,19 @@ gives-changes st p a r k k' e e' g g' is is' xs xs' h q = record {
   numbers = q .numbers;
 }
 
-pub gives-stock : (s : TurnStock) (p : Paper Committed) (a : Applied) (r : ℕ) (cs cs' : List Float) (g g' j j' : ℕ) → GivesPlace (generationIn (appliedPaper a)) r g g' j j' → Applies s p a cs cs' → GivesStock p r cs cs' g g' j j'
-gives-stock s p a r cs cs' g g' j j' h q = record {
-  code = h .code ∙ ap (λ (z : Paper TurnStock). codeOf (generationIn z)) (q .answer) ∙ same-code p;
-  cells = q .cells;
-  generation = h .out ∙ ap (λ (z : Paper TurnStock). outOf (λ (n : ℕ). n) (generationIn z) g) (q .answer) ∙ same-generation p;
-  position = h .position ∙ ap (λ (z : Paper TurnStock). placeOut (generationIn z) j) (q .answer) ∙ same-place p;
+pub gives-stock : (s : TurnStock) (p : Paper Committed) (a : Applied) (r : ℕ) (cs cs' bs bs' : List Float) (g g' j j' : ℕ) → GivesPlace (generationIn (appliedPaper a)) r g g' j j' → AppliesKept s p a cs cs' bs bs' → GivesStock (s .spec) p r cs cs' bs bs' g g' j j'
+gives-stock s p a r cs cs' bs bs' g g' j j' h q = record {
+  code = h .code ∙ ap (λ (z : Paper TurnStock). codeOf (generationIn z)) (q .left .answer) ∙ same-code p;
+  cells = q .left .cells;
+  kept = q .kept ∙ same-kept p ∙ ap (λ (x : List Float). keptOut (s .spec) x p bs) (sym (q .left .cells));
+  generation = h .out ∙ ap (λ (z : Paper TurnStock). outOf (λ (n : ℕ). n) (generationIn z) g) (q .left .answer) ∙ same-generation p;
+  position = h .position ∙ ap (λ (z : Paper TurnStock). placeOut (generationIn z) j) (q .left .answer) ∙ same-place p;
 }
   where
+    same-kept : (p : Paper Committed) → keptAfter s p bs ≡ keptOut (s .spec) (cellsAfter p cs) p bs
+    same-kept (answers k) = refl
+    same-kept (refuses n) = refl
+
     same-place : (p : Paper Committed) → placeOut (generationIn (stockAt s (generationOf p))) j ≡ placeOut p j
     same-place (answers k) = refl
     same-place (refuses n) = refl
@@ -159,16 +148,22 @@ gives-rings s p a r xs xs' k k' g g' j j' h q = record {
     same-generation (answers a) = refl
     same-generation (refuses n) = refl
 
-pub gives-move : (s : TurnStock) (p : Paper Left) (a : Moved) (r : ℕ) (cs cs' xs xs' : List Float) (k k' g g' j j' : ℕ) → GivesTwoPlace (λ (k : TurnStock). k .rings) (λ (k : TurnStock). k .stamp .generation) (movedPaper a) r k k' g g' j j' → Moves s p a cs cs' xs xs' → GivesMove p r cs cs' xs xs' k k' g g' j j'
-gives-move s p a r cs cs' xs xs' k k' g g' j j' h q = record {
-  code = h .code ∙ ap codeOf (q .answer) ∙ same-code p;
-  cells = q .cells;
-  rings = q .rings;
-  count = h .one ∙ ap (λ (z : Paper TurnStock). outOf (λ (c : TurnStock). c .rings) z k) (q .answer) ∙ same-count p;
-  generation = h .other ∙ ap (λ (z : Paper TurnStock). outOf (λ (c : TurnStock). c .stamp .generation) z g) (q .answer) ∙ same-generation p;
-  position = h .position ∙ ap (λ (z : Paper TurnStock). placeOut z j) (q .answer) ∙ same-place p;
+pub gives-move : (s : TurnStock) (p : Paper Left) (a : Moved) (r : ℕ) (cs cs' bs bs' xs xs' : List Float) (k k' g g' j j' : ℕ) → GivesTwoPlace (λ (k : TurnStock). k .rings) (λ (k : TurnStock). k .stamp .generation) (movedPaper a) r k k' g g' j j' → MovesKept s p a cs cs' bs bs' xs xs'
+    → GivesMove (s .spec) p r cs cs' bs bs' xs xs' k k' g g' j j'
+gives-move s p a r cs cs' bs bs' xs xs' k k' g g' j j' h q = record {
+  code = h .code ∙ ap codeOf (q .left .answer) ∙ same-code p;
+  cells = q .left .cells;
+  kept = q .kept ∙ same-kept p ∙ ap (λ (x : List Float). keptOut (s .spec) x p bs) (sym (q .left .cells));
+  rings = q .left .rings;
+  count = h .one ∙ ap (λ (z : Paper TurnStock). outOf (λ (c : TurnStock). c .rings) z k) (q .left .answer) ∙ same-count p;
+  generation = h .other ∙ ap (λ (z : Paper TurnStock). outOf (λ (c : TurnStock). c .stamp .generation) z g) (q .left .answer) ∙ same-generation p;
+  position = h .position ∙ ap (λ (z : Paper TurnStock). placeOut z j) (q .left .answer) ∙ same-place p;
 }
   where
+    same-kept : (p : Paper Left) → movedKept s p bs ≡ keptOut (s .spec) (movedCells p cs) p bs
+    same-kept (answers a) = refl
+    same-kept (refuses n) = refl
+
     same-place : (p : Paper Left) → placeOut (stockAfter s (Move.countsOf p)) j ≡ placeOut p j
     same-place (answers a) = refl
     same-place (refuses n) = refl
@@ -185,16 +180,22 @@ gives-move s p a r cs cs' xs xs' k k' g g' j j' h q = record {
     same-generation (answers a) = refl
     same-generation (refuses n) = refl
 
-pub gives-store : (spec : TurnStockSpec) (edition : ℕ) (p : Paper (List Ring)) (a : Rebuilt) (r : ℕ) (xs xs' : List Float) (k k' g g' j j' : ℕ) → GivesTwoPlace (λ (k : TurnStock). k .rings) (λ (k : TurnStock). k .stamp .generation) (rebuiltPaper a) r k k' g g' j j' → Rebuilds spec edition xs p a xs' → GivesStore p r xs xs' k k' g g' j j'
+pub gives-store : (spec : TurnStockSpec) (edition : ℕ) (cs : List Float) (p : Paper (List Ring)) (a : Rebuilt) (r : ℕ) (bs bs' xs xs' : List Float) (k k' g g' j j' : ℕ) → GivesTwoPlace (λ (k : TurnStock). k .rings) (λ (k : TurnStock). k .stamp .generation) (rebuiltPaper a) r k k' g g' j j' → Rebuilds spec edition cs p a bs bs' xs xs'
+    → GivesStore spec cs p r bs bs' xs xs' k k' g g' j j'
 unfolding Remove.countOf onward
-gives-store spec edition p a r xs xs' k k' g g' j j' h q = record {
+gives-store spec edition cs p a r bs bs' xs xs' k k' g g' j j' h q = record {
   code = h .code ∙ ap codeOf (q .answer) ∙ same-code p;
+  kept = q .kept ∙ same-kept p;
   rings = q .store;
   count = h .one ∙ ap (λ (z : Paper TurnStock). outOf (λ (c : TurnStock). c .rings) z k) (q .answer) ∙ same-count p;
   generation = h .other ∙ ap (λ (z : Paper TurnStock). outOf (λ (c : TurnStock). c .stamp .generation) z g) (q .answer) ∙ same-generation p;
   position = h .position ∙ ap (λ (z : Paper TurnStock). placeOut z j) (q .answer) ∙ same-place p;
 }
   where
+    same-kept : (p : Paper (List Ring)) → rebuiltKept spec cs p bs ≡ keptOut spec cs p bs
+    same-kept (answers l) = refl
+    same-kept (refuses n) = refl
+
     same-place : (p : Paper (List Ring)) → placeOut (stockStored spec edition (Remove.countOf p)) j ≡ placeOut p j
     same-place (answers l) = refl
     same-place (refuses n) = refl
@@ -243,11 +244,8 @@ module _ (spec : TurnStockSpec) (cs : List Float) (side : ℕ) (p : TurnSide →
 
 -- ---- the spec that a call makes of its six numbers, and the stock of it
 module _ (s s' : TurnStockSpec) where
-  pub same-new : (edition : ℕ) (a : Made) (cs cs' : List Float) → s ≡ s' → Filled s edition a cs cs' → Filled s' edition a cs cs'
-  same-new edition a cs cs' e f = subst (λ (x : TurnStockSpec). Filled x edition a cs cs') e f
-
-  pub same-store : (edition : ℕ) (f : TurnStockSpec → Paper (List Ring)) (a : Rebuilt) (xs xs' : List Float) → s ≡ s' → Rebuilds s edition xs (f s) a xs' → Rebuilds s' edition xs (f s') a xs'
-  same-store edition f a xs xs' e q = subst (λ (x : TurnStockSpec). Rebuilds x edition xs (f x) a xs') e q
+  pub same-store : (edition : ℕ) (cs given : List Float) (a : Rebuilt) (bs bs' xs xs' : List Float) → s ≡ s' → Rebuilds s edition cs (partsOf s cs (length bs) given xs) a bs bs' xs xs' → Rebuilds s' edition cs (partsOf s' cs (length bs) given xs) a bs bs' xs xs'
+  same-store edition cs given a bs bs' xs xs' e q = subst (λ (x : TurnStockSpec). Rebuilds x edition cs (partsOf x cs (length bs) given xs) a bs bs' xs xs') e q
 
   pub same-stock : (k : TurnStock) (edition rings g : ℕ) → k ≡ stockFrom s edition rings g → s ≡ s' → k ≡ stockFrom s' edition rings g
   same-stock k edition rings g h e = h ∙ ap (λ (x : TurnStockSpec). stockFrom x edition rings g) e
@@ -263,11 +261,11 @@ module _ (k k' : TurnStock) where
   pub same-difference : (cs ds : List Float) (room : ℕ) (a : Previewed) (is is' : List ℕ) (xs xs' : List Float) → k ≡ k' → Proposed (k .stamp) (differenceOf (k .spec) cs ds room) a is is' xs xs' → Proposed (k' .stamp) (differenceOf (k' .spec) cs ds room) a is is' xs xs'
   same-difference cs ds room a is is' xs xs' e q = subst (λ (x : TurnStock). Proposed (x .stamp) (differenceOf (x .spec) cs ds room) a is is' xs xs') e q
 
-  pub same-commit : (l l' : ChangeList) (cs : List Float) (is : List ℕ) (xs : List Float) (a : Applied) (ds ds' : List Float) → k ≡ k' → l ≡ l' → Applies k (applyOf k cs l is xs) a ds ds' → Applies k' (applyOf k' cs l' is xs) a ds ds'
-  same-commit l l' cs is xs a ds ds' e f q = subst (λ (y : ChangeList). Applies k' (applyOf k' cs y is xs) a ds ds') f (subst (λ (x : TurnStock). Applies x (applyOf x cs l is xs) a ds ds') e q)
+  pub same-commit : (l l' : ChangeList) (is : List ℕ) (xs : List Float) (a : Applied) (cs cs' bs bs' : List Float) → k ≡ k' → l ≡ l' → AppliesKept k (applyOf k cs bs l is xs) a cs cs' bs bs' → AppliesKept k' (applyOf k' cs bs l' is xs) a cs cs' bs bs'
+  same-commit l l' is xs a cs cs' bs bs' e f q = subst (λ (y : ChangeList). AppliesKept k' (applyOf k' cs bs y is xs) a cs cs' bs bs') f (subst (λ (x : TurnStock). AppliesKept x (applyOf x cs bs l is xs) a cs cs' bs bs') e q)
 
-  pub same-move : (l l' : ChangeList) (f : TurnStock → ChangeList → Paper Left) (a : Moved) (cs cs' xs xs' : List Float) → k ≡ k' → l ≡ l' → Moves k (f k l) a cs cs' xs xs' → Moves k' (f k' l') a cs cs' xs xs'
-  same-move l l' f a cs cs' xs xs' e h q = subst (λ (y : ChangeList). Moves k' (f k' y) a cs cs' xs xs') h (subst (λ (x : TurnStock). Moves x (f x l) a cs cs' xs xs') e q)
+  pub same-move : (l l' : ChangeList) (f : TurnStock → ChangeList → Paper Left) (a : Moved) (cs cs' bs bs' xs xs' : List Float) → k ≡ k' → l ≡ l' → MovesKept k (f k l) a cs cs' bs bs' xs xs' → MovesKept k' (f k' l') a cs cs' bs bs' xs xs'
+  same-move l l' f a cs cs' bs bs' xs xs' e h q = subst (λ (y : ChangeList). MovesKept k' (f k' y) a cs cs' bs bs' xs xs') h (subst (λ (x : TurnStock). MovesKept x (f x l) a cs cs' bs bs' xs xs') e q)
 
   pub same-ring : (f : TurnStock → Paper RingStore) (a : Removed) (xs xs' : List Float) → k ≡ k' → Removes k xs (f k) a xs' → Removes k' xs (f k') a xs'
   same-ring f a xs xs' e q = subst (λ (x : TurnStock). Removes x xs (f x) a xs') e q

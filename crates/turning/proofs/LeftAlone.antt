@@ -29,7 +29,7 @@ use Rattle.stock_lines.specs.Reading.{State, state, onLine}
 use Rattle.stock_file.specs.Read.{stopped, onLong, heldIn, Stocked}
 use Rattle.turning.specs.JobCalls.{Flat}
 use Rattle.turning.specs.Files.{refusedIn, heldFrom, readingFrom, takingIn, afterPart, TakesFile, GivesKept, GivesFileLine}
-use Rattle.turning.specs.Boundary.{codeOf, placeOut, Gives, GivesBin, GivesCells, GivesChanges, GivesStock, GivesTwo, GivesTwoPlace, GivesRings, GivesMove, GivesStore, GivesChords, GivesFound, GivesFoundTwo}
+use Rattle.turning.specs.Boundary.{codeOf, placeOut, Gives, GivesBin, GivesCells, GivesBlocks, GivesChanges, GivesStock, GivesTwo, GivesTwoPlace, GivesRings, GivesMove, GivesStore, GivesChords, GivesFound, GivesFoundTwo}
 
 no-code : {r : ℕ} → r ≡ 0 → 0 < r → ⊥
 no-code e h = omega arith
@@ -54,10 +54,15 @@ pub bin-left : (p : Paper ZRange) (r : ℕ) (za za' zb zb' : Float) → GivesBin
 bin-left (answers z) r za za' zb zb' g h = absurd (no-code (g .code) h)
 bin-left (refuses n) r za za' zb zb' g h = (g .start, g .end)
 
--- `turning_new`: the cells and the generation
-pub cells-left : (spec : TurnStockSpec) (p : Paper ℕ) (r : ℕ) (cs cs' : List Float) (k k' : ℕ) → GivesCells spec p r cs cs' k k' → 0 < r → (cs' ≡ cs) × (k' ≡ k)
-cells-left spec (answers n) r cs cs' k k' g h = absurd (no-code (g .code) h)
-cells-left spec (refuses n) r cs cs' k k' g h = (g .cells, g .generation)
+-- `turning_new`: the cells, their kept numbers and the generation
+pub cells-left : (spec : TurnStockSpec) (p : Paper ℕ) (r : ℕ) (cs cs' bs bs' : List Float) (k k' : ℕ) → GivesCells spec p r cs cs' bs bs' k k' → 0 < r → (cs' ≡ cs) × (bs' ≡ bs) × (k' ≡ k)
+cells-left spec (answers n) r cs cs' bs bs' k k' g h = absurd (no-code (g .code) h)
+cells-left spec (refuses n) r cs cs' bs bs' k k' g h = (g .cells, g .kept, g .generation)
+
+-- `turning_renew`: the kept numbers
+pub blocks-left : (spec : TurnStockSpec) (cs : List Float) (p : Paper ℕ) (r : ℕ) (bs bs' : List Float) → GivesBlocks spec cs p r bs bs' → 0 < r → bs' ≡ bs
+blocks-left spec cs (answers n) r bs bs' g h = absurd (no-code (g .code) h)
+blocks-left spec cs (refuses n) r bs bs' g h = g .kept
 
 -- the previews and `turning_changes_to`: the count, the list's edition and generation, and both lists
 pub changes-left : (st : Stamp) (p : Paper (List TurnChange)) (r k k' e e' j j' : ℕ) (is is' : List ℕ) (xs xs' : List Float) → GivesChanges st p r k k' e e' j j' is is' xs xs' → 0 < r → (k' ≡ k) × (e' ≡ e) × (j' ≡ j) × (is' ≡ is) × (xs' ≡ xs)
@@ -75,10 +80,10 @@ place-none {A} p n q e = ap (λ (x : Paper A). placeOut x q) e
 pub place-told : {A : Type 0} (p : Paper A) (n k q : ℕ) → p ≡ refuses (at n k) → placeOut p q ≡ k
 place-told {A} p n k q e = ap (λ (x : Paper A). placeOut x q) e
 
--- `turning_apply`: the cells and the generation
-pub stock-left : (p : Paper Committed) (r : ℕ) (cs cs' : List Float) (k k' q q' : ℕ) → GivesStock p r cs cs' k k' q q' → 0 < r → (cs' ≡ cs) × (k' ≡ k)
-stock-left (answers m) r cs cs' k k' q q' g h = absurd (no-code (g .code) h)
-stock-left (refuses n) r cs cs' k k' q q' g h = (g .cells, g .generation)
+-- `turning_apply`: the cells, their kept numbers and the generation
+pub stock-left : (spec : TurnStockSpec) (p : Paper Committed) (r : ℕ) (cs cs' bs bs' : List Float) (k k' q q' : ℕ) → GivesStock spec p r cs cs' bs bs' k k' q q' → 0 < r → (cs' ≡ cs) × (bs' ≡ bs) × (k' ≡ k)
+stock-left spec (answers m) r cs cs' bs bs' k k' q q' g h = absurd (no-code (g .code) h)
+stock-left spec (refuses n) r cs cs' bs bs' k k' q q' g h = (g .cells, g .kept, g .generation)
 
 -- `turning_remove_ring`: the rings, their count and the generation
 pub rings-left : (p : Paper RingStore) (r : ℕ) (xs xs' : List Float) (k k' j j' q q' : ℕ) → GivesRings p r xs xs' k k' j j' q q' → 0 < r → (xs' ≡ xs) × (k' ≡ k) × (j' ≡ j)
@@ -86,15 +91,15 @@ unfolding ringsAfter onward
 rings-left (answers s) r xs xs' k k' j j' q q' g h = absurd (no-code (g .code) h)
 rings-left (refuses n) r xs xs' k k' j j' q q' g h = (g .rings, g .count, g .generation)
 
--- `turning_apply_move`: the cells, the rings, their count and the generation
-pub move-left : (p : Paper Left) (r : ℕ) (cs cs' xs xs' : List Float) (k k' j j' q q' : ℕ) → GivesMove p r cs cs' xs xs' k k' j j' q q' → 0 < r → (cs' ≡ cs) × (xs' ≡ xs) × (k' ≡ k) × (j' ≡ j)
-move-left (answers a) r cs cs' xs xs' k k' j j' q q' g h = absurd (no-code (g .code) h)
-move-left (refuses n) r cs cs' xs xs' k k' j j' q q' g h = (g .cells, g .rings, g .count, g .generation)
+-- `turning_apply_move`: the cells, their kept numbers, the rings, their count and the generation
+pub move-left : (spec : TurnStockSpec) (p : Paper Left) (r : ℕ) (cs cs' bs bs' xs xs' : List Float) (k k' j j' q q' : ℕ) → GivesMove spec p r cs cs' bs bs' xs xs' k k' j j' q q' → 0 < r → (cs' ≡ cs) × (bs' ≡ bs) × (xs' ≡ xs) × (k' ≡ k) × (j' ≡ j)
+move-left spec (answers a) r cs cs' bs bs' xs xs' k k' j j' q q' g h = absurd (no-code (g .code) h)
+move-left spec (refuses n) r cs cs' bs bs' xs xs' k k' j j' q q' g h = (g .cells, g .kept, g .rings, g .count, g .generation)
 
--- `turning_from_parts`: the rings, their count and the generation
-pub store-left : (p : Paper (List Ring)) (r : ℕ) (xs xs' : List Float) (k k' j j' q q' : ℕ) → GivesStore p r xs xs' k k' j j' q q' → 0 < r → (xs' ≡ xs) × (k' ≡ k) × (j' ≡ j)
-store-left (answers l) r xs xs' k k' j j' q q' g h = absurd (no-code (g .code) h)
-store-left (refuses n) r xs xs' k k' j j' q q' g h = (g .rings, g .count, g .generation)
+-- `turning_from_parts`: the kept numbers, the rings, their count and the generation
+pub store-left : (spec : TurnStockSpec) (cs : List Float) (p : Paper (List Ring)) (r : ℕ) (bs bs' xs xs' : List Float) (k k' j j' q q' : ℕ) → GivesStore spec cs p r bs bs' xs xs' k k' j j' q q' → 0 < r → (bs' ≡ bs) × (xs' ≡ xs) × (k' ≡ k) × (j' ≡ j)
+store-left spec cs (answers l) r bs bs' xs xs' k k' j j' q q' g h = absurd (no-code (g .code) h)
+store-left spec cs (refuses n) r bs bs' xs xs' k k' j j' q q' g h = (g .kept, g .rings, g .count, g .generation)
 
 -- `turning_segments`: the chords and their count
 pub chords-left : (p : Paper (List Chord)) (r : ℕ) (xs xs' : List Float) (k k' : ℕ) → GivesChords p r xs xs' k k' → 0 < r → (xs' ≡ xs) × (k' ≡ k)
@@ -107,7 +112,7 @@ pub found-left : {A : Type 0} (p : Paper (Option A)) (r f f' : ℕ) (x x' : A) �
 found-left (answers a) r f f' x x' g h = absurd (no-code (g .code) h)
 found-left (refuses n) r f f' x x' g h = (g .found, g .out)
 
--- `turning_envelope_at`, `turning_radius_range`: whether there is anything, and both numbers
+-- `turning_envelope_at`, `turning_range`, `turning_radius_range`: whether there is anything, and both numbers
 pub found-two-left : {A : Type 0} {first second : A → Float} (p : Paper (Option A)) (r f f' : ℕ) (x x' y y' : Float) → GivesFoundTwo first second p r f f' x x' y y' → 0 < r → (f' ≡ f) × (x' ≡ x) × (y' ≡ y)
 found-two-left (answers a) r f f' x x' y y' g h = absurd (no-code (g .code) h)
 found-two-left (refuses n) r f f' x x' y y' g h = (g .found, g .one, g .other)

@@ -1,4 +1,5 @@
 pub mod Given
+pub mod Blocks
 pub mod Once
 pub mod LeftAlone
 pub mod Keeping

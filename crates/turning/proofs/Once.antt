@@ -7,6 +7,7 @@
 --   gives-two-once        turning_volume, turning_within
 --   gives-bin-once        turning_bin
 --   gives-cells-once      turning_new
+--   gives-blocks-once     turning_renew
 --   gives-changes-once    turning_preview, turning_preview_polygon, turning_thread_cut, turning_thread_cut_inner, turning_drill, turning_changes_to
 --   gives-stock-once      turning_apply
 --   gives-rings-once      turning_remove_ring
@@ -14,7 +15,7 @@
 --   gives-store-once      turning_from_parts
 --   gives-chords-once     turning_segments
 --   gives-found-once      turning_radius_at, turning_excess, turning_penetration, turning_eroded
---   gives-found-two-once  turning_envelope_at, turning_radius_range
+--   gives-found-two-once  turning_envelope_at, turning_range, turning_radius_range
 --   takes-job-once        turning_job_take
 --   ends-job-once         turning_job_finish
 --   writes-job-once       turning_job_output
@@ -23,7 +24,7 @@
 --   takes-file-once       turning_read_part
 --   gives-kept-once       turning_read_end
 -- A buffer that is lent to be read only is as it was.
-use mathlib.Core.Path.{_≡_, sym, _∙_}
+use mathlib.Core.Path.{_≡_, sym, ap, _∙_}
 use mathlib.Core.List.{List}
 use mathlib.Core.Option.{Option}
 use Prim.Native.Nat.{ℕ}
@@ -45,10 +46,10 @@ use Rattle.stock_file.specs.Read.{Stocked}
 use Rattle.turning.specs.Jobs.{TakesJob, EndsJob, WritesJob}
 use Rattle.turning.specs.JobCalls.{Flat}
 use Rattle.turning.specs.Files.{TakesFile, GivesKept, GivesFileLine}
-use Rattle.turning.specs.Boundary.{Gives, GivesTwo, GivesTwoPlace, GivesBin, GivesCells, GivesList, GivesChanges, GivesStock, GivesRings, GivesMove, GivesStore, GivesChords, GivesFound, GivesFoundTwo}
+use Rattle.turning.specs.Boundary.{keptOut, Gives, GivesTwo, GivesTwoPlace, GivesBin, GivesCells, GivesBlocks, GivesList, GivesChanges, GivesStock, GivesRings, GivesMove, GivesStore, GivesChords, GivesFound, GivesFoundTwo}
 
 -- the number of the header
-pub header-once : (r r' : ℕ) → r ≡ 4 → r' ≡ 4 → r ≡ r'
+pub header-once : (r r' : ℕ) → r ≡ 5 → r' ≡ 5 → r ≡ r'
 header-once r r' a b = a ∙ sym b
 
 -- one number
@@ -63,9 +64,19 @@ gives-two-once f g p r r' x x₁ x₂ y y₁ y₂ a b = (a .code ∙ sym (b .cod
 pub gives-bin-once : (p : Paper ZRange) (r r' : ℕ) (x x₁ x₂ y y₁ y₂ : Float) → GivesBin p r x x₁ y y₁ → GivesBin p r' x x₂ y y₂ → (r ≡ r') × (x₁ ≡ x₂) × (y₁ ≡ y₂)
 gives-bin-once p r r' x x₁ x₂ y y₁ y₂ a b = (a .code ∙ sym (b .code), a .start ∙ sym (b .start), a .end ∙ sym (b .end))
 
--- fresh cells and the generation
-pub gives-cells-once : (spec : TurnStockSpec) (p : Paper ℕ) (r r' : ℕ) (cs cs₁ cs₂ : List Float) (g g₁ g₂ : ℕ) → GivesCells spec p r cs cs₁ g g₁ → GivesCells spec p r' cs cs₂ g g₂ → (r ≡ r') × (cs₁ ≡ cs₂) × (g₁ ≡ g₂)
-gives-cells-once spec p r r' cs cs₁ cs₂ g g₁ g₂ a b = (a .code ∙ sym (b .code), a .cells ∙ sym (b .cells), a .generation ∙ sym (b .generation))
+-- kept numbers, of the same cells
+kept-once : {A : Type 0} (spec : TurnStockSpec) (p : Paper A) (cs₁ cs₂ bs bs₁ bs₂ : List Float) → cs₁ ≡ cs₂ → bs₁ ≡ keptOut spec cs₁ p bs → bs₂ ≡ keptOut spec cs₂ p bs → bs₁ ≡ bs₂
+kept-once spec p cs₁ cs₂ bs bs₁ bs₂ e a b = a ∙ ap (λ (x : List Float). keptOut spec x p bs) e ∙ sym b
+
+-- fresh cells, their kept numbers and the generation
+pub gives-cells-once : (spec : TurnStockSpec) (p : Paper ℕ) (r r' : ℕ) (cs cs₁ cs₂ bs bs₁ bs₂ : List Float) (g g₁ g₂ : ℕ) → GivesCells spec p r cs cs₁ bs bs₁ g g₁ → GivesCells spec p r' cs cs₂ bs bs₂ g g₂ → (r ≡ r') × (cs₁ ≡ cs₂) × (bs₁ ≡ bs₂) × (g₁ ≡ g₂)
+gives-cells-once spec p r r' cs cs₁ cs₂ bs bs₁ bs₂ g g₁ g₂ a b =
+    let cells = a .cells ∙ sym (b .cells) in
+    (a .code ∙ sym (b .code), cells, kept-once spec p cs₁ cs₂ bs bs₁ bs₂ cells (a .kept) (b .kept), a .generation ∙ sym (b .generation))
+
+-- the kept numbers of cells
+pub gives-blocks-once : (spec : TurnStockSpec) (cs : List Float) (p : Paper ℕ) (r r' : ℕ) (bs bs₁ bs₂ : List Float) → GivesBlocks spec cs p r bs bs₁ → GivesBlocks spec cs p r' bs bs₂ → (r ≡ r') × (bs₁ ≡ bs₂)
+gives-blocks-once spec cs p r r' bs bs₁ bs₂ a b = (a .code ∙ sym (b .code), a .kept ∙ sym (b .kept))
 
 -- a list: its count, its edition and its generation
 pub gives-list-once : (p : Paper ChangeList) (r r' k k₁ k₂ e e₁ e₂ g g₁ g₂ : ℕ) → GivesList p r k k₁ e e₁ g g₁ → GivesList p r' k k₂ e e₂ g g₂ → (r ≡ r') × (k₁ ≡ k₂) × (e₁ ≡ e₂) × (g₁ ≡ g₂)
@@ -78,24 +89,29 @@ gives-changes-once st p r r' k k₁ k₂ e e₁ e₂ g g₁ g₂ is is₁ is₂ 
     let l = gives-list-once _ r r' k k₁ k₂ e e₁ e₂ g g₁ g₂ (a .list) (b .list) in
     (l .0, l .1, l .2, l .3, a .indices ∙ sym (b .indices), a .numbers ∙ sym (b .numbers))
 
--- the cells and the generation
-pub gives-stock-once : (p : Paper Committed) (r r' : ℕ) (cs cs₁ cs₂ : List Float) (g g₁ g₂ q q₁ q₂ : ℕ) → GivesStock p r cs cs₁ g g₁ q q₁ → GivesStock p r' cs cs₂ g g₂ q q₂ → (r ≡ r') × (cs₁ ≡ cs₂) × (g₁ ≡ g₂) × (q₁ ≡ q₂)
-gives-stock-once p r r' cs cs₁ cs₂ g g₁ g₂ q q₁ q₂ a b = (a .code ∙ sym (b .code), a .cells ∙ sym (b .cells), a .generation ∙ sym (b .generation), a .position ∙ sym (b .position))
+-- the cells, their kept numbers and the generation
+pub gives-stock-once : (spec : TurnStockSpec) (p : Paper Committed) (r r' : ℕ) (cs cs₁ cs₂ bs bs₁ bs₂ : List Float) (g g₁ g₂ q q₁ q₂ : ℕ) → GivesStock spec p r cs cs₁ bs bs₁ g g₁ q q₁ → GivesStock spec p r' cs cs₂ bs bs₂ g g₂ q q₂ → (r ≡ r') × (cs₁ ≡ cs₂) × (bs₁ ≡ bs₂) × (g₁ ≡ g₂) × (q₁ ≡ q₂)
+gives-stock-once spec p r r' cs cs₁ cs₂ bs bs₁ bs₂ g g₁ g₂ q q₁ q₂ a b =
+    let cells = a .cells ∙ sym (b .cells) in
+    (a .code ∙ sym (b .code), cells, kept-once spec p cs₁ cs₂ bs bs₁ bs₂ cells (a .kept) (b .kept), a .generation ∙ sym (b .generation), a .position ∙ sym (b .position))
 
 -- the rings, their count and the generation
 pub gives-rings-once : (p : Paper RingStore) (r r' : ℕ) (xs xs₁ xs₂ : List Float) (k k₁ k₂ g g₁ g₂ q q₁ q₂ : ℕ) → GivesRings p r xs xs₁ k k₁ g g₁ q q₁ → GivesRings p r' xs xs₂ k k₂ g g₂ q q₂ → (r ≡ r') × (xs₁ ≡ xs₂) × (k₁ ≡ k₂) × (g₁ ≡ g₂) × (q₁ ≡ q₂)
 gives-rings-once p r r' xs xs₁ xs₂ k k₁ k₂ g g₁ g₂ q q₁ q₂ a b =
     (a .code ∙ sym (b .code), a .rings ∙ sym (b .rings), a .count ∙ sym (b .count), a .generation ∙ sym (b .generation), a .position ∙ sym (b .position))
 
--- the cells, the rings, their count and the generation
-pub gives-move-once : (p : Paper Left) (r r' : ℕ) (cs cs₁ cs₂ xs xs₁ xs₂ : List Float) (k k₁ k₂ g g₁ g₂ q q₁ q₂ : ℕ) → GivesMove p r cs cs₁ xs xs₁ k k₁ g g₁ q q₁ → GivesMove p r' cs cs₂ xs xs₂ k k₂ g g₂ q q₂ → (r ≡ r') × (cs₁ ≡ cs₂) × (xs₁ ≡ xs₂) × (k₁ ≡ k₂) × (g₁ ≡ g₂) × (q₁ ≡ q₂)
-gives-move-once p r r' cs cs₁ cs₂ xs xs₁ xs₂ k k₁ k₂ g g₁ g₂ q q₁ q₂ a b =
-    (a .code ∙ sym (b .code), a .cells ∙ sym (b .cells), a .rings ∙ sym (b .rings), a .count ∙ sym (b .count), a .generation ∙ sym (b .generation), a .position ∙ sym (b .position))
+-- the cells, their kept numbers, the rings, their count and the generation
+pub gives-move-once : (spec : TurnStockSpec) (p : Paper Left) (r r' : ℕ) (cs cs₁ cs₂ bs bs₁ bs₂ xs xs₁ xs₂ : List Float) (k k₁ k₂ g g₁ g₂ q q₁ q₂ : ℕ) → GivesMove spec p r cs cs₁ bs bs₁ xs xs₁ k k₁ g g₁ q q₁ → GivesMove spec p r' cs cs₂ bs bs₂ xs xs₂ k k₂ g g₂ q q₂
+    → (r ≡ r') × (cs₁ ≡ cs₂) × (bs₁ ≡ bs₂) × (xs₁ ≡ xs₂) × (k₁ ≡ k₂) × (g₁ ≡ g₂) × (q₁ ≡ q₂)
+gives-move-once spec p r r' cs cs₁ cs₂ bs bs₁ bs₂ xs xs₁ xs₂ k k₁ k₂ g g₁ g₂ q q₁ q₂ a b =
+    let cells = a .cells ∙ sym (b .cells) in
+    (a .code ∙ sym (b .code), cells, kept-once spec p cs₁ cs₂ bs bs₁ bs₂ cells (a .kept) (b .kept), a .rings ∙ sym (b .rings), a .count ∙ sym (b .count), a .generation ∙ sym (b .generation), a .position ∙ sym (b .position))
 
--- the rings, their count and the generation, of a rebuilt stock
-pub gives-store-once : (p : Paper (List Ring)) (r r' : ℕ) (xs xs₁ xs₂ : List Float) (k k₁ k₂ g g₁ g₂ q q₁ q₂ : ℕ) → GivesStore p r xs xs₁ k k₁ g g₁ q q₁ → GivesStore p r' xs xs₂ k k₂ g g₂ q q₂ → (r ≡ r') × (xs₁ ≡ xs₂) × (k₁ ≡ k₂) × (g₁ ≡ g₂) × (q₁ ≡ q₂)
-gives-store-once p r r' xs xs₁ xs₂ k k₁ k₂ g g₁ g₂ q q₁ q₂ a b =
-    (a .code ∙ sym (b .code), a .rings ∙ sym (b .rings), a .count ∙ sym (b .count), a .generation ∙ sym (b .generation), a .position ∙ sym (b .position))
+-- the kept numbers, the rings, their count and the generation, of a rebuilt stock
+pub gives-store-once : (spec : TurnStockSpec) (cs : List Float) (p : Paper (List Ring)) (r r' : ℕ) (bs bs₁ bs₂ xs xs₁ xs₂ : List Float) (k k₁ k₂ g g₁ g₂ q q₁ q₂ : ℕ) → GivesStore spec cs p r bs bs₁ xs xs₁ k k₁ g g₁ q q₁ → GivesStore spec cs p r' bs bs₂ xs xs₂ k k₂ g g₂ q q₂
+    → (r ≡ r') × (bs₁ ≡ bs₂) × (xs₁ ≡ xs₂) × (k₁ ≡ k₂) × (g₁ ≡ g₂) × (q₁ ≡ q₂)
+gives-store-once spec cs p r r' bs bs₁ bs₂ xs xs₁ xs₂ k k₁ k₂ g g₁ g₂ q q₁ q₂ a b =
+    (a .code ∙ sym (b .code), a .kept ∙ sym (b .kept), a .rings ∙ sym (b .rings), a .count ∙ sym (b .count), a .generation ∙ sym (b .generation), a .position ∙ sym (b .position))
 
 -- the chords and their count
 pub gives-chords-once : (p : Paper (List Chord)) (r r' : ℕ) (xs xs₁ xs₂ : List Float) (k k₁ k₂ : ℕ) → GivesChords p r xs xs₁ k k₁ → GivesChords p r' xs xs₂ k k₂ → (r ≡ r') × (xs₁ ≡ xs₂) × (k₁ ≡ k₂)

@@ -1,7 +1,7 @@
 -- What a call of the C boundary returns, and what it leaves in its out-parameters. Assumes nothing.
 use mathlib.Core.Path.{_≡_}
 use mathlib.Core.List.{List}
-use Prim.Native.Nat.{ℕ, _/_, _%_, _^_}
+use Prim.Native.Nat.{ℕ, _*_, _/_, _%_, _^_}
 use lib.ListN.{length}
 use lib.Ieee.{Float}
 use mathlib.Core.Option.{Option, none, some}
@@ -11,7 +11,7 @@ use denote.Triple.Both.{Both}
 use Rattle.floats.specs.Pick.{pick}
 use Rattle.refusals.specs.declared.Refusal.{Refusal}
 use Rattle.refusals.specs.Number.{reasonOf}
-use Rattle.refusals.specs.Paper.{Paper, answers, refuses, only, placeOr, onward}
+use Rattle.refusals.specs.Paper.{Paper, answers, refuses, demand, only, placeOr, onward}
 use Rattle.refusals.specs.Lent.{Lent, over}
 use Rattle.stock.specs.declared.TurnStockSpec.{TurnStockSpec}
 use Rattle.stock.specs.declared.Stamp.{Stamp}
@@ -22,16 +22,18 @@ use Rattle.stock.specs.declared.TurnSide.{TurnSide}
 use Rattle.stock.specs.declared.TurnSide.the-variants.{Outer, Inner}
 use Rattle.stock.specs.Cell.{newOf, newCells, stockOf}
 use Rattle.stock.specs.Stock.{stampOf}
+use Rattle.blocks.specs.Block.{blocksIn}
+use Rattle.blocks.specs.Renew.{renewOf}
 use Rattle.changes.specs.declared.ChangeList.{ChangeList}
 use Rattle.changes.specs.Change.{roomIn, indicesOf, numbersOf, countOf, writtenOf, stamped}
-use Rattle.changes.specs.Commit.{Committed, cellsAfter}
+use Rattle.changes.specs.Commit.{Committed, cellsAfter, numbersKept}
 use Rattle.cuts.specs.Preview.{previewNose, previewPolygon}
 use Rattle.rings.specs.declared.Ring.{Ring}
 use Rattle.rings.specs.Remove.{RingStore, ringsAfter, storeAfter}
 use Rattle.profile.specs.Chords as Profile
 use Rattle.profile.specs.Chords.{Chord, flatOf}
 use Rattle.moves.specs.Move as Move
-use Rattle.moves.specs.Move.{Left}
+use Rattle.moves.specs.Move.{Left, partsOf}
 
 -- 0, or the number of the refusal
 abbrev pub codeOf : {A : Type 0} → Paper A → ℕ
@@ -47,6 +49,10 @@ outOf f (refuses n) b = b
 abbrev pub placeOut : {A : Type 0} → Paper A → ℕ → ℕ
 placeOut (answers a) k = k
 placeOut (refuses n) k = placeOr k (n .place)
+
+-- the kept numbers beside cells: those of the cells, or as they were
+abbrev pub keptOut : {A : Type 0} → TurnStockSpec → List Float → Paper A → List Float → List Float
+keptOut {A} spec cs p bs = outOf (λ (a : A). numbersKept spec cs) p bs
 
 -- a spec's six numbers, in the order of the header
 abbrev pub specFrom : Float → Float → Float → Float → Float → ℕ → TurnStockSpec
@@ -85,11 +91,21 @@ pub record GivesBin (p : Paper ZRange) (r : ℕ) (za za' zb zb' : Float) : Type 
   pub start : za' ≡ outOf (λ (z : ZRange). z .za) p za
   pub end : zb' ≡ outOf (λ (z : ZRange). z .zb) p zb
 
--- fresh cells out, at generation 0
-pub record GivesCells (spec : TurnStockSpec) (p : Paper ℕ) (r : ℕ) (cs cs' : List Float) (g g' : ℕ) : Type 0 where
+-- how many cells so many lent numbers are to hold, with so many kept numbers beside them; 1, 2, 3, 20
+unfoldable pub newKept : TurnStockSpec → ℕ → ℕ → Paper ℕ
+newKept spec cells blocks = onward (newOf spec cells) (λ n. demand (eqb blocks (2 * blocksIn n)) 20 (answers n))
+
+-- fresh cells and their kept numbers out, at generation 0
+pub record GivesCells (spec : TurnStockSpec) (p : Paper ℕ) (r : ℕ) (cs cs' bs bs' : List Float) (g g' : ℕ) : Type 0 where
   pub code : r ≡ codeOf p
   pub cells : cs' ≡ newCells spec p cs
+  pub kept : bs' ≡ keptOut spec cs' p bs
   pub generation : g' ≡ outOf (λ (n : ℕ). 0) p g
+
+-- the kept numbers of cells out
+pub record GivesBlocks (spec : TurnStockSpec) (cs : List Float) (p : Paper ℕ) (r : ℕ) (bs bs' : List Float) : Type 0 where
+  pub code : r ≡ codeOf p
+  pub kept : bs' ≡ keptOut spec cs p bs
 
 -- a list out: the count of its changes, and the edition and the generation of its stamp
 pub record GivesList (p : Paper ChangeList) (r k k' e e' g g' : ℕ) : Type 0 where
@@ -104,10 +120,11 @@ pub record GivesChanges (st : Stamp) (p : Paper (List TurnChange)) (r k k' e e' 
   pub indices : is' ≡ over (indicesOf (writtenOf p)) is
   pub numbers : xs' ≡ over (numbersOf (writtenOf p)) xs
 
--- the cells and the generation after a commit, and the place of a refusal
-pub record GivesStock (p : Paper Committed) (r : ℕ) (cs cs' : List Float) (g g' q q' : ℕ) : Type 0 where
+-- the cells, their kept numbers and the generation after a commit, and the place of a refusal
+pub record GivesStock (spec : TurnStockSpec) (p : Paper Committed) (r : ℕ) (cs cs' bs bs' : List Float) (g g' q q' : ℕ) : Type 0 where
   pub code : r ≡ codeOf p
   pub cells : cs' ≡ cellsAfter p cs
+  pub kept : bs' ≡ keptOut spec cs' p bs
   pub generation : g' ≡ outOf (λ (k : Committed). k .generation) p g
   pub position : q' ≡ placeOut p q
 
@@ -156,18 +173,20 @@ pub record GivesRings (p : Paper RingStore) (r : ℕ) (xs xs' : List Float) (k k
   pub generation : g' ≡ outOf (λ (s : RingStore). s .generation) p g
   pub position : q' ≡ placeOut p q
 
--- the cells, the rings, their count and the generation, and the place of a refusal
-pub record GivesMove (p : Paper Left) (r : ℕ) (cs cs' xs xs' : List Float) (k k' g g' q q' : ℕ) : Type 0 where
+-- the cells, their kept numbers, the rings, their count and the generation, and the place of a refusal
+pub record GivesMove (spec : TurnStockSpec) (p : Paper Left) (r : ℕ) (cs cs' bs bs' xs xs' : List Float) (k k' g g' q q' : ℕ) : Type 0 where
   pub code : r ≡ codeOf p
   pub cells : cs' ≡ Move.movedCells p cs
+  pub kept : bs' ≡ keptOut spec cs' p bs
   pub rings : xs' ≡ Move.movedRings p xs
   pub count : k' ≡ outOf (λ (a : Left). length (a .rings)) p k
   pub generation : g' ≡ outOf (λ (a : Left). a .generation) p g
   pub position : q' ≡ placeOut p q
 
--- the rings and their count, at generation 0, and the place of a refusal
-pub record GivesStore (p : Paper (List Ring)) (r : ℕ) (xs xs' : List Float) (k k' g g' q q' : ℕ) : Type 0 where
+-- the kept numbers of the cells, the rings and their count, at generation 0, and the place of a refusal
+pub record GivesStore (spec : TurnStockSpec) (cs : List Float) (p : Paper (List Ring)) (r : ℕ) (bs bs' xs xs' : List Float) (k k' g g' q q' : ℕ) : Type 0 where
   pub code : r ≡ codeOf p
+  pub kept : bs' ≡ keptOut spec cs p bs
   pub rings : xs' ≡ storeAfter xs p
   pub count : k' ≡ outOf (λ (l : List Ring). length l) p k
   pub generation : g' ≡ outOf (λ (l : List Ring). 0) p g
@@ -226,8 +245,12 @@ HandsTwoPlace first second p r x y q = GivesTwoPlace first second p r (now (x .e
 abbrev pub HandsBin : Paper ZRange → ℕ → Out Float → Out Float → Type 0
 HandsBin p r za zb = GivesBin p r (now (za .entry)) (now (za .exit)) (now (zb .entry)) (now (zb .exit))
 
-abbrev pub HandsCells : TurnStockSpec → ℕ → Lent Float → Out ℕ → Type 0
-HandsCells spec r cells generation = GivesCells spec (newOf spec (length (now (cells .entry)))) r (now (cells .entry)) (now (cells .exit)) (now (generation .entry)) (now (generation .exit))
+abbrev pub HandsCells : TurnStockSpec → ℕ → Lent Float → Lent Float → Out ℕ → Type 0
+HandsCells spec r cells blocks generation =
+    GivesCells spec (newKept spec (length (now (cells .entry))) (length (now (blocks .entry)))) r (now (cells .entry)) (now (cells .exit)) (now (blocks .entry)) (now (blocks .exit)) (now (generation .entry)) (now (generation .exit))
+
+abbrev pub HandsBlocks : TurnStockSpec → List Float → ℕ → Lent Float → Type 0
+HandsBlocks spec cs r blocks = GivesBlocks spec cs (renewOf spec cs (length (now (blocks .entry)))) r (now (blocks .entry)) (now (blocks .exit))
 
 abbrev pub HandsList : Paper ChangeList → ℕ → Out ℕ → Out ℕ → Out ℕ → Type 0
 HandsList p r count edition generation = GivesList p r (now (count .entry)) (now (count .exit)) (now (edition .entry)) (now (edition .exit)) (now (generation .entry)) (now (generation .exit))
@@ -237,20 +260,24 @@ abbrev pub HandsChanges : Stamp → (ℕ → Paper (List TurnChange)) → ℕ �
 HandsChanges st rule r indices records count edition generation =
     GivesChanges st (rule (roomIn indices records)) r (now (count .entry)) (now (count .exit)) (now (edition .entry)) (now (edition .exit)) (now (generation .entry)) (now (generation .exit)) (now (indices .entry)) (now (indices .exit)) (now (records .entry)) (now (records .exit))
 
-abbrev pub HandsStock : Paper Committed → ℕ → Lent Float → Out ℕ → Out ℕ → Type 0
-HandsStock p r cells generation q = GivesStock p r (now (cells .entry)) (now (cells .exit)) (now (generation .entry)) (now (generation .exit)) (now (q .entry)) (now (q .exit))
+-- of the stock that the commit is asked for
+abbrev pub HandsStock : TurnStock → (TurnStock → Paper Committed) → ℕ → Lent Float → Lent Float → Out ℕ → Out ℕ → Type 0
+HandsStock k rule r cells blocks generation q =
+    GivesStock (k .spec) (rule k) r (now (cells .entry)) (now (cells .exit)) (now (blocks .entry)) (now (blocks .exit)) (now (generation .entry)) (now (generation .exit)) (now (q .entry)) (now (q .exit))
 
 abbrev pub HandsRings : Paper RingStore → ℕ → Lent Float → Out ℕ → Out ℕ → Out ℕ → Type 0
 HandsRings p r rings count generation q =
     GivesRings p r (now (rings .entry)) (now (rings .exit)) (now (count .entry)) (now (count .exit)) (now (generation .entry)) (now (generation .exit)) (now (q .entry)) (now (q .exit))
 
-abbrev pub HandsMove : Paper Left → ℕ → Lent Float → Lent Float → Out ℕ → Out ℕ → Out ℕ → Type 0
-HandsMove p r cells rings count generation q =
-    GivesMove p r (now (cells .entry)) (now (cells .exit)) (now (rings .entry)) (now (rings .exit)) (now (count .entry)) (now (count .exit)) (now (generation .entry)) (now (generation .exit)) (now (q .entry)) (now (q .exit))
+-- of the stock that moves
+abbrev pub HandsMove : TurnStock → (TurnStock → Paper Left) → ℕ → Lent Float → Lent Float → Lent Float → Out ℕ → Out ℕ → Out ℕ → Type 0
+HandsMove k rule r cells blocks rings count generation q =
+    GivesMove (k .spec) (rule k) r (now (cells .entry)) (now (cells .exit)) (now (blocks .entry)) (now (blocks .exit)) (now (rings .entry)) (now (rings .exit)) (now (count .entry)) (now (count .exit)) (now (generation .entry)) (now (generation .exit)) (now (q .entry)) (now (q .exit))
 
-abbrev pub HandsStore : Paper (List Ring) → ℕ → Lent Float → Out ℕ → Out ℕ → Out ℕ → Type 0
-HandsStore p r rings count generation q =
-    GivesStore p r (now (rings .entry)) (now (rings .exit)) (now (count .entry)) (now (count .exit)) (now (generation .entry)) (now (generation .exit)) (now (q .entry)) (now (q .exit))
+-- of a spec, its cells and the rings that are given
+abbrev pub HandsStore : TurnStockSpec → List Float → List Float → ℕ → Lent Float → Lent Float → Out ℕ → Out ℕ → Out ℕ → Type 0
+HandsStore spec cs given r blocks rings count generation q =
+    GivesStore spec cs (partsOf spec cs (length (now (blocks .entry))) given (now (rings .entry))) r (now (blocks .entry)) (now (blocks .exit)) (now (rings .entry)) (now (rings .exit)) (now (count .entry)) (now (count .exit)) (now (generation .entry)) (now (generation .exit)) (now (q .entry)) (now (q .exit))
 
 -- with as much room for chords as the list has
 abbrev pub HandsChords : (ℕ → Paper (List Chord)) → ℕ → Lent Float → Out ℕ → Type 0

@@ -164,6 +164,7 @@ pub extern "C" fn turning_apply(
     edition: u32,
     generation: &mut u64,
     cells: &mut [f64],
+    blocks: &mut [f64],
     indices: &[usize],
     records: &[f64],
     changes: usize,
@@ -171,16 +172,15 @@ pub extern "C" fn turning_apply(
     list_generation: u64,
     position: &mut usize,
 ) -> u32
-    ensures { λ r. ⌜ HandsStock
-        (applyOf (stockFrom (specFrom «z_min» «z_max» outer bore cell «max_cells») edition 0 (now (generation .entry))) (now (cells .entry))
-        (listFrom changes «list_edition» «list_generation») (now (indices .entry)) (now (records .entry)))
-        r cells generation position ⌝ }
+    ensures { λ r. ⌜ HandsStock (stockFrom (specFrom «z_min» «z_max» outer bore cell «max_cells») edition 0 (now (generation .entry)))
+        (λ k. applyOf k (now (cells .entry)) (now (blocks .entry)) (listFrom changes «list_edition» «list_generation»)
+        (now (indices .entry)) (now (records .entry))) r cells blocks generation position ⌝ }
 {
     let spec = stock_c::spec_of(z_min, z_max, outer, bore, cell, max_cells);
     let before = *generation;
     let stock = stock_c::stock_of(spec, edition, before, 0);
     let list = list_of(changes, list_edition, list_generation);
-    let answer = changes::apply(stock, cells, list, indices, records);
+    let answer = changes::apply(stock, cells, blocks, list, indices, records);
     give_generation(answer, generation, position)
 }
 

@@ -1,9 +1,10 @@
-// Volume, and what may remain at a height.
+// Volume, and what may remain at a height or over a range of heights.
 ghost use mathlib.Core.Path.{_≡_};
 ghost use Rattle.queries.specs.declared.Band.{Band};
 ghost use Rattle.queries.specs.declared.Volumes.{Volumes};
 ghost use Rattle.queries.specs.Envelope.{envelopeAt, seenPaper};
 ghost use Rattle.queries.specs.Volume.{volumeOf, measuredPaper};
+ghost use Rattle.blocks.specs.Range.{rangeOf};
 ghost use Rattle.turning.specs.Boundary.{specFrom, HandsTwo, HandsFoundTwo};
 use crate::stock_c;
 use queries::Measured;
@@ -87,5 +88,30 @@ pub extern "C" fn turning_envelope_at(
 {
     let spec = stock_c::spec_of(z_min, z_max, outer, bore, cell, max_cells);
     let answer = queries::envelope_at(spec, cells, z);
+    give_seen(answer, found, bore_lower, outer_upper)
+}
+
+#[no_mangle]
+pub extern "C" fn turning_range(
+    z_min: f64,
+    z_max: f64,
+    outer: f64,
+    bore: f64,
+    cell: f64,
+    max_cells: usize,
+    cells: &[f64],
+    blocks: &[f64],
+    lo: f64,
+    hi: f64,
+    found: &mut u32,
+    bore_lower: &mut f64,
+    outer_upper: &mut f64,
+) -> u32
+    ensures { λ r. ⌜ HandsFoundTwo (λ (b : Band). b .bore) (λ (b : Band). b .outer)
+        (rangeOf (specFrom «z_min» «z_max» outer bore cell «max_cells») (now (cells .entry)) (now (blocks .entry)) lo hi) r found
+        «bore_lower» «outer_upper» ⌝ }
+{
+    let spec = stock_c::spec_of(z_min, z_max, outer, bore, cell, max_cells);
+    let answer = blocks::range(spec, cells, blocks, lo, hi);
     give_seen(answer, found, bore_lower, outer_upper)
 }

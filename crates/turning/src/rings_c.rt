@@ -4,7 +4,7 @@ ghost use Rattle.rings.specs.Ring.{ring};
 ghost use Rattle.stock.specs.declared.TurnStock.{TurnStock};
 ghost use Rattle.stock.specs.Stock.{stockFrom};
 ghost use Rattle.rings.specs.Remove.{removedPaper, removeRing};
-ghost use Rattle.moves.specs.Move.{movedPaper, moveOf, partsOf, rebuiltPaper};
+ghost use Rattle.moves.specs.Move.{movedPaper, moveOf, rebuiltPaper};
 ghost use Rattle.turning.specs.Boundary.{specFrom, listFrom, HandsTwoPlace, HandsRings, HandsMove, HandsStore};
 use crate::cuts_c;
 use crate::stock_c;
@@ -98,6 +98,7 @@ pub extern "C" fn turning_apply_move(
     edition: u32,
     generation: &mut u64,
     cells: &mut [f64],
+    blocks: &mut [f64],
     rings: &mut [f64],
     rings_count: &mut usize,
     indices: &[usize],
@@ -108,17 +109,17 @@ pub extern "C" fn turning_apply_move(
     removed: &[f64],
     position: &mut usize,
 ) -> u32
-    ensures { λ r. ⌜ HandsMove
-        (moveOf (stockFrom (specFrom «z_min» «z_max» outer bore cell «max_cells») edition (now («rings_count» .entry))
-        (now (generation .entry))) (now (cells .entry)) (now (rings .entry)) (listFrom changes «list_edition» «list_generation»)
-        (now (indices .entry)) (now (records .entry)) (now (removed .entry))) r cells rings «rings_count» generation position ⌝ }
+    ensures { λ r. ⌜ HandsMove (stockFrom (specFrom «z_min» «z_max» outer bore cell «max_cells») edition
+        (now («rings_count» .entry)) (now (generation .entry)))
+        (λ k. moveOf k (now (cells .entry)) (now (blocks .entry)) (now (rings .entry)) (listFrom changes «list_edition» «list_generation»)
+        (now (indices .entry)) (now (records .entry)) (now (removed .entry))) r cells blocks rings «rings_count» generation position ⌝ }
 {
     let spec = stock_c::spec_of(z_min, z_max, outer, bore, cell, max_cells);
     let count = *rings_count;
     let before = *generation;
     let stock = stock_c::stock_of(spec, edition, before, count);
     let list = cuts_c::list_of(changes, list_edition, list_generation);
-    let answer = moves::apply_move(stock, cells, rings, list, indices, records, removed);
+    let answer = moves::apply_move(stock, cells, blocks, rings, list, indices, records, removed);
     give_moved(answer, rings_count, generation, position)
 }
 
@@ -158,15 +159,16 @@ pub extern "C" fn turning_from_parts(
     edition: u32,
     generation: &mut u64,
     cells: &[f64],
+    blocks: &mut [f64],
     given: &[f64],
     rings: &mut [f64],
     rings_count: &mut usize,
     position: &mut usize,
 ) -> u32
-    ensures { λ r. ⌜ HandsStore (partsOf (specFrom «z_min» «z_max» outer bore cell «max_cells») (now (cells .entry))
-        (now (given .entry)) (now (rings .entry))) r rings «rings_count» generation position ⌝ }
+    ensures { λ r. ⌜ HandsStore (specFrom «z_min» «z_max» outer bore cell «max_cells») (now (cells .entry)) (now (given .entry)) r
+        blocks rings «rings_count» generation position ⌝ }
 {
     let spec = stock_c::spec_of(z_min, z_max, outer, bore, cell, max_cells);
-    let answer = moves::from_parts(spec, edition, cells, given, rings);
+    let answer = moves::from_parts(spec, edition, cells, blocks, given, rings);
     give_rebuilt(answer, rings_count, generation, position)
 }

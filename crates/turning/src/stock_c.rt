@@ -1,9 +1,10 @@
-// Spec, stamp, bins, cells.
+// Spec, stamp, bins, cells, and the numbers that are kept beside them.
 ghost use mathlib.Core.Path.{_≡_};
 ghost use Rattle.stock.specs.Spec.{cellsOf, countedPaper};
 ghost use Rattle.stock.specs.Bin.{binFor, binnedPaper};
 ghost use Rattle.stock.specs.Stock.{stockFrom, madePaper};
-ghost use Rattle.turning.specs.Boundary.{specFrom, editionIn, generationIn, Hands, HandsBin, HandsCells};
+ghost use Rattle.turning.specs.Boundary.{codeOf, specFrom, editionIn, generationIn, newKept, Hands, HandsBin, HandsCells, HandsBlocks};
+use refusals::Refusal;
 use stock::Binned;
 use stock::Counted;
 use stock::Made;
@@ -63,6 +64,16 @@ fn give_count(answer: Counted, n: &mut usize) -> u32
             *n = k;
             0
         }
+    }
+}
+
+// 0, or the number of the refusal.
+fn number_in(answer: Counted) -> u32
+    ensures { λ r. ⌜ r ≡ codeOf (countedPaper answer) ⌝ }
+{
+    match answer {
+        Counted::Refused(r) => refusals::number(r),
+        Counted::Cells(_) => 0,
     }
 }
 
@@ -127,6 +138,25 @@ pub extern "C" fn turning_bin(
     give_bin(stock::bin(spec, i), za, zb)
 }
 
+// How many cells so many lent numbers are to hold, with so many kept numbers beside them; 1, 2, 3, 20.
+fn room_for(spec: TurnStockSpec, cells_len: usize, blocks_len: usize) -> Counted
+    ensures { λ r. ⌜ countedPaper r ≡ newKept spec «cells_len» «blocks_len» ⌝ }
+{
+    let counted = stock::validate(spec);
+    match counted {
+        Counted::Refused(r) => Counted::Refused(r),
+        Counted::Cells(n) => {
+            if cells_len != 4 * n {
+                return Counted::Refused(Refusal::CellsDoNotFit);
+            }
+            if blocks_len != 2 * blocks::blocks_in(n) {
+                return Counted::Refused(Refusal::BlocksDoNotMatch);
+            }
+            Counted::Cells(n)
+        }
+    }
+}
+
 #[no_mangle]
 pub extern "C" fn turning_new(
     z_min: f64,
@@ -138,9 +168,35 @@ pub extern "C" fn turning_new(
     edition: u32,
     generation: &mut u64,
     cells: &mut [f64],
+    blocks: &mut [f64],
 ) -> u32
-    ensures { λ r. ⌜ HandsCells (specFrom «z_min» «z_max» outer bore cell «max_cells») r cells generation ⌝ }
+    ensures { λ r. ⌜ HandsCells (specFrom «z_min» «z_max» outer bore cell «max_cells») r cells blocks generation ⌝ }
 {
     let spec = spec_of(z_min, z_max, outer, bore, cell, max_cells);
-    give_new(stock::fill(spec, edition, cells), generation)
+    let counted = room_for(spec, cells.len(), blocks.len());
+    match counted {
+        Counted::Refused(r) => refusals::number(r),
+        Counted::Cells(n) => {
+            let made = stock::fill(spec, edition, cells);
+            blocks::renew_all(stock::clean_spec(spec), n, cells, blocks);
+            give_new(made, generation)
+        }
+    }
+}
+
+#[no_mangle]
+pub extern "C" fn turning_renew(
+    z_min: f64,
+    z_max: f64,
+    outer: f64,
+    bore: f64,
+    cell: f64,
+    max_cells: usize,
+    cells: &[f64],
+    blocks: &mut [f64],
+) -> u32
+    ensures { λ r. ⌜ HandsBlocks (specFrom «z_min» «z_max» outer bore cell «max_cells») (now (cells .entry)) r blocks ⌝ }
+{
+    let spec = spec_of(z_min, z_max, outer, bore, cell, max_cells);
+    number_in(blocks::renew(spec, cells, blocks))
 }

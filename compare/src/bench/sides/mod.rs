@@ -19,6 +19,7 @@ use super::library_side;
 use super::rows::spec;
 use super::time::{Sides, side};
 use crate::call::Call;
+use crate::oracle::ranges::blocks;
 use crate::oracle::stock::{Bar, bar, camlib_stock, fresh};
 use plain::turning::stock::TurnStock;
 
@@ -28,6 +29,11 @@ fn bar_of(bins: usize) -> Bar {
 
 fn lent(bar: &Bar) -> Vec<f64> {
     fresh(bar).as_flattened().to_vec()
+}
+
+/// The kept numbers of those cells.
+fn kept_of(bar: &Bar) -> Vec<f64> {
+    blocks(bar, &fresh(bar))
 }
 
 fn stock_of(bar: &Bar) -> TurnStock {

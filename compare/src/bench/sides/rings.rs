@@ -1,5 +1,5 @@
 //! Rings, moves, stocks from their parts, volumes.
-use super::{bar_of, lent, pair};
+use super::{bar_of, kept_of, lent, pair};
 use crate::bench::queries;
 use crate::bench::rows::spec;
 use crate::bench::time::{Sides, side};
@@ -63,6 +63,7 @@ pub fn apply_move(stored: usize) -> Sides<'static> {
         spec: bar.spec,
         stamp: Stamp::default(),
         cells: lent(&bar),
+        blocks: kept_of(&bar),
         store: queries::store(&kept),
         list: List::default(),
         removed: flat,
@@ -81,6 +82,7 @@ pub fn from_parts(rings: usize) -> Sides<'static> {
         spec: bar.spec,
         stamp: Stamp::default(),
         cells: lent(&bar),
+        blocks: kept_of(&bar),
         given: flat,
         rings_len: 1024,
     };

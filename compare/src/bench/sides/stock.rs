@@ -1,10 +1,11 @@
 //! Specs, bins, new stocks, commits, differences of two stocks, one cell.
-use super::{bar_of, lent, pair, stock_of};
+use super::{bar_of, kept_of, lent, pair, stock_of};
 use crate::bench::rows::room;
 use crate::bench::time::Sides;
 use crate::call::{Call, List, Stamp};
+use crate::oracle::ranges::{BLOCK, blocks_len};
 use crate::oracle::stock::{camlib_spec, camlib_stock, fresh, to_camlib};
-use plain::turning::stock::{TurnChange, TurnStock};
+use plain::turning::stock::{TurnCell, TurnChange, TurnStock};
 use std::hint::black_box;
 
 pub fn validate(bins: usize) -> Sides<'static> {
@@ -29,12 +30,21 @@ pub fn new(bins: usize) -> Sides<'static> {
         spec,
         stamp: Stamp::default(),
         cells_len: 4 * bins,
+        blocks_len: blocks_len(bins),
     };
     pair(go, call)
 }
 
-/// A change of every cell to itself, so that the list can be committed again.
 pub fn apply(bins: usize) -> Sides<'static> {
+    changed(bins, bins)
+}
+
+pub fn apply_one(bins: usize) -> Sides<'static> {
+    changed(bins, 1)
+}
+
+/// A change of so many cells to themselves, so that the list can be committed again.
+fn changed(bins: usize, count: usize) -> Sides<'static> {
     let bar = bar_of(bins);
     let cells = fresh(&bar);
     let mut stock = stock_of(&bar);
@@ -43,18 +53,20 @@ pub fn apply(bins: usize) -> Sides<'static> {
         before: to_camlib(cell),
         after: to_camlib(cell),
     };
+    let cells = &cells[..count];
     let changes: Vec<TurnChange> = cells.iter().enumerate().map(change).collect();
     let go = move || stock.apply(black_box(&changes));
     let list = List {
-        indices: (0..bins).collect(),
+        indices: (0..count).collect(),
         records: cells.iter().flat_map(|c| [*c, *c]).flatten().collect(),
-        changes: bins,
+        changes: count,
         stamp: Stamp::default(),
     };
     let call = Call::Apply {
         spec: bar.spec,
         stamp: Stamp::default(),
         cells: lent(&bar),
+        blocks: kept_of(&bar),
         list,
     };
     pair(go, call)
@@ -86,6 +98,50 @@ pub fn envelope_at(bins: usize) -> Sides<'static> {
         spec: bar.spec,
         cells: lent(&bar),
         z,
+    };
+    pair(go, call)
+}
+
+/// A plain walk: the least bore and the greatest outer radius of the cells with material.
+fn walked(cells: &[TurnCell]) -> Option<(f64, f64)> {
+    let mut most = None;
+    for c in cells {
+        let (bore, outer) = (c.inner.lower_mm, c.outer.upper_mm);
+        if outer > bore {
+            let (b, o): (f64, f64) = most.unwrap_or((bore, outer));
+            most = Some((b.min(bore), o.max(outer)));
+        }
+    }
+    most
+}
+
+/// All bins but the first and the last; the Rust walks them.
+pub fn range(bins: usize) -> Sides<'static> {
+    let bar = bar_of(bins);
+    let stock = stock_of(&bar);
+    let go = move || walked(black_box(&stock.cells()[1..bins - 1]));
+    let call = Call::Range {
+        spec: bar.spec,
+        cells: lent(&bar),
+        blocks: kept_of(&bar),
+        lo: 1.5 * bar.spec.cell,
+        hi: bar.spec.z_max - 1.5 * bar.spec.cell,
+    };
+    pair(go, call)
+}
+
+/// Every block afresh; the Rust walks each.
+pub fn renew(bins: usize) -> Sides<'static> {
+    let bar = bar_of(bins);
+    let stock = stock_of(&bar);
+    let go = move || -> Vec<Option<(f64, f64)>> {
+        let blocks = black_box(stock.cells()).chunks(BLOCK);
+        blocks.map(walked).collect()
+    };
+    let call = Call::Renew {
+        spec: bar.spec,
+        cells: lent(&bar),
+        blocks: kept_of(&bar),
     };
     pair(go, call)
 }

@@ -13,7 +13,6 @@ returns c =
     λ i. record {
       spec = a .st .s;
       n = a .st .n;
-      stock = passingPaper (a .st .stock);
       any = true;
       last = a .change .index;
       rises = a .st .rises && (not (a .st .any) || ltb (a .st .last) (a .change .index));

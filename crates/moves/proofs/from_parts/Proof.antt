@@ -5,7 +5,9 @@ use Rattle.moves.proofs.from_parts.Statement.{statement}
 use Rattle.moves.proofs.from_parts.Tie as tie
 
 returns : tie.Need-returns
-returns c = rebuilds-from (c .with-rings .ensures) (c .before .before .before .store-parts .ensures)
+returns c =
+    let a = c .before .before .before .before .before .before .before .before .before .before .before .before .before .args in
+    rebuilds-from (a .spec) (a .edition) (a .cells .now) (a .given .now) (a .rings .now) (a .blocks .now) _ _ _ _ (c .with-rings .ensures) (c .before .before .before .before .before .before .before .store-parts .ensures) (c .before .before .before .renew-stored .ensures)
 
 pub from-parts-spec : {M : Type 1} → statement M
 from-parts-spec =
@@ -13,5 +15,7 @@ from-parts-spec =
     (tie.spec
     (λ c κs. search needs)
     (λ c κs. search needs)
+    (λ c κs. search needs)
+    (λ c. search needs)
     (λ c. search needs)
     returns)
