@@ -21,7 +21,7 @@ use lib.Ieee.Fits.{up-pos}
 use Rattle.refusals.specs.Paper.{Paper, answers, refuses, demand, demandAt, placed, onward, demand-true, placed-answers, at}
 use Rattle.refusals.specs.Limits.{cellLimit, pieceLimit, lastGeneration, lastPlace}
 use Rattle.floats.specs.Pick.{pick}
-use Rattle.floats.specs.Numbers.{_+₆₄_, _*₆₄_, zero64, usable}
+use Rattle.floats.specs.Numbers.{_+₆₄_, _*₆₄_, zero64, cleanOf, usable}
 use Rattle.numbers.specs.Root.{rootOf}
 use Rattle.numbers.specs.Length.{plainLength, lengthOf}
 use Rattle.numbers.specs.Whole.{wholeUp}
@@ -62,6 +62,9 @@ use Rattle.moves.specs.Move.{generationAfter, movableOf, ringsMoved, takenOf, m
 use Rattle.change_slices.specs.Move.{moveListOf}
 use Rattle.queries.specs.Envelope.{envelopeAt}
 use Rattle.queries.specs.Volume.{volumeOf}
+use Rattle.passes.specs.Cuts.{Cuts}
+use Rattle.passes.specs.Check.{targetsGood, cutsGood, checkableOf, checkOf}
+use Rattle.passes.specs.Propose.{noseGood, proposeOf}
 use Rattle.blocks.specs.Block.{blocksIn, matchesOf, keptStock}
 use Rattle.blocks.specs.Range.{rangeOf}
 use Rattle.blocks.specs.Renew.{renewOf}
@@ -80,7 +83,7 @@ use Rattle.job_words.specs.declared.Line.the-variants.{Bar, Cutting, Removing, 
 use Rattle.job_words.specs.Kind.{lineOf}
 use Rattle.job_run.specs.declared.line.Job.{Job}
 use Rattle.job_run.specs.Job.{lineLimit, cellsOfJob, barLine, madeCut, cutLine, removingLine, firstLine, laterLine, jobLine}
-use Rattle.demands.specs.Refused.{Asked, ask, Exactly, rootAsks, lengthAsks, countGood, specAsks, binAsks, newAsks, stockAsks, roomGood, previewCutAsks, previewAsks, previewNoseAsks, previewPolygonAsks, previewToolAsks, eachAsks, changeAsks, passAsks, commitInAsks, askedAsks, commitAsks, ownAsks, applyAsks, differenceAsks, removeAsks, roomForAll, allStored, removeRingsAsks, leftAsks, givenAsks, partsAsks, movableAsks, ringsMovedAsks, moveInAsks, moveListAsks, moveAsks, volumeAsks, keptAsks, renewAsks, pointsAsks, radiusAsks, withinAsks, barAsks, cutLineAsks, firstLineAsks, laterLineAsks, lineAsks, chordsFit, segmentsAsks, insertAsks, erodingAsks, fileAsks, fileLineAsks, compareAsks}
+use Rattle.demands.specs.Refused.{Asked, ask, Exactly, rootAsks, lengthAsks, countGood, specAsks, binAsks, newAsks, stockAsks, roomGood, previewCutAsks, previewAsks, previewNoseAsks, previewPolygonAsks, previewToolAsks, eachAsks, changeAsks, passAsks, commitInAsks, askedAsks, commitAsks, ownAsks, applyAsks, differenceAsks, removeAsks, roomForAll, allStored, removeRingsAsks, leftAsks, givenAsks, partsAsks, movableAsks, ringsMovedAsks, moveInAsks, moveListAsks, moveAsks, volumeAsks, keptAsks, renewAsks, checkAsks, proposeAsks, pointsAsks, radiusAsks, withinAsks, barAsks, cutLineAsks, firstLineAsks, laterLineAsks, lineAsks, chordsFit, segmentsAsks, insertAsks, erodingAsks, fileAsks, fileLineAsks, compareAsks}
 use Rattle.demands.proofs.Asking.{refusalOf, Asks, exactly, exactly-as, asks-none, asks-more, asks-of, asks-at, asks-of-at, asks-found, placed-demand, asks-on, asks-then, asks-as, asks-holds, asks-fails, onward-demand, unless, firstFailing}
 
 -- ---- the root and the length
@@ -449,6 +452,30 @@ move-exactly k cs bs xs list is ys removed =
     exactly (asks-on (stockOf (k .spec) cs) _ (stock-asks (k .spec) cs) (λ n e.
     asks-more (leb (list .count) (change.roomOf (length is) (length ys))) 6 (λ _.
     move-asks k n cs bs xs (list .stamp) (changesFrom is ys (list .count)) removed e)))
+
+-- ---- proposed cuts
+
+-- `passes::check`: 1, 2, 3, 20, 25; a verdict is no refusal
+pub check-exactly : (k : TurnStock) (cs bs ts : List Float) (ls : Cuts) (room numbers : ℕ) → Exactly (checkOf k cs bs ts ls room numbers) (checkAsks (k .spec) cs bs ts (ls .kinds) room numbers)
+unfolding checkOf checkableOf
+check-exactly k cs bs ts ls room numbers =
+    exactly (asks-then (checkableOf (k .spec) cs bs ts (ls .kinds) room numbers) _
+    (asks-on (stockOf (k .spec) cs) _ (stock-asks (k .spec) cs) (λ n e.
+    asks-of (stockOf (k .spec) cs) n e (λ n. eqb room (4 * n)) 3
+    (asks-of (stockOf (k .spec) cs) n e (λ n. matchesOf (cleanSpec (k .spec)) n cs bs) 20
+    (asks-of (stockOf (k .spec) cs) n e (λ n. eqb numbers (2 * blocksIn n)) 20
+    (asks-of (stockOf (k .spec) cs) n e (λ n. cutsGood (ls .kinds) && targetsGood ts n) 25
+    (asks-none n))))))
+    (λ _ _. asks-none _))
+
+-- `passes::propose::propose`: 1, 2, 3, 25 of the targets, 5 of the nose's radius
+pub propose-exactly : (spec : TurnStockSpec) (cs ts : List Float) (rn : Float) (room : ℕ) → Exactly (proposeOf spec cs ts rn room) (proposeAsks spec cs ts rn)
+unfolding proposeOf
+propose-exactly spec cs ts rn room =
+    exactly (asks-on (stockOf spec cs) _ (stock-asks spec cs) (λ n e.
+    asks-of (stockOf spec cs) n e (λ n. targetsGood ts n) 25
+    (asks-more (noseGood (cleanOf rn)) 5 (λ _.
+    asks-none _))))
 
 -- ---- volume and `envelope_at`
 

@@ -44,6 +44,7 @@
 --   change_slices apply, read_changes, propose (Once of change_slices), apply_move (Once.moved-once of moves)
 --   rings     remove_ring (removed-once), remove_rings (Once.stored-once of moves), left_of (left-of-once)
 --   moves     apply_move (Once.moved-once of moves), from_parts (Once.rebuilt-once of moves), take_rings (taken-rings-once); with_counts (Once.same-moved of moves)
+--   passes    check (checked-once); propose: propose (proposed-once)
 --   blocks    renew (renewed-once), leave_block (left-once), range_kept (kept-once)
 --   envelope  span_over (span-over-once), highest (highest-once)
 --   envelope  held::Envelope: new (new-once), order (order-once), within (within-once, of the numbers), radius_at (radius-at-once), radius_range (radius-range-once)
@@ -68,7 +69,7 @@ use Rattle.refusals.specs.declared.Refusal.{Refusal}
 use Rattle.refusals.specs.Number.{reasonOf}
 use Rattle.refusals.specs.Paper.{Paper, Reason, answers, refuses}
 use Rattle.refusals.specs.Lent.{Lent}
-use Rattle.refusals.proofs.OneToOne.{one-reason, one-place, no-place}
+use Rattle.refusals.proofs.OneToOne.{one-to-one, one-reason, one-place, no-place}
 use Rattle.numbers.specs.declared.Rooted.{Rooted}
 use Rattle.numbers.specs.declared.Rooted.the-variants as rooted
 use Rattle.numbers.specs.declared.Whole.{Whole}
@@ -120,6 +121,13 @@ use Rattle.changes.specs.Change.{ListedOne}
 use Rattle.queries.specs.declared.Seen.{Seen}
 use Rattle.queries.proofs.Outcomes.{same-seen}
 use Rattle.blocks.specs.Way.{RangeKept}
+use Rattle.passes.specs.declared.Checked.{Checked}
+use Rattle.passes.specs.declared.Checked.the-variants as checked
+use Rattle.passes.specs.Check.{Verdict, Said, saysYes, saysCut, saysBin, checkedPaper, Checks}
+use Rattle.passes.specs.declared.propose.Level.{Level}
+use Rattle.passes.specs.declared.propose.Proposal.{Proposal}
+use Rattle.passes.specs.declared.propose.Proposal.the-variants as proposal
+use Rattle.passes.specs.Propose.{proposalPaper, Proposes}
 use Rattle.blocks.specs.Renew.{Renewed, Open, LeavesBlocks}
 use Rattle.nose.specs.declared.Sample.{Sample}
 use Rattle.nose.specs.Track.{Samples, samplePaper}
@@ -406,6 +414,67 @@ applied-kept-once k p r r' cs cs₁ cs₂ bs bs₁ bs₂ a b = let w = applied-o
 
 pub taken-rings-once : (p : Paper RingsLeft) (r r' : Counts) (xs xs₁ xs₂ : List Float) → TakesRings p r xs xs₁ → TakesRings p r' xs xs₂ → (r ≡ r') × (xs₁ ≡ xs₂)
 taken-rings-once p r r' xs xs₁ xs₂ a b = (same-counts r r' (a .answer ∙ sym (b .answer)), a .rings ∙ sym (b .rings))
+
+-- which case a verdict is
+abbrev kindIn : Said → ℕ
+kindIn (saysYes k) = 0
+kindIn (saysCut i q) = 1
+kindIn (saysBin i) = 2
+
+-- a check: its answer, the cells and the kept numbers afterwards
+same-checked : (r r' : Checked) → checkedPaper r ≡ checkedPaper r' → r ≡ r'
+same-checked (checked.Yes k) (checked.Yes k') h = ap checked.Yes (yes-once (same-answer h))
+  where
+    stockIn : Said → TurnStock
+    stockIn (saysYes x) = x
+    stockIn (saysCut i q) = k
+    stockIn (saysBin i) = k
+
+    yes-once : saysYes k ≡ saysYes k' → k ≡ k'
+    yes-once e = ap stockIn e
+same-checked (checked.CutFails i c) (checked.CutFails j d) h = ap₂ checked.CutFails (ap placeIn (same-answer h)) (one-to-one c d (ap numberIn (same-answer h)))
+  where
+    placeIn : Said → ℕ
+    placeIn (saysYes x) = 0
+    placeIn (saysCut a q) = a
+    placeIn (saysBin a) = 0
+
+    numberIn : Said → ℕ
+    numberIn (saysYes x) = 0
+    numberIn (saysCut a q) = q
+    numberIn (saysBin a) = 0
+same-checked (checked.BinFails i) (checked.BinFails j) h = ap checked.BinFails (ap binIn (same-answer h))
+  where
+    binIn : Said → ℕ
+    binIn (saysYes x) = 0
+    binIn (saysCut a q) = 0
+    binIn (saysBin a) = a
+same-checked (checked.Refused c) (checked.Refused d) h = ap checked.Refused (same-refusal c d h)
+same-checked (checked.Refused c) (checked.Yes k) h = absurd (no-answer _ _ h)
+same-checked (checked.Refused c) (checked.CutFails i d) h = absurd (no-answer _ _ h)
+same-checked (checked.Refused c) (checked.BinFails i) h = absurd (no-answer _ _ h)
+same-checked (checked.Yes k) (checked.Refused d) h = absurd (no-answer _ _ (sym h))
+same-checked (checked.CutFails i c) (checked.Refused d) h = absurd (no-answer _ _ (sym h))
+same-checked (checked.BinFails i) (checked.Refused d) h = absurd (no-answer _ _ (sym h))
+same-checked (checked.Yes k) (checked.CutFails i d) h = let z : _≡_ {A = ℕ} 0 1 = ap kindIn (same-answer h) in absurd (omega arith)
+same-checked (checked.Yes k) (checked.BinFails i) h = let z : _≡_ {A = ℕ} 0 2 = ap kindIn (same-answer h) in absurd (omega arith)
+same-checked (checked.CutFails i c) (checked.Yes k) h = let z : _≡_ {A = ℕ} 1 0 = ap kindIn (same-answer h) in absurd (omega arith)
+same-checked (checked.CutFails i c) (checked.BinFails j) h = let z : _≡_ {A = ℕ} 1 2 = ap kindIn (same-answer h) in absurd (omega arith)
+same-checked (checked.BinFails i) (checked.Yes k) h = let z : _≡_ {A = ℕ} 2 0 = ap kindIn (same-answer h) in absurd (omega arith)
+same-checked (checked.BinFails i) (checked.CutFails j d) h = let z : _≡_ {A = ℕ} 2 1 = ap kindIn (same-answer h) in absurd (omega arith)
+
+pub checked-once : (k : TurnStock) (cs : List Float) (p : Paper Verdict) (r r' : Checked) (es es₁ es₂ bs bs₁ bs₂ : List Float) → Checks k cs p r es es₁ bs bs₁ → Checks k cs p r' es es₂ bs bs₂ → (r ≡ r') × (es₁ ≡ es₂) × (bs₁ ≡ bs₂)
+checked-once k cs p r r' es es₁ es₂ bs bs₁ bs₂ a b = (same-checked r r' (a .answer ∙ sym (b .answer)), a .cells ∙ sym (b .cells), a .kept ∙ sym (b .kept))
+
+-- a proposal: its answer and the three lists afterwards
+same-proposal : (r r' : Proposal) → proposalPaper r ≡ proposalPaper r' → r ≡ r'
+same-proposal (proposal.Passes k) (proposal.Passes k') h = ap proposal.Passes (same-answer h)
+same-proposal (proposal.Passes k) (proposal.Refused d) h = absurd (no-answer _ _ (sym h))
+same-proposal (proposal.Refused c) (proposal.Passes k) h = absurd (no-answer _ _ h)
+same-proposal (proposal.Refused c) (proposal.Refused d) h = ap proposal.Refused (same-refusal c d h)
+
+pub proposed-once : (p : Paper (List Level)) (r r' : Proposal) (ks ks₁ ks₂ : List ℕ) (xs xs₁ xs₂ : List Float) (ps ps₁ ps₂ : List ℕ) → Proposes p r ks ks₁ xs xs₁ ps ps₁ → Proposes p r' ks ks₂ xs xs₂ ps ps₂ → (r ≡ r') × (ks₁ ≡ ks₂) × (xs₁ ≡ xs₂) × (ps₁ ≡ ps₂)
+proposed-once p r r' ks ks₁ ks₂ xs xs₁ xs₂ ps ps₁ ps₂ a b = (same-proposal r r' (a .answer ∙ sym (b .answer)), a .kinds ∙ sym (b .kinds), a .numbers ∙ sym (b .numbers), a .parts ∙ sym (b .parts))
 
 pub removed-once : (k : TurnStock) (xs : List Float) (p : Paper RingStore) (r r' : Removed) (xs₁ xs₂ : List Float) → Removes k xs p r xs₁ → Removes k xs p r' xs₂ → (r ≡ r') × (xs₁ ≡ xs₂)
 removed-once k xs p r r' xs₁ xs₂ a b = (same-removed r r' (a .answer ∙ sym (b .answer)), a .store ∙ sym (b .store))

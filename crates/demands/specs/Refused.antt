@@ -12,7 +12,7 @@ use Rattle.refusals.specs.Paper.{Paper, Reason, answers, refuses, only, at}
 use Rattle.refusals.specs.Limits.{cellLimit, pieceLimit, lastGeneration}
 use Rattle.floats.specs.Each.{Each}
 use Rattle.floats.specs.Pick.{pick}
-use Rattle.floats.specs.Numbers.{_+₆₄_, _*₆₄_, zero64, usable}
+use Rattle.floats.specs.Numbers.{_+₆₄_, _*₆₄_, zero64, cleanOf, usable}
 use Rattle.numbers.specs.Whole.{wholeUp}
 use Rattle.stock.specs.declared.TurnStockSpec.{TurnStockSpec}
 use Rattle.stock.specs.declared.Stamp.{Stamp}
@@ -42,6 +42,8 @@ use Rattle.rings.specs.Store.{barRing, ringsOf, ringRoom, countFits, finiteRing
 use Rattle.rings.specs.Remove.{roomFor}
 use Rattle.moves.specs.Move.{generationAfter}
 use Rattle.blocks.specs.Block.{blocksIn, matchesOf}
+use Rattle.passes.specs.Check.{targetsGood, cutsGood}
+use Rattle.passes.specs.Propose.{noseGood}
 use Rattle.insert.specs.Insert.{touchAsks, erodedAsks}
 use Rattle.envelope.specs.Envelope.{pointsGood}
 use Rattle.job_words.specs.declared.Line.{Line}
@@ -315,6 +317,22 @@ compareAsks s a t b = ask (sameBar s t) 24 ∷ ask (bothInHand a b) 11 ∷ []
 -- ---- volume: 1, 2, 3, 4. `envelope_at` asks as a stock does.
 abbrev pub volumeAsks : TurnStockSpec → List Float → List Float → ℕ → List Asked
 volumeAsks spec cs xs k = stockAsks spec cs ++ (ask (countFits (barRing (cleanSpec spec)) xs k) 4 ∷ [])
+
+-- ---- proposed cuts
+
+-- 1, 2, 3 of the cells and of the room for those afterwards, 20 of the kept numbers and of the count of those afterwards, 25 of the cuts and their targets
+abbrev pub checkAsks : TurnStockSpec → List Float → List Float → List Float → List ℕ → ℕ → ℕ → List Asked
+checkAsks spec cs bs ts kinds room numbers =
+    stockAsks spec cs
+    ++ (ask (ofAnswer (stockOf spec cs) (λ n. eqb room (4 * n))) 3
+    ∷ ask (matching spec cs bs) 20
+    ∷ ask (ofAnswer (stockOf spec cs) (λ n. eqb numbers (2 * blocksIn n))) 20
+    ∷ ask (ofAnswer (stockOf spec cs) (λ n. cutsGood kinds && targetsGood ts n)) 25
+    ∷ [])
+
+-- 1, 2, 3, 25 of the targets, 5 of the nose's radius
+abbrev pub proposeAsks : TurnStockSpec → List Float → List Float → Float → List Asked
+proposeAsks spec cs ts rn = stockAsks spec cs ++ (ask (ofAnswer (stockOf spec cs) (λ n. targetsGood ts n)) 25 ∷ ask (noseGood (cleanOf rn)) 5 ∷ [])
 
 -- ---- envelopes: 14
 

@@ -1,0 +1,10 @@
+pub mod Loops
+pub mod Decoded
+pub mod Made
+pub mod InTurn
+pub mod Verdicts
+pub mod Runs
+pub mod Levels
+pub mod Writing
+pub mod Proposals
+pub mod Proposed

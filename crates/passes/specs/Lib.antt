@@ -1,0 +1,4 @@
+pub mod Cuts
+pub mod Check
+pub mod Steps
+pub mod Propose
