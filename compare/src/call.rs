@@ -32,6 +32,21 @@ impl Room {
     }
 }
 
+/// Room for passes: how many kinds, numbers and numbers of parts are lent.
+#[derive(Clone, Copy, Debug)]
+pub struct PassRoom {
+    pub kinds: usize,
+    pub numbers: usize,
+    pub parts: usize,
+}
+
+impl PassRoom {
+    /// How many passes it holds.
+    pub fn passes(self) -> usize {
+        self.kinds.min(self.numbers / 6).min(self.parts / 2)
+    }
+}
+
 /// A lent change list: 8 numbers in `records` for each index; and the stamp of the stock that it is for.
 #[derive(Clone, Debug, Default)]
 pub struct List {
@@ -46,6 +61,35 @@ pub struct List {
 pub struct Store {
     pub rings: Vec<f64>,
     pub count: usize,
+}
+
+/// Proposed cuts as they are lent: one kind a cut, six numbers, and two of a part of the lists beside them, its first number
+/// and how many (Req 13 of 02). 0 line, 1 thread, 2 nose, 3 polygon, outside; 4 to 7 the same inside; 8 drill; 9 arc.
+#[derive(Clone, Debug, Default, PartialEq)]
+pub struct Passes {
+    pub kinds: Vec<u32>,
+    pub numbers: Vec<f64>,
+    pub parts: Vec<usize>,
+    pub lists: Vec<f64>,
+}
+
+impl Passes {
+    /// Number j of cut k; no number where they do not reach.
+    pub fn number(&self, k: usize, j: usize) -> f64 {
+        self.numbers.get(6 * k + j).copied().unwrap_or(f64::NAN)
+    }
+    /// The part of cut k, where it has one that lies in the lists.
+    pub fn part(&self, k: usize) -> Option<&[f64]> {
+        let (start, count) = (*self.parts.get(2 * k)?, *self.parts.get(2 * k + 1)?);
+        self.lists.get(start..)?.get(..count)
+    }
+    /// One more cut, with what stands beside it at the end of the lists.
+    pub fn push(&mut self, kind: u32, numbers: [f64; 6], beside: &[f64]) {
+        self.kinds.push(kind);
+        self.numbers.extend(numbers);
+        self.parts.extend([self.lists.len(), beside.len()]);
+        self.lists.extend(beside);
+    }
 }
 
 /// A change of a cell.
@@ -95,6 +139,11 @@ pub enum Call {
     Excess { points: Vec<f64>, polygon: Vec<f64>, tolerance: f64 },
     Penetration { points: Vec<f64>, polygon: Vec<f64>, tolerance: f64 },
     Eroded { points: Vec<f64>, u: f64, tolerance: f64 },
+    CheckPasses {
+        spec: Spec, stamp: Stamp, cells: Vec<f64>, blocks: Vec<f64>, targets: Vec<f64>, passes: Passes,
+        after_len: usize, after_blocks_len: usize,
+    },
+    ProposePasses { spec: Spec, cells: Vec<f64>, targets: Vec<f64>, rn: f64, room: PassRoom },
 }
 
 impl Call {
@@ -129,6 +178,8 @@ impl Call {
             Call::Excess { .. } => "excess",
             Call::Penetration { .. } => "penetration",
             Call::Eroded { .. } => "eroded",
+            Call::CheckPasses { .. } => "check_passes",
+            Call::ProposePasses { .. } => "propose_passes",
         }
     }
 }
@@ -159,6 +210,18 @@ pub enum Answer {
     Part(usize, usize),
     /// The chords of a profile.
     Chords(Vec<[f64; 5]>),
+    /// A verdict on proposed cuts; the cells and the kept numbers of the stock that is handed back, and its generation.
+    Checked(Verdict, Vec<[f64; 4]>, Vec<f64>, u64),
+    /// Proposed passes: the six numbers of a line each.
+    Passes(Vec<[f64; 6]>),
+}
+
+/// Yes, or the first cut that is refused and its number, or the first bin that does not meet its target.
+#[derive(Clone, Copy, Debug, PartialEq)]
+pub enum Verdict {
+    Yes,
+    Cut(usize, u32),
+    Bin(usize),
 }
 
 /// Why a call is refused: the number of document 01 or 02, and the position, from 0, of what offends in

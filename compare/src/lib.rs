@@ -18,6 +18,7 @@ pub mod limits;
 pub mod memory;
 pub mod oracle;
 pub mod pairs;
+pub mod passes;
 pub mod positions;
 pub mod record;
 pub mod run;

@@ -142,6 +142,17 @@ pub mod c {
             cells: In, cells_len: usize, blocks: In, blocks_len: usize, lo: f64, hi: f64,
             found: *mut u32, bore_lower: Out, outer_upper: Out
         );
+        turning_check_passes(
+            edition: u32, generation: u64, cells: In, cells_len: usize, blocks: In, blocks_len: usize,
+            targets: In, targets_len: usize, kinds: *const u32, kinds_len: usize, numbers: In,
+            numbers_len: usize, parts: Sizes, parts_len: usize, lists: In, lists_len: usize, after: Out,
+            after_len: usize, after_blocks: Out, after_blocks_len: usize, verdict: *mut u32, place: Size,
+            reason: *mut u32, after_generation: *mut u64
+        );
+        turning_propose_passes(
+            cells: In, cells_len: usize, targets: In, targets_len: usize, rn: f64, kinds: *mut u32,
+            kinds_len: usize, numbers: Out, numbers_len: usize, parts: Size, parts_len: usize, count: Size
+        );
         turning_stock_lines(
             cells: In, cells_len: usize, rings: In, rings_len: usize, rings_count: usize, lines: Size
         );
@@ -267,6 +278,17 @@ pub fn run(call: &Call, memory: &mut Memory) -> u32 {
             ),
             Call::Eroded { u, tolerance, .. } => c::turning_eroded(
                 m[0].start(), m[0].size(), *u, *tolerance, m[1].start(), m[2].start()
+            ),
+            Call::CheckPasses { spec, stamp, passes, .. } => spec_call!(
+                turning_check_passes, spec, stamp.edition, stamp.generation,
+                m[0].start(), m[0].size(), m[1].start(), m[1].size(), m[2].start(), m[2].size(),
+                m[3].start(), passes.kinds.len(), m[4].start(), m[4].size(), m[5].start(), m[5].size(),
+                m[6].start(), m[6].size(), m[7].start(), m[7].size(), m[8].start(), m[8].size(),
+                m[9].start(), m[10].start(), m[11].start(), m[12].start()
+            ),
+            Call::ProposePasses { spec, rn, room, .. } => spec_call!(
+                turning_propose_passes, spec, m[0].start(), m[0].size(), m[1].start(), m[1].size(), *rn,
+                m[2].start(), room.kinds, m[3].start(), m[3].size(), m[4].start(), m[4].size(), m[5].start()
             ),
         }
     }

@@ -1,7 +1,11 @@
 //! Calls at document 01's limits and one beyond, each with the number that 01 gives; kept numbers and
 //! ranges over one bin to the most; lengths at the corners of their rule; envelope queries at the corners where a look at a part of the points could
-//! miss a segment; and profiles at the corners of theirs. Those that say where they fail are in
+//! miss a segment; profiles at the corners of theirs; and passes, in `passes`. Those that say where they fail are in
 //! `positions`.
+mod passes;
+
+pub use passes::{checks, pass_bar, proposals, two_steps};
+
 use crate::call::{Answer, Call, List, Outcome, Reason, Room, Simple, Spec, Stamp, Store};
 use crate::oracle::ranges::{blocks, blocks_len};
 use crate::oracle::stock::Bar;
@@ -1261,6 +1265,7 @@ pub fn calls() -> Vec<(Call, Option<Reason>)> {
         queries(),
         at_corners(),
         arcs(),
+        passes::numbered(),
     ];
     let numbered = numbered.concat().into_iter();
     let placed = [

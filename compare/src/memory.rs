@@ -1,5 +1,5 @@
 //! All that is lent to a call, as words of 64 bits.
-use crate::call::{Answer, Call, Change, List, Outcome, Room, Stamp, Store};
+use crate::call::{Answer, Call, Change, List, Outcome, Room, Stamp, Store, Verdict};
 
 /// Words before and after each buffer that no call may touch.
 const GUARD: usize = 3;
@@ -34,6 +34,13 @@ impl Lent {
         lent.put(0, numbers);
         lent
     }
+    /// The same with a value in the guards that a call would take, so that one that reads too far shows.
+    fn between(mut self, value: u64) -> Self {
+        let end = self.words.len() - GUARD;
+        self.words[..GUARD].fill(value);
+        self.words[end..].fill(value);
+        self
+    }
     fn put(&mut self, at: usize, numbers: &[f64]) {
         assert!(
             at + numbers.len() <= self.size(),
@@ -51,6 +58,20 @@ impl Lent {
     fn put_half(&mut self, at: usize, half: u32) {
         let word = &mut self.words[GUARD + at];
         *word = *word >> 32 << 32 | half as u64;
+    }
+    /// Number `at` of a list of 32-bit numbers, two a word as they lie in memory.
+    fn put_short(&mut self, at: usize, value: u32) {
+        let (word, shift) = (&mut self.words[GUARD + at / 2], 32 * (at % 2));
+        *word = *word & !(0xFFFF_FFFF << shift) | (value as u64) << shift;
+    }
+    /// The first so many 32-bit numbers.
+    pub fn shorts_held(&self, count: usize) -> Vec<u32> {
+        let short = |k: usize| (self.words()[k / 2] >> (32 * (k % 2))) as u32;
+        (0..count).map(short).collect()
+    }
+    /// A buffer for so many 32-bit numbers.
+    fn shorts(name: &'static str, len: usize) -> Self {
+        Self::blank(name, len.div_ceil(2))
     }
     /// How many words are lent.
     pub fn size(&self) -> usize {
@@ -91,6 +112,22 @@ fn indices(list: &List) -> Lent {
     let mut lent = Lent::blank("indices", list.indices.len());
     for (k, i) in list.indices.iter().enumerate() {
         lent.put_word(k, *i as u64);
+    }
+    lent
+}
+
+fn kinds(list: &[u32]) -> Lent {
+    let mut lent = Lent::shorts("kinds", list.len());
+    for (k, kind) in list.iter().enumerate() {
+        lent.put_short(k, *kind);
+    }
+    lent
+}
+
+fn sizes(name: &'static str, list: &[usize]) -> Lent {
+    let mut lent = Lent::blank(name, list.len());
+    for (k, size) in list.iter().enumerate() {
+        lent.put_word(k, *size as u64);
     }
     lent
 }
@@ -295,6 +332,42 @@ impl Memory {
                 m.push(Lent::holding("points", points));
                 m.extend([Lent::blank("found", 1), Lent::blank("radius", 1)]);
             }
+            Call::CheckPasses {
+                cells,
+                blocks,
+                targets,
+                passes,
+                after_len,
+                after_blocks_len,
+                ..
+            } => {
+                m.push(Lent::holding("cells", cells));
+                m.push(Lent::holding("blocks", blocks));
+                m.push(Lent::holding("targets", targets));
+                m.push(kinds(&passes.kinds));
+                let one = 1_f64.to_bits();
+                m.push(Lent::holding("numbers", &passes.numbers).between(one));
+                m.push(sizes("parts", &passes.parts).between(0));
+                m.push(Lent::holding("lists", &passes.lists).between(one));
+                m.push(Lent::blank("after", *after_len));
+                m.push(Lent::blank("after_blocks", *after_blocks_len));
+                m.extend([Lent::blank("verdict", 1), Lent::blank("place", 1)]);
+                m.push(Lent::blank("reason", 1));
+                m.push(Lent::blank("after_generation", 1));
+            }
+            Call::ProposePasses {
+                cells,
+                targets,
+                room,
+                ..
+            } => {
+                m.push(Lent::holding("cells", cells));
+                m.push(Lent::holding("targets", targets));
+                m.push(Lent::shorts("kinds", room.kinds));
+                m.push(Lent::blank("numbers", room.numbers));
+                m.push(Lent::blank("parts", room.parts));
+                m.push(Lent::blank("count", 1));
+            }
         }
         Self { lent: m }
     }
@@ -335,6 +408,22 @@ impl Memory {
         let edition = self.named("list_edition").unwrap();
         edition.put_half(0, stamp.edition);
         self.put_word("list_generation", stamp.generation);
+    }
+
+    /// 1 for yes, 2 with the cut's place and number, 3 with the bin's place.
+    fn put_verdict(&mut self, verdict: Verdict) {
+        let (said, place, reason) = match verdict {
+            Verdict::Yes => (1, None, None),
+            Verdict::Cut(k, number) => (2, Some(k), Some(number)),
+            Verdict::Bin(i) => (3, Some(i), None),
+        };
+        self.named("verdict").unwrap().put_half(0, said);
+        if let Some(place) = place {
+            self.put_word("place", place as u64);
+        }
+        if let Some(reason) = reason {
+            self.named("reason").unwrap().put_half(0, reason);
+        }
     }
 
     /// Writes what the outcome writes: a refusal its position, where it has one, and an answer its values.
@@ -390,6 +479,22 @@ impl Memory {
             Answer::Chords(chords) => {
                 self.put("segments", chords.as_flattened());
                 self.put_word("count", chords.len() as u64);
+            }
+            Answer::Checked(verdict, cells, blocks, generation) => {
+                self.put("after", cells.as_flattened());
+                self.put("after_blocks", blocks);
+                self.put_word("after_generation", *generation);
+                self.put_verdict(*verdict);
+            }
+            Answer::Passes(passes) => {
+                for k in 0..passes.len() {
+                    self.named("kinds").unwrap().put_short(k, 0);
+                    let parts = self.named("parts").unwrap();
+                    parts.put_word(2 * k, 0);
+                    parts.put_word(2 * k + 1, 0);
+                }
+                self.put("numbers", passes.as_flattened());
+                self.put_word("count", passes.len() as u64);
             }
         }
     }

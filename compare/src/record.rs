@@ -11,6 +11,8 @@
 //! SPEC     z_min z_max outer bore cell max_cells
 //! STAMP    edition generation; of new and from_parts what the place for the generation holds before
 //! NUMBERS  how many, then each
+//! SIZES    how many, then each in decimal
+//! CUTS     SIZES (kinds) NUMBERS SIZES (parts) NUMBERS (lists)
 //! BLOCKS   NUMBERS: those kept for the blocks, as they are lent, and behind `=` as they are written
 //! ROOM     indices_len records_len
 //! LIST     indices_len records_len changes STAMP, then for each change its index and 8 numbers
@@ -42,11 +44,17 @@
 //! segments NUMBERS tolerance segments_len = 0 CHORDS
 //! excess NUMBERS tolerance NUMBERS = 0 found [by]             (penetration too)
 //! eroded NUMBERS u tolerance = 0 found [radius]
+//! check_passes SPEC STAMP NUMBERS BLOCKS NUMBERS (targets) CUTS after_len after_blocks_len
+//!     = 0 verdict after_generation [place [reason]] NUMBERS BLOCKS
+//! propose_passes SPEC NUMBERS NUMBERS (targets) rn kinds_len numbers_len parts_len
+//!     = 0 count, then so many kinds, six times so many numbers and twice so many parts
 //! ```
 //!
 //! Of a list or store whose count is beyond what is lent, no change and no ring is given. What is
 //! lent beyond the count is the reader's to fill.
-use crate::call::{Answer, Call, Change, List, Outcome, Room, Simple, Spec, Stamp, Store};
+use crate::call::{
+    Answer, Call, Change, List, Outcome, Passes, Room, Simple, Spec, Stamp, Store, Verdict,
+};
 use crate::generate::{self, Rng};
 use crate::run::number;
 use crate::{limits, oracle};
@@ -94,6 +102,37 @@ impl Line {
     }
     fn numbers(&mut self, numbers: &[f64]) -> &mut Self {
         self.size(numbers.len()).each(numbers)
+    }
+    fn sizes<T: std::fmt::Display>(&mut self, sizes: &[T]) -> &mut Self {
+        self.size(sizes.len());
+        for x in sizes {
+            self.size(x);
+        }
+        self
+    }
+    fn cuts(&mut self, passes: &Passes) -> &mut Self {
+        self.sizes(&passes.kinds)
+            .numbers(&passes.numbers)
+            .sizes(&passes.parts)
+            .numbers(&passes.lists)
+    }
+    fn verdict(&mut self, verdict: Verdict, generation: u64) -> &mut Self {
+        match verdict {
+            Verdict::Yes => self.size(1).size(generation),
+            Verdict::Cut(k, number) => self.size(2).size(generation).size(k).size(number),
+            Verdict::Bin(i) => self.size(3).size(generation).size(i),
+        }
+    }
+    fn passes(&mut self, passes: &[[f64; 6]]) -> &mut Self {
+        self.size(passes.len());
+        for _ in passes {
+            self.size(0);
+        }
+        self.each(passes.as_flattened());
+        for _ in 0..2 * passes.len() {
+            self.size(0);
+        }
+        self
     }
     fn spec(&mut self, s: &Spec) -> &mut Self {
         self.each(&[s.z_min, s.z_max, s.outer, s.bore, s.cell])
@@ -310,6 +349,30 @@ fn inputs(line: &mut Line, call: &Call) {
             u,
             tolerance,
         } => line.numbers(points).number(*u).number(*tolerance),
+        Call::CheckPasses {
+            spec,
+            stamp,
+            cells,
+            blocks,
+            targets,
+            passes,
+            after_len,
+            after_blocks_len,
+        } => (line.spec(spec).stamp(stamp).numbers(cells).numbers(blocks))
+            .numbers(targets)
+            .cuts(passes)
+            .size(after_len)
+            .size(after_blocks_len),
+        Call::ProposePasses {
+            spec,
+            cells,
+            targets,
+            rn,
+            room,
+        } => (line.spec(spec).numbers(cells).numbers(targets).number(*rn))
+            .size(room.kinds)
+            .size(room.numbers)
+            .size(room.parts),
     };
 }
 
@@ -336,6 +399,11 @@ fn written(line: &mut Line, call: &Call, answer: &Answer) {
         Answer::Order(order) => line.size(order),
         Answer::Part(first, count) => line.size(first).size(count),
         Answer::Chords(chords) => line.size(chords.len()).each(chords.as_flattened()),
+        Answer::Checked(verdict, cells, blocks, generation) => (line
+            .verdict(*verdict, *generation))
+        .numbers(cells.as_flattened())
+        .numbers(blocks),
+        Answer::Passes(passes) => line.passes(passes),
     };
 }
 
@@ -359,6 +427,18 @@ fn held(call: &Call) -> bool {
         Call::RemoveRing { store, .. } | Call::Volume { store, .. } => (0, store.rings.len()),
         Call::FromParts { rings_len, .. } => (0, *rings_len),
         Call::Segments { segments_len, .. } => (0, *segments_len),
+        Call::CheckPasses {
+            passes,
+            after_len,
+            after_blocks_len,
+            ..
+        } => {
+            let numbers = [passes.numbers.len(), passes.lists.len()].into_iter();
+            let sizes = passes.kinds.len().max(passes.parts.len());
+            let rooms = [*after_len, *after_blocks_len];
+            (sizes, numbers.chain(rooms).max().unwrap())
+        }
+        Call::ProposePasses { room, .. } => (room.kinds.max(room.parts), room.numbers),
         _ => (0, 0),
     };
     indices <= INDICES && numbers <= NUMBERS
@@ -395,14 +475,15 @@ fn replayed(call: &Call, outcome: &Outcome, longest: usize) -> Option<String> {
     Some(fields.short()).filter(|text| text.len() < longest)
 }
 
-/// Every call at a limit, a line each, but for lists of 4,096 changes, which the replay has no room for.
+/// Every call at a limit, a line each, but for lists of 4,096 changes and a check over 4,096 bins, which the replay has no room for.
 pub fn at_the_limits() -> Vec<String> {
     let mut lines = vec![];
     for (call, _) in limits::calls() {
         match replayed(&call, &oracle::answer(&call), LINE) {
             Some(line) => lines.push(line),
             None => assert!(
-                matches!(&call, Call::Apply { list, .. } | Call::ApplyMove { list, .. } if list.changes == 4096),
+                matches!(&call, Call::Apply { list, .. } | Call::ApplyMove { list, .. } if list.changes == 4096)
+                    || matches!(&call, Call::CheckPasses { cells, .. } if cells.len() == 4 * 4096),
                 "the replay has no room for a call of {}",
                 call.name()
             ),

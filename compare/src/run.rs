@@ -2,10 +2,11 @@
 use crate::call::{Call, Outcome};
 use crate::count::Counts;
 use crate::files::Files;
-use crate::generate::{self, FILE, JOB_PARTS, Rng, SEQUENCE};
+use crate::generate::{self, FILE, JOB_PARTS, PASSES, PROPOSALS, Rng, SEQUENCE};
 use crate::guess::{Guess, guess};
 use crate::jobs::Parts;
 use crate::memory::Memory;
+use crate::passes::{Checks, Proposals};
 use crate::sequence::Sequences;
 use crate::shrink::shrink;
 use crate::{library, oracle, record};
@@ -40,6 +41,12 @@ pub fn source(name: &str, seed: u64) -> Box<dyn Source> {
     if name == FILE.0 {
         return Box::new(Files::new(seed));
     }
+    if name == PASSES.0 {
+        return Box::new(Checks::new(seed));
+    }
+    if name == PROPOSALS.0 {
+        return Box::new(Proposals::new(seed));
+    }
     Box::new(Calls {
         name: name.into(),
         make: generate::family(name).expect("the name is a family's"),
@@ -59,24 +66,19 @@ impl Source for Calls {
         }
         let differs = difference(&call, &outcome);
         if differs.is_some() && counts.differ() < SHOWN {
-            self.show(&call);
+            show(&self.name, self.made, self.seed, &call);
         }
         counts.add(call.name(), number(&outcome), differs.is_none());
         self.made += 1;
     }
 }
 
-impl Calls {
-    /// Prints where a call that differs stands, and the smallest one that it shrinks to.
-    fn show(&self, call: &Call) {
-        let differs = |call: &Call| difference(call, &oracle::answer(call));
-        let least = shrink(call, |call| differs(call).is_some());
-        let text = differs(&least).unwrap_or_default();
-        let (name, at, seed) = (&self.name, self.made, self.seed);
-        println!(
-            "{name}: call {at} of seed {seed} differs. The smallest found:\n{least:?}\n{text}"
-        );
-    }
+/// Prints where a call that differs stands, and the smallest one that it shrinks to.
+pub fn show(name: &str, at: u64, seed: u64, call: &Call) {
+    let differs = |call: &Call| difference(call, &oracle::answer(call));
+    let least = shrink(call, |call| differs(call).is_some());
+    let text = differs(&least).unwrap_or_default();
+    println!("{name}: call {at} of seed {seed} differs. The smallest found:\n{least:?}\n{text}");
 }
 
 /// The number that an outcome answers.

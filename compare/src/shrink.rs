@@ -1,5 +1,5 @@
 //! Makes a call or a sequence smaller as long as it still shows a difference.
-use crate::call::{Call, List, Simple, Spec, Stamp, Store};
+use crate::call::{Call, List, Passes, Simple, Spec, Stamp, Store};
 use crate::oracle::MOST_CELLS;
 use crate::oracle::ranges::{blocks_len, renew};
 use crate::oracle::stock::bar;
@@ -48,6 +48,8 @@ pub struct Parts<'a> {
     pub spec: Option<&'a mut Spec>,
     /// Lists with 4 numbers for each bin.
     pub cells: Vec<&'a mut Vec<f64>>,
+    /// Lists with 2 numbers for each bin.
+    pub pairs: Vec<&'a mut Vec<f64>>,
     /// Lists from which items can be left out.
     pub items: Vec<Items<'a>>,
     /// Single numbers.
@@ -63,6 +65,38 @@ pub enum Items<'a> {
     Flat(&'a mut Vec<f64>, usize),
     Store(&'a mut Store),
     Changes(Changes<'a>),
+    Cuts(Cuts<'a>),
+    /// Numbers none of which is left out.
+    Whole(&'a mut Vec<f64>),
+}
+
+/// Proposed cuts without the lists beside them.
+pub struct Cuts<'a> {
+    kinds: &'a mut Vec<u32>,
+    numbers: &'a mut Vec<f64>,
+    parts: &'a mut Vec<usize>,
+}
+
+/// The cuts, and the lists beside them.
+pub fn cut_items(passes: &mut Passes) -> [Items<'_>; 2] {
+    let Passes {
+        kinds,
+        numbers,
+        parts,
+        lists,
+    } = passes;
+    let cuts = Cuts {
+        kinds,
+        numbers,
+        parts,
+    };
+    [Items::Cuts(cuts), Items::Whole(lists)]
+}
+
+/// Takes out of a list what is there of a range.
+fn take_out<T>(list: &mut Vec<T>, start: usize, end: usize) {
+    let len = list.len();
+    list.drain(start.min(len)..end.min(len));
 }
 
 /// A change list without its stamp.
@@ -78,6 +112,8 @@ impl<'a> Items<'a> {
             Items::Flat(list, size) => list.len() / size,
             Items::Store(store) => store.rings.len() / 4,
             Items::Changes(list) => list.indices.len().min(list.records.len() / 8),
+            Items::Cuts(list) => list.kinds.len(),
+            Items::Whole(_) => 0,
         }
     }
 
@@ -107,6 +143,12 @@ impl<'a> Items<'a> {
                 let changes = &mut *list.changes;
                 *changes -= (*changes).min(end) - (*changes).min(start);
             }
+            Items::Cuts(list) => {
+                list.kinds.drain(start..end);
+                take_out(list.numbers, 6 * start, 6 * end);
+                take_out(list.parts, 2 * start, 2 * end);
+            }
+            Items::Whole(_) => {}
         }
         true
     }
@@ -116,6 +158,8 @@ impl<'a> Items<'a> {
             Items::Flat(list, _) => list,
             Items::Store(store) => &mut store.rings,
             Items::Changes(list) => list.records,
+            Items::Cuts(list) => list.numbers,
+            Items::Whole(list) => list,
         }
     }
 }
@@ -214,10 +258,13 @@ fn fewer_bins(parts: Parts, way: usize) -> bool {
     } else {
         spec.z_max = spec.z_min + kept as f64 * spec.cell;
     }
-    for cells in parts.cells {
-        match last {
-            true => drop(cells.drain(..len - 4 * kept)),
-            false => cells.truncate(4 * kept),
+    for (lists, size) in [(parts.cells, 4), (parts.pairs, 2)] {
+        for list in lists {
+            let gone = size * (len / 4 - kept);
+            match last {
+                true => take_out(list, 0, gone),
+                false => list.truncate(list.len().saturating_sub(gone)),
+            }
         }
     }
     true
@@ -252,7 +299,8 @@ fn all_numbers(parts: Parts<'_>) -> Vec<&mut f64> {
         ]);
     }
     let items = parts.items.into_iter().map(Items::numbers);
-    numbers.extend(items.chain(parts.cells).flatten());
+    let lists = parts.cells.into_iter().chain(parts.pairs);
+    numbers.extend(items.chain(lists).flatten());
     numbers
 }
 
@@ -375,6 +423,16 @@ impl Shrink for Call {
             Call::Eroded { points, u, tolerance } => Parts {
                 items: vec![Items::Flat(points, 2)], numbers: vec![u, tolerance], ..none
             },
+            Call::CheckPasses { spec, stamp, cells, blocks, targets, passes, .. } => {
+                let [cuts, lists] = cut_items(passes);
+                Parts {
+                    spec: Some(spec), stamps: vec![stamp], cells: vec![cells], pairs: vec![targets],
+                    items: vec![cuts, lists, Items::Flat(blocks, 2)], ..none
+                }
+            }
+            Call::ProposePasses { spec, cells, targets, rn, .. } => Parts {
+                spec: Some(spec), cells: vec![cells], pairs: vec![targets], numbers: vec![rn], ..none
+            },
         }
     }
 
@@ -415,9 +473,37 @@ fn kept(call: &mut Call) -> Option<(Spec, &[f64], &mut Vec<f64>)> {
             cells,
             blocks,
             ..
+        }
+        | Call::CheckPasses {
+            spec,
+            cells,
+            blocks,
+            ..
         } => Some((*spec, cells, blocks)),
         _ => None,
     }
+}
+
+/// Room for the cells after a check and for their kept numbers: as much too little or too much as before.
+fn follow_room(call: &mut Call, before: &Call) {
+    let (
+        Call::CheckPasses {
+            cells,
+            after_len,
+            after_blocks_len,
+            ..
+        },
+        Call::CheckPasses { cells: old, .. },
+    ) = (call, before)
+    else {
+        return;
+    };
+    let moved = |room: &mut usize, now: usize, then: usize| {
+        *room = (*room + now).saturating_sub(then);
+    };
+    moved(after_len, cells.len(), old.len());
+    let kept = |cells: &[f64]| blocks_len(cells.len() / 4);
+    moved(after_blocks_len, kept(cells), kept(old));
 }
 
 /// The kept numbers of cells, where they are a stock's.
@@ -430,7 +516,11 @@ fn own(spec: &Spec, cells: &[f64]) -> Option<Vec<f64>> {
 /// was not its cells' own it stays, at its place or in the last block.
 fn follow(call: &mut Call, way: &Way<Call>) -> bool {
     let before = kept(call).map(|(spec, cells, blocks)| (spec, cells.to_vec(), blocks.clone()));
+    let whole = matches!(call, Call::CheckPasses { .. }).then(|| call.clone());
     let smaller = way(call);
+    if let (true, Some(whole)) = (smaller, whole) {
+        follow_room(call, &whole);
+    }
     if let (true, Some((spec, cells, lent))) = (smaller, before) {
         renewed(call, own(&spec, &cells), &lent);
     }

@@ -14,21 +14,21 @@ use std::thread;
 use std::time::{Duration, Instant};
 
 /// What part of the time each takes, in hundredths.
-const SHARES: [(&str, u64); 27] = [
-    ("root", 3),
-    ("length", 3),
-    ("stock", 4),
-    ("thread", 4),
+const SHARES: [(&str, u64); 29] = [
+    ("root", 2),
+    ("length", 2),
+    ("stock", 3),
+    ("thread", 3),
     ("thread_inner", 3),
-    ("drill", 4),
+    ("drill", 3),
     ("apply", 4),
     ("changes_to", 3),
     ("nose", 6),
-    ("short_chords", 4),
+    ("short_chords", 3),
     ("polygon", 6),
     ("rings", 3),
     ("moves", 5),
-    ("parts", 4),
+    ("parts", 3),
     ("volume", 3),
     ("envelope_at", 3),
     ("renew", 1),
@@ -36,6 +36,8 @@ const SHARES: [(&str, u64); 27] = [
     ("envelope", 3),
     ("profile", 3),
     ("insert", 3),
+    ("passes", 5),
+    ("proposals", 2),
     ("sequence", 7),
     ("jobs", 5),
     ("job_parts", 3),

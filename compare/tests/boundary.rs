@@ -78,6 +78,30 @@ fn null_with_length_0() {
     kept = [f64::NAN; 2];
     assert_eq!(bar!(turning_renew, cells, 4, kept.as_mut_ptr(), 2), 0);
     assert_eq!(kept, KEPT);
+    let (mut verdict, mut place, mut reason, mut after, mut raised) = (7_u32, 7_usize, 7_u32, [7.; 4], 7_u64);
+    let (v, p, q, u, ks) = (&mut verdict as *mut u32, &mut place as *mut usize, &mut reason as *mut u32, &mut raised as *mut u64, null());
+    let wide = [0., 10.];
+    let (k, t, a) = (KEPT.as_ptr(), wide.as_ptr(), after.as_mut_ptr());
+    assert_eq!(bar!(turning_check_passes, 2, 5, none, 0, none, 0, none, 0, ks, 0, none, 0, null(), 0, none, 0, xs, 0, xs, 0, v, p, q, u), 3);
+    assert_eq!(bar!(turning_check_passes, 2, 5, cells, 4, none, 0, none, 0, ks, 0, none, 0, null(), 0, none, 0, xs, 0, xs, 0, v, p, q, u), 3);
+    assert_eq!(bar!(turning_check_passes, 2, 5, cells, 4, none, 0, none, 0, ks, 0, none, 0, null(), 0, none, 0, a, 4, xs, 0, v, p, q, u), 20);
+    assert_eq!(bar!(turning_check_passes, 2, 5, cells, 4, k, 2, none, 0, ks, 0, none, 0, null(), 0, none, 0, a, 4, xs, 0, v, p, q, u), 20);
+    assert_eq!(bar!(turning_check_passes, 2, 5, cells, 4, k, 2, none, 0, ks, 0, none, 0, null(), 0, none, 0, a, 4, kept.as_mut_ptr(), 2, v, p, q, u), 25);
+    assert_eq!((verdict, place, reason, raised, after), (7, 7, 7, 7, [7.; 4]));
+    // a line without numbers, and a nose without a part
+    for kind in [0_u32, 2] {
+        assert_eq!(bar!(turning_check_passes, 2, 5, cells, 4, k, 2, t, 2, &kind, 1, none, 0, null(), 0, none, 0, a, 4, kept.as_mut_ptr(), 2, v, p, q, u), 0);
+        assert_eq!((verdict, place, reason, raised, after), (2, 0, 5, 5, CELL));
+    }
+    kept = [f64::NAN; 2];
+    (place, reason) = (7, 7);
+    assert_eq!(bar!(turning_check_passes, 2, 6, cells, 4, k, 2, t, 2, ks, 0, none, 0, null(), 0, none, 0, a, 4, kept.as_mut_ptr(), 2, v, p, q, u), 0);
+    assert_eq!((verdict, place, reason, raised, after, kept), (1, 7, 7, 6, CELL, KEPT));
+    assert_eq!(bar!(turning_propose_passes, none, 0, none, 0, 0.8, null_mut(), 0, xs, 0, is, 0, &mut count), 3);
+    assert_eq!(bar!(turning_propose_passes, cells, 4, none, 0, 0.8, null_mut(), 0, xs, 0, is, 0, &mut count), 25);
+    count = 7;
+    assert_eq!(bar!(turning_propose_passes, cells, 4, [5., 6.].as_ptr(), 2, 0.8, null_mut(), 0, xs, 0, is, 0, &mut count), 0);
+    assert_eq!(count, 0);
     assert_eq!(bar!(turning_volume, cells, 4, none, 0, 0, &mut x, &mut y), 0);
     assert_eq!((x, y), (100. * PI, 100. * PI));
     assert_eq!(bar!(turning_envelope_at, none, 0, 0.5, &mut found, &mut x, &mut y), 3);
@@ -107,6 +131,8 @@ fn lengths_near_the_end_are_refused_unread() {
     let at = &mut position as *mut usize;
     let (e, g) = (&mut edition as *mut u32, &mut at_preview as *mut u64);
     let (mut own, mut none_stored) = (CELL, 0);
+    let (mut verdict, mut place, mut reason, mut raised) = (7_u32, 7_usize, 7_u32, 7_u64);
+    let (v, p, q, u) = (&mut verdict as *mut u32, &mut place as *mut usize, &mut reason as *mut u32, &mut raised as *mut u64);
     for len in longest() {
         assert_eq!(bar!(turning_new, 2, &mut generation, xs, len, xs, 2), 3);
         assert_eq!(bar!(turning_new, 2, &mut generation, own.as_mut_ptr(), 4, xs, len), 20);
@@ -124,6 +150,14 @@ fn lengths_near_the_end_are_refused_unread() {
         assert_eq!(bar!(turning_renew, cells, 4, xs, len), 20);
         assert_eq!(bar!(turning_range, none, len, none, 2, 0., 1., &mut found, &mut x, &mut y), 3);
         assert_eq!(bar!(turning_range, cells, 4, none, len, 0., 1., &mut found, &mut x, &mut y), 20);
+        assert_eq!(bar!(turning_check_passes, 2, 5, none, len, none, 2, none, 2, null(), 0, none, 0, null(), 0, none, 0, xs, 4, xs, 2, v, p, q, u), 3);
+        assert_eq!(bar!(turning_check_passes, 2, 5, cells, 4, none, 2, none, 2, null(), 0, none, 0, null(), 0, none, 0, xs, len, xs, 2, v, p, q, u), 3);
+        assert_eq!(bar!(turning_check_passes, 2, 5, cells, 4, none, len, none, 2, null(), 0, none, 0, null(), 0, none, 0, xs, 4, xs, 2, v, p, q, u), 20);
+        assert_eq!(bar!(turning_check_passes, 2, 5, cells, 4, KEPT.as_ptr(), 2, none, 2, null(), 0, none, 0, null(), 0, none, 0, xs, 4, xs, len, v, p, q, u), 20);
+        assert_eq!(bar!(turning_check_passes, 2, 5, cells, 4, KEPT.as_ptr(), 2, none, len, null(), 0, none, 0, null(), 0, none, 0, xs, 4, xs, 2, v, p, q, u), 25);
+        assert_eq!(bar!(turning_check_passes, 2, 5, cells, 4, KEPT.as_ptr(), 2, [0., 10.].as_ptr(), 2, null(), len, none, 0, null(), 0, none, 0, xs, 4, xs, 2, v, p, q, u), 25);
+        assert_eq!(bar!(turning_propose_passes, none, len, none, 2, 0.8, null_mut(), 0, xs, 0, is, 0, &mut count), 3);
+        assert_eq!(bar!(turning_propose_passes, cells, 4, none, len, 0.8, null_mut(), 0, xs, 0, is, 0, &mut count), 25);
         assert_eq!(bar!(turning_volume, none, len, none, 0, 0, &mut x, &mut y), 3);
         assert_eq!(bar!(turning_envelope_at, none, len, 0., &mut found, &mut x, &mut y), 3);
         unsafe {
@@ -140,6 +174,30 @@ fn lengths_near_the_end_are_refused_unread() {
     assert_eq!((count, generation, first, order, found, x, y, position), (7, 5, 7, 7, 7, 7., 7., 7));
     assert_eq!((own, none_stored), (CELL, 0));
     assert_eq!((edition, at_preview), (7, 7));
+    assert_eq!((verdict, place, reason, raised), (7, 7, 7, 7));
+}
+
+/// Numbers, parts and lists of such a length are taken as they are, and only those of the cuts are touched; the room of a proposal too.
+#[test]
+#[rustfmt::skip]
+fn lists_of_cuts_near_the_end_are_read_as_far_as_their_cuts() {
+    for len in longest() {
+        let (line, wide, segment) = ([0.5, 0., 9., 0., 9., 1.], [0., 10.], [9., 0., 9., 1., 0.]);
+        let (mut verdict, mut place, mut reason, mut raised) = (7_u32, 7_usize, 7_u32, 7_u64);
+        let (mut after, mut kept, own) = ([7.; 4], [7.; 2], CELL);
+        for kind in [0_u32, 2] {
+            let part = [0_usize, 5];
+            assert_eq!(bar!(turning_check_passes, 2, 5, own.as_ptr(), 4, KEPT.as_ptr(), 2, wide.as_ptr(), 2, &kind, 1, line.as_ptr(), len, part.as_ptr(), len,
+                segment.as_ptr(), len, after.as_mut_ptr(), 4, kept.as_mut_ptr(), 2, &mut verdict, &mut place, &mut reason, &mut raised), 0);
+            assert_eq!((verdict, place, reason, raised), (1, 7, 7, 6));
+            assert_eq!((after, kept), ([8.5, 8.5, 0., 0.], [8.5, 0.]));
+        }
+        let (mut kinds, mut numbers, mut parts, mut count) = ([7_u32; 2], [7.; 8], [7_usize; 4], 7);
+        assert_eq!(bar!(turning_propose_passes, own.as_ptr(), 4, [5., 6.].as_ptr(), 2, 0.5, kinds.as_mut_ptr(), len, numbers.as_mut_ptr(), len,
+            parts.as_mut_ptr(), len, &mut count), 0);
+        assert_eq!((count, kinds, parts), (1, [0, 7], [0, 0, 7, 7]));
+        assert_eq!(numbers, [0.5, 0., 6., -0.5, 6., 1.5, 7., 7.]);
+    }
 }
 
 /// Room of such a length is room: only the changes and rings in it are touched.

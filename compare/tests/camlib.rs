@@ -41,6 +41,8 @@ fn every_refusal_is_reached() {
             "envelope_at" => &[0, 1, 2, 3],
             "renew" | "range" => &[0, 1, 2, 3, 20],
             "profile" => &[0, 17, 18],
+            "passes" => &[0, 1, 2, 3, 20, 25],
+            "proposals" => &[0, 1, 2, 3, 5, 25],
             _ => &[0, 14],
         };
         assert_eq!(reached(name), wanted, "{name}");

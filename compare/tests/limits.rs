@@ -1,7 +1,7 @@
 //! Each call at a limit of document 01 answers the number that 01 gives, and the position that 02
 //! gives, by the oracle and by the library.
 use compare::call::{Answer, Call, Reason};
-use compare::limits::{calls, corners, edges, profiles, ranges};
+use compare::limits::{calls, checks, corners, edges, profiles, proposals, ranges};
 use compare::oracle::{answer, full_look};
 use compare::run::difference;
 
@@ -113,6 +113,27 @@ fn ranges_show_the_most_of_their_bins() {
         }
     }
     assert!(seen > 100);
+}
+
+/// Checks have the verdicts that Req 13 of 02 gives, and proposals as many passes.
+#[test]
+fn passes_have_their_verdicts() {
+    for (name, call, expected) in checks() {
+        let found = match answer(&call) {
+            Ok(Answer::Checked(verdict, ..)) => Ok(verdict),
+            Err(Reason { number, .. }) => Err(number),
+            other => panic!("{name}: {other:?}"),
+        };
+        assert_eq!(found, expected, "{name}");
+    }
+    for (name, call, expected) in proposals() {
+        let found = match answer(&call) {
+            Ok(Answer::Passes(passes)) => Ok(passes.len()),
+            Err(Reason { number, .. }) => Err(number),
+            other => panic!("{name}: {other:?}"),
+        };
+        assert_eq!(found, expected, "{name}");
+    }
 }
 
 /// The corners of a profile have the chords, or the refusal, that 02 gives; chords join by equal bits and have no -0.0.

@@ -1,5 +1,5 @@
 //! What generated sequences reach, and that a difference in one is found and made small.
-use compare::call::{Answer, Call, List, Outcome, Reason, Simple, Stamp};
+use compare::call::{Answer, Call, List, Outcome, Reason, Simple, Stamp, Verdict};
 use compare::count::Counts;
 use compare::generate::Rng;
 use compare::generate::sequence::{MOST_STEPS, sequence};
@@ -38,7 +38,7 @@ fn no_sequence_differs_and_every_refusal_is_reached() {
     }
     let reached = |name: &str| -> Vec<u32> {
         let wanted = |n: &u32| counts.wanted(name, *n) > 0;
-        (0..24).filter(wanted).collect()
+        (0..26).filter(wanted).collect()
     };
     for name in ["thread_cut", "thread_cut_inner", "drill"] {
         assert_eq!(reached(name), [0, 1, 2, 3, 5, 6], "{name}");
@@ -56,6 +56,7 @@ fn no_sequence_differs_and_every_refusal_is_reached() {
     assert_eq!(reached("envelope_at"), [0, 1, 2, 3]);
     assert_eq!(reached("renew"), [0, 1, 2, 3, 20]);
     assert_eq!(reached("range"), [0, 1, 2, 3, 20]);
+    assert_eq!(reached("check_passes"), [0, 1, 2, 3, 20, 25]);
 }
 
 /// The position of the first change of the list whose bin holds something else.
@@ -237,6 +238,28 @@ fn a_wrong_renewal_shrinks_to_a_preview_and_a_commit() {
     assert_eq!(least.steps.len(), 2, "{least:?}");
     assert!(matches!(least.steps[1].action, Action::Commit { .. }));
     assert_eq!(least.cells.len(), 4, "{least:?}");
+}
+
+/// A yes that raises the generation by 1 whatever the cuts: one check of two cuts shows it, or of none.
+#[test]
+fn a_wrong_yes_shrinks_to_one_check() {
+    let wrong = |call: &Call, outcome: Outcome| match (call, &outcome) {
+        (
+            Call::CheckPasses { stamp, .. },
+            Ok(Answer::Checked(Verdict::Yes, cells, blocks, raised)),
+        ) if *raised != stamp.generation.wrapping_add(1) => {
+            let (cells, blocks) = (cells.clone(), blocks.clone());
+            let once = stamp.generation.wrapping_add(1);
+            Ok(Answer::Checked(Verdict::Yes, cells, blocks, once))
+        }
+        _ => outcome,
+    };
+    let least = least(&wrong);
+    assert_eq!(least.steps.len(), 1, "{least:?}");
+    assert!(
+        matches!(&least.steps[0].action, Action::Check { passes, .. } if passes.kinds.len() != 1),
+        "{least:?}"
+    );
 }
 
 /// A position that is one too many: a preview and a commit that is damaged show it, or a list whose stamp

@@ -12,7 +12,7 @@ type Row = (
 );
 
 #[rustfmt::skip]
-const EACH: [Row; 38] = [
+const EACH: [Row; 46] = [
     ("root", "1,024 of shop size", 1024, sides::root),
     ("length", "1,024 of shop size", 1024, sides::length),
     ("validate", "4,096 bins", 4096, sides::validate),
@@ -47,6 +47,14 @@ const EACH: [Row; 38] = [
     ("penetration", "64-point insert, 1,024 points that rise", 1024, sides::penetration),
     ("penetration", "4-point insert, 16 points that rise", 16, sides::penetration),
     ("eroded", "1,024 points that rise", 1024, sides::eroded),
+    ("check_passes", "128 lines, each over 4,096 bins", 4096, sides::check_long),
+    ("check_passes", "128 lines, each over 32 of 4,096 bins", 4096, sides::check_short),
+    ("check_passes", "the first of these rows, and as Rust this library's own 128 calls of preview and apply", 4096, sides::check_own),
+    ("check_passes", "no cuts, 4,096 bins", 4096, sides::check_nothing),
+    ("check_passes", "a no by the first of 128 lines, 4,096 bins", 4096, sides::check_bad_cut),
+    ("check_passes", "a no by the last of 128 lines, 4,096 bins", 4096, sides::check_bad_last),
+    ("check_passes", "25, the last of 128 cuts is inside, 4,096 bins", 4096, sides::check_inside),
+    ("propose_passes", "128 steps of 4,096 bins; the Rust is the rule's", 4096, sides::propose_passes),
     ("read_part", "and `read_end`, a file of 4,096 cells and 256 rings", 4096, sides::read_file),
     ("read_end", "4,096 cells and 256 rings", 4096, sides::read_end),
     ("stock_lines", "4,096 cells and 256 rings", 4096, sides::stock_lines),

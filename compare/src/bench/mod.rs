@@ -14,7 +14,7 @@ mod time;
 
 pub use each::{go, names};
 
-use crate::call::Call;
+use crate::call::{Call, Reason};
 use crate::memory::Memory;
 use crate::{library, oracle};
 use std::hint::black_box;
@@ -67,6 +67,14 @@ fn library_side<'a>(call: Call) -> Option<Side<'a>> {
     // Every go is accepted as the first was: a commit's list has the stock's stamp again.
     assert_eq!(go(), 0);
     side(1, go)
+}
+
+/// The library's side of a call that is refused with the number.
+fn refused_side<'a>(call: Call, number: u32) -> Option<Side<'a>> {
+    let mut memory = Memory::of(&call);
+    assert_eq!(oracle::answer(&call), Err(Reason::only(number)));
+    assert_eq!(library::run(&call, &mut memory), number);
+    side(1, move || library::run(black_box(&call), &mut memory))
 }
 
 /// The same with every buffer that the call writes put back to what it was before the first call.

@@ -8,6 +8,7 @@ pub mod cuts;
 pub mod envelope;
 pub mod insert;
 pub mod numbers;
+pub mod passes;
 pub mod profile;
 pub mod rings;
 pub mod sequence;
@@ -80,12 +81,14 @@ pub fn family(name: &str) -> Option<fn(&mut Rng) -> Call> {
         "envelope" => envelope::envelope_call,
         "profile" => profile::segments_call,
         "insert" => insert::insert_call,
+        "passes" => passes::check,
+        "proposals" => passes::propose,
         _ => return None,
     })
 }
 
 /// Every family of single calls, and how many calls are made by default.
-pub const FAMILIES: [(&str, usize); 21] = [
+pub const FAMILIES: [(&str, usize); 23] = [
     ("root", 20_000_000),
     ("length", 20_000_000),
     ("stock", 200_000),
@@ -107,7 +110,15 @@ pub const FAMILIES: [(&str, usize); 21] = [
     ("envelope", 400_000),
     ("profile", 1_000_000),
     ("insert", 400_000),
+    PASSES,
+    PROPOSALS,
 ];
+
+/// Passes checked against targets: each list, and the same cuts in three other orders.
+pub const PASSES: (&str, usize) = ("passes", 500_000);
+
+/// Passes proposed, and each proposal checked.
+pub const PROPOSALS: (&str, usize) = ("proposals", 1_000_000);
 
 /// Sequences of calls on one stock.
 pub const SEQUENCE: (&str, usize) = ("sequence", 20_000);

@@ -5,6 +5,7 @@ use super::changes::{edition, other, stamp};
 use super::cuts::{damaged_list, drill_cut, nose_radius, polygon_excess};
 use super::cuts::{polygon_points, segments, side, thread_numbers};
 use super::numbers::{any, damaged, edge, outside};
+use super::passes::in_sequence;
 use super::rings::{about_the_limit, damaged_rings, few_stored, limit_stored, nonempty};
 use super::rings::{far_edge, ring, side_by_side};
 use super::stock::{damaged_spec, z_near};
@@ -98,7 +99,7 @@ impl Maker {
         if rng.once_in(30) {
             return self.kept_over_a_rebuild(rng);
         }
-        let action = match rng.below(36) {
+        let action = match rng.below(38) {
             0..5 => self.nose(rng),
             5..7 => self.polygon(rng),
             7..12 => Action::Cut(self.simple(rng)),
@@ -119,6 +120,10 @@ impl Maker {
             31..34 => {
                 let (lo, hi) = ends(rng, &self.base);
                 Action::Range { lo, hi }
+            }
+            34 | 35 => {
+                let (passes, targets) = in_sequence(rng, &self.base);
+                Action::Check { passes, targets }
             }
             _ => Action::EnvelopeAt(match rng.below(8) {
                 0 => any(rng),
@@ -270,6 +275,7 @@ fn kinds(action: &Action) -> &'static [usize] {
         Action::Rebuild { .. } => &[0, 1, 2, 9, 10, 16],
         Action::Renew => &[0, 1, 2, 16],
         Action::Range { .. } => &[0, 1, 2, 13, 14, 15, 16, 17],
+        Action::Check { .. } => &[0, 1, 2, 10, 12, 13, 14, 15, 16, 17],
         Action::Volume => &[0, 1, 2, 7, 8, 9],
         Action::EnvelopeAt(_) | Action::Return { .. } => &[0, 1, 2],
     }

@@ -42,11 +42,36 @@ pub fn simple(spec: &Spec, lent: &[f64], cut: Simple, room: Room) -> Result<Vec<
     within_room(listed(&changes), room)
 }
 
-fn thread(z0: f64, z1: f64, radius: f64) -> Result<[f64; 3], Reason> {
+/// 5 for a thread; its numbers as they are read.
+pub fn thread(z0: f64, z1: f64, radius: f64) -> Result<[f64; 3], Reason> {
     let numbers = [z0, z1, radius];
     demand(numbers.into_iter().all(usable), ARGUMENT)?;
     demand(radius >= 0., ARGUMENT)?;
     Ok(numbers.map(clean))
+}
+
+/// 5 for a polygon's excess and points; both as they are read.
+pub fn polygon_numbers(excess: f64, points: &[f64]) -> Result<(f64, Vec<[f64; 2]>), Reason> {
+    demand(points.len().is_multiple_of(2), ARGUMENT)?;
+    demand(points.len() / 2 <= MOST_POINTS, ARGUMENT)?;
+    demand(points.iter().all(|x| usable(*x)), ARGUMENT)?;
+    demand(usable(excess) && excess >= 0., ARGUMENT)?;
+    let (points, _) = points.as_chunks::<2>();
+    Ok((clean(excess), points.iter().map(|p| p.map(clean)).collect()))
+}
+
+/// A segment: both ends in (r, z), and its sag.
+pub type Segment = ([f64; 2], [f64; 2], f64);
+
+/// 5 for a nose's radius and segments; both as they are read.
+pub fn nose_numbers(rn: f64, segments: &[f64]) -> Result<(f64, Vec<Segment>), Reason> {
+    demand(segments.len().is_multiple_of(5), ARGUMENT)?;
+    demand(segments.len() / 5 <= MOST_SEGMENTS, ARGUMENT)?;
+    demand(segments.iter().all(|x| usable(*x)), ARGUMENT)?;
+    let (segments, _) = segments.as_chunks::<5>();
+    demand(segments.iter().all(|s| s[4] >= 0.), ARGUMENT)?;
+    demand(usable(rn) && rn >= 0., ARGUMENT)?;
+    Ok((clean(rn), segments.iter().map(segment).collect()))
 }
 
 /// A polygon in (z, r).
@@ -60,19 +85,14 @@ pub fn polygon(
 ) -> Result<Vec<Change>, Reason> {
     let bar = bar(spec)?;
     let cells = cells(&bar, lent)?;
-    demand(points.len().is_multiple_of(2), ARGUMENT)?;
-    demand(points.len() / 2 <= MOST_POINTS, ARGUMENT)?;
-    demand(points.iter().all(|x| usable(*x)), ARGUMENT)?;
-    demand(usable(excess) && excess >= 0., ARGUMENT)?;
+    let (excess, points) = polygon_numbers(excess, points)?;
     let side = match side {
         0 => camlib::TurnSide::Outer,
         1 => camlib::TurnSide::Inner,
         _ => return Err(Reason::only(ARGUMENT)),
     };
-    let (points, _) = points.as_chunks::<2>();
-    let points: Vec<[f64; 2]> = points.iter().map(|p| p.map(clean)).collect();
     let stock = camlib_stock(&bar, &cells, &[]);
-    let changes = stock.preview_polygon(&points, side, clean(excess));
+    let changes = stock.preview_polygon(&points, side, excess);
     within_room(listed(&changes), room)
 }
 
@@ -87,26 +107,20 @@ pub fn nose(
 ) -> Result<Vec<Change>, Reason> {
     let bar = bar(spec)?;
     let cells = cells(&bar, lent)?;
-    demand(segments.len().is_multiple_of(5), ARGUMENT)?;
-    demand(segments.len() / 5 <= MOST_SEGMENTS, ARGUMENT)?;
-    demand(segments.iter().all(|x| usable(*x)), ARGUMENT)?;
-    let (segments, _) = segments.as_chunks::<5>();
-    demand(segments.iter().all(|s| s[4] >= 0.), ARGUMENT)?;
-    demand(usable(rn) && rn >= 0., ARGUMENT)?;
+    let (rn, segments) = nose_numbers(rn, segments)?;
     let side = match side {
         0 => camlib_length::TurnSide::Outer,
         1 => camlib_length::TurnSide::Inner,
         _ => return Err(Reason::only(ARGUMENT)),
     };
-    let segments: Vec<_> = segments.iter().map(segment).collect();
     let stock = stock_with_length(&bar, &cells);
-    let changes = stock.preview_segments(&segments, clean(rn), side).unwrap();
+    let changes = stock.preview_segments(&segments, rn, side).unwrap();
     let changes = changes.iter().map(change_with_length).collect();
     within_room(changes, room)
 }
 
 /// camlib's form of a segment.
-pub fn segment(numbers: &[f64; 5]) -> ([f64; 2], [f64; 2], f64) {
+pub fn segment(numbers: &[f64; 5]) -> Segment {
     let [a_r, a_z, b_r, b_z, sag] = numbers.map(clean);
     ([a_r, a_z], [b_r, b_z], sag)
 }

@@ -11,6 +11,7 @@ mod envelope;
 mod full;
 mod insert;
 pub mod numbers;
+pub mod passes;
 pub mod profile;
 pub mod queries;
 pub mod ranges;
@@ -39,6 +40,10 @@ pub const BLOCKS: u32 = 20;
 pub const NO_BIN: u32 = 21;
 pub const HOLDS_OTHER: u32 = 22;
 pub const ADDS: u32 = 23;
+pub const TARGETS: u32 = 25;
+
+/// The refusal of an arc, which of the calls a check of passes alone can be given.
+pub const ARC: u32 = 13;
 
 /// Document 01's limits, and those of Req 07 of 02: a nose's segments and a profile's points.
 pub const MILLION: f64 = 1e6;
@@ -49,6 +54,8 @@ pub const MOST_ENVELOPE_POINTS: usize = 1024;
 pub const MOST_PROFILE_POINTS: usize = 256;
 pub const MOST_RINGS: usize = 256;
 pub const MOST_PIECES: usize = 256;
+/// Req 13 of 02.
+pub const MOST_PASSES: usize = 128;
 
 /// Refuses with the number unless the test holds.
 fn demand(test: bool, number: u32) -> Result<(), Reason> {
@@ -212,5 +219,25 @@ pub fn answer(call: &Call) -> Outcome {
             u,
             tolerance,
         } => insert::eroded(points, *u, *tolerance).map(Answer::Found),
+        Call::CheckPasses {
+            spec,
+            stamp,
+            cells,
+            blocks,
+            targets,
+            passes,
+            after_len,
+            after_blocks_len,
+        } => {
+            let room = [*after_len, *after_blocks_len];
+            passes::check(spec, *stamp, cells, blocks, targets, passes, room)
+        }
+        Call::ProposePasses {
+            spec,
+            cells,
+            targets,
+            rn,
+            room,
+        } => passes::propose(spec, cells, targets, *rn, room.passes()).map(Answer::Passes),
     }
 }

@@ -87,6 +87,9 @@ fn parts(call: &mut Call) -> Parts<'_> {
         | Call::ChangesTo { spec, stamp, cells, room, .. } => Parts {
             spec: Some(spec), stamp: Some(stamp), cells: Some(cells), room: Some(room), ..none
         },
+        Call::CheckPasses { spec, stamp, cells, blocks, .. } => Parts {
+            spec: Some(spec), stamp: Some(stamp), cells: Some(cells), blocks: Some(blocks), ..none
+        },
         Call::Apply { spec, stamp, cells, blocks, list } => Parts {
             spec: Some(spec), stamp: Some(stamp), cells: Some(cells), blocks: Some(blocks), list: Some(list), ..none
         },

@@ -95,6 +95,10 @@ impl Flat {
             Action::Volume => Call::Volume { spec, cells, store },
             Action::EnvelopeAt(z) => Call::EnvelopeAt { spec, cells, z },
             Action::Range { lo, hi } => Call::Range { spec, cells, blocks, lo, hi },
+            Action::Check { passes, targets } => {
+                let (after_len, after_blocks_len) = (cells.len(), blocks.len());
+                Call::CheckPasses { spec, stamp, cells, blocks, targets, passes, after_len, after_blocks_len }
+            }
             Action::Return { .. } => return None,
         })
     }
@@ -118,6 +122,14 @@ impl Flat {
                 return;
             }
             Call::FromParts { stamp, .. } => self.now.stamp.edition = stamp.edition,
+            Call::CheckPasses { .. } => {
+                // on a no these are the old ones
+                self.now.cells = numbers("after").unwrap();
+                self.now.blocks = numbers("after_blocks").unwrap();
+                self.now.stamp.generation = word("after_generation").unwrap();
+                self.earlier.push(before);
+                return;
+            }
             _ => {}
         }
         if let Some(cells) = numbers("cells") {

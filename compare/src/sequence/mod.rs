@@ -15,7 +15,7 @@ pub use damage::Damage;
 pub use flat::list_of;
 pub use run::{AS_IT_IS, Bent, Difference, Sequences, left_by, run};
 
-use crate::call::{Simple, Spec, Stamp, Store};
+use crate::call::{Passes, Simple, Spec, Stamp, Store};
 
 /// A stock, and what is done with it.
 #[derive(Clone, Debug)]
@@ -60,4 +60,6 @@ pub enum Action {
     Volume,
     EnvelopeAt(f64),
     Range { lo: f64, hi: f64 },
+    /// Cuts checked against targets; on yes the stock is the one that is handed back.
+    Check { passes: Passes, targets: Vec<f64> },
 }

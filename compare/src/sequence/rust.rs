@@ -1,9 +1,10 @@
 //! The Rust's side: one stock of camlib with 01's length, from the first call to the last.
 use super::flat::{Flat, Stock, back, fresh_blocks, list_of};
 use super::{Action, Sequence};
-use crate::call::{Answer, Call, Change, List, Simple, Spec, Stamp, Store};
+use crate::call::{Answer, Call, Change, List, Passes, Simple, Spec, Stamp, Store, Verdict};
 use crate::oracle::clean;
 use crate::oracle::cuts::{change_with_length, segment, stock_with_length};
+use crate::oracle::passes::verdict;
 use crate::oracle::queries::most_at;
 use crate::oracle::ranges::most_over;
 use crate::oracle::stock::bar;
@@ -170,6 +171,14 @@ impl Rust {
                 Answer::Found(most_over(&bar, &cells, *lo, *hi, bin, own))
             }
             Action::Renew => Answer::Blocks(self.flat.now.blocks.clone()),
+            Action::Check { passes, targets } => {
+                self.earlier.push(self.now.clone());
+                let said = self.now.check(passes, targets);
+                let Answer::Stock(cells, blocks, _, generation) = self.keep() else {
+                    unreachable!()
+                };
+                Answer::Checked(said, cells, blocks, generation)
+            }
             _ => {
                 self.earlier.push(self.now.clone());
                 self.now.change(call);
@@ -251,6 +260,18 @@ impl Rust {
 }
 
 impl Living {
+    /// The verdict; on yes the stock is turned.
+    fn check(&mut self, passes: &Passes, targets: &[f64]) -> Verdict {
+        let mut turned = self.stock.clone();
+        let (targets, _) = targets.as_chunks::<2>();
+        let generation = self.stamp().generation;
+        let (said, _) = verdict(&mut turned, generation, passes, targets);
+        if said == Verdict::Yes {
+            self.stock = turned;
+        }
+        said
+    }
+
     fn change(&mut self, call: &Call) {
         match call {
             Call::Apply { list, .. } => self.stock.apply(&turn_changes(list)).unwrap(),

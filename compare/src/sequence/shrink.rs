@@ -3,7 +3,7 @@ use super::{Action, Sequence, Step};
 use crate::call::Call;
 use crate::oracle::answer;
 use crate::oracle::stock::{bar, fresh};
-use crate::shrink::{Items, Parts, Shrink, Way, runs, simple_numbers, ways_of_parts};
+use crate::shrink::{Items, Parts, Shrink, Way, cut_items, runs, simple_numbers, ways_of_parts};
 
 impl Step {
     fn parts<'a>(&'a mut self, parts: &mut Parts<'a>) {
@@ -23,6 +23,10 @@ impl Step {
             Action::Ring(ring) => parts.numbers.extend(ring),
             Action::EnvelopeAt(z) => parts.numbers.push(z),
             Action::Range { lo, hi } => parts.numbers.extend([lo, hi]),
+            Action::Check { passes, targets } => {
+                parts.items.extend(cut_items(passes));
+                parts.pairs.push(targets);
+            }
             _ => {}
         }
         if let Some(damage) = &mut self.damage {

@@ -123,7 +123,7 @@ pub record LeftDeepest (σ : TurnSide) (c : TurnCell) (own : List Reached) (c' :
   pub deepest-high : Deepest σ (sureOf σ c) (gather highsOf own) sure
   pub pair : c' ≡ withPair σ (deeper σ deep sure) sure c
 
-left-deepest : (σ : TurnSide) (c : TurnCell) (own : List Reached) (c' : TurnCell) → Ordered σ c → Each PlainReach own → c' ≡ closed σ c own → LeftDeepest σ c own c'
+pub left-deepest : (σ : TurnSide) (c : TurnCell) (own : List Reached) (c' : TurnCell) → Ordered σ c → Each PlainReach own → c' ≡ closed σ c own → LeftDeepest σ c own c'
 unfolding closed
 left-deepest σ c own c' o ps e = record {
   deep = foldl (deeper σ) (deepOf σ c) (gather lowsOf own);
@@ -133,7 +133,7 @@ left-deepest σ c own c' o ps e = record {
   pair = e;
 }
 
-acts-plain : (σ : TurnSide) (n i : ℕ) → i < n → (c : TurnCell) → Plain binary64 (limitOf σ c) → (l : List Act) → Each (PlainAct n) l → Each PlainReach (ownsAt σ c i l)
+pub acts-plain : (σ : TurnSide) (n i : ℕ) → i < n → (c : TurnCell) → Plain binary64 (limitOf σ c) → (l : List Act) → Each (PlainAct n) l → Each PlainReach (ownsAt σ c i l)
 acts-plain σ n i h c q [] ps = tt
 acts-plain σ n i h c q (a ∷ l) ps = (own-plain σ c (a .at i) q (ps .0 i h), acts-plain σ n i h c q l (ps .1))
 

@@ -38,3 +38,7 @@ pub mod Files
 pub mod SideBySide
 pub mod SideLines
 pub mod Kept
+pub mod Passes
+pub mod PassesTurned
+pub mod PassesOrder
+pub mod PassesProposed

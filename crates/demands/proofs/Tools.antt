@@ -95,7 +95,7 @@ good-accepted spec n t cs room e h g =
 
 -- ---- a list of them
 -- what a list of cuts does
-acts-are : (spec : TurnStockSpec) (l : List Cutter) → actsOf (map (stepOf spec) l) ≡ map (cutterAct spec) l
+pub acts-are : (spec : TurnStockSpec) (l : List Cutter) → actsOf (map (stepOf spec) l) ≡ map (cutterAct spec) l
 acts-are spec [] = refl
 acts-are spec (t ∷ l) = ap (λ (x : List Act). cutterAct spec t ∷ x) (acts-are spec l)
 

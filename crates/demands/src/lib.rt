@@ -81,6 +81,19 @@
 // written ring reads back from its line (`proofs/SideLines`). Crate `side_by_side` has the laws behind
 // it.
 //
+// Passes checked (`proofs/Passes`): the answer is yes exactly when what is asked first holds, every cut,
+// previewed and committed in turn, is accepted, and every bin then meets its target (`yes-exactly`); a no
+// names the first cut that is refused or the first bin that misses (`cut-exactly`, `bin-exactly`), and
+// leaves the old cells with their kept numbers. `proofs/PassesTurned`: a yes leaves a stock at as many
+// generations on as there are cuts, whose kept numbers match (`yes-stock`, `yes-generation`,
+// `blocks-match`); a cut fails with 13, 5 or 12 alone, and why (`fails-by`, `never-six`); with a cut more
+// outer bounds only fall (`more-cuts`). `proofs/PassesOrder`: the same cuts in another order give the same
+// yes, cells and generation, or the same bin (`yes-any-order`, `calls-any-order`, `bin-any-order`), and
+// each bin is left with the closed form, its inner pair as it was (`yes-closed`, `yes-deepest`,
+// `yes-inner`). `proofs/PassesProposed`: a proposed cut whose numbers are at most 1e6 in size is in its
+// domain, and accepted while generations last (`proposed-accepted`). Crate `passes` has the laws of the
+// two calls.
+//
 // Demand 3, of cuts: below. Of rings (`proofs/Rings`): accepted rings cover the same points in every
 // order, and no two stored rings share one; so it is of single rings, of a list, of a move, of several
 // moves in two orders and of a stock rebuilt, by the rules and in the lent memory that the calls leave.

@@ -45,12 +45,58 @@ pub fn numbers_are(words: &[u64; LIMIT], i: usize, list: usize, xs: &[f64], n: u
     ok
 }
 
+// All of xs are 0.
+pub fn are_zero(xs: &[f64]) -> bool {
+    let mut ok = true;
+    let mut j: usize = 0;
+    while j < xs.len() {
+        ok = ok & same(xs[j], 0.0);
+        j += 1;
+    }
+    ok
+}
+
 // The first n of xs are the indices of the changes from word i on.
 fn indices_are(words: &[u64; LIMIT], i: usize, xs: &[usize], n: u64) -> bool {
     let mut ok = n <= xs.len() as u64;
     let mut j: usize = 0;
     while j < xs.len() {
         ok = ok & ((n <= j as u64) | (xs[j] as u64 == words::at(words, i, 9 * j)));
+        j += 1;
+    }
+    ok
+}
+
+// Of a list whose first n were written: x at place j is the word, behind them it is as it was lent.
+fn is_told(n: u64, j: u64, x: u64, word: u64) -> bool {
+    if j < n {
+        return x == word;
+    }
+    x == UNTOLD as u64
+}
+
+// The first n of xs are the sizes from word i on, and the others are as they were lent.
+fn sizes_are(words: &[u64; LIMIT], i: usize, xs: &[usize], n: u64) -> bool {
+    let mut ok = n <= xs.len() as u64;
+    let mut j: usize = 0;
+    while j < xs.len() {
+        ok = ok & is_told(n, j as u64, xs[j] as u64, words::at(words, i, j));
+        j += 1;
+    }
+    ok
+}
+
+// The same of a kind.
+fn kind_told(n: u64, j: u64, kind: u32, word: u64) -> bool {
+    is_told(n, j, kind as u64, word)
+}
+
+// The same of kinds.
+fn kinds_are(words: &[u64; LIMIT], i: usize, xs: &[u32], n: u64) -> bool {
+    let mut ok = n <= xs.len() as u64;
+    let mut j: usize = 0;
+    while j < xs.len() {
+        ok = ok & kind_told(n, j as u64, xs[j], words::at(words, i, j));
         j += 1;
     }
     ok
@@ -126,5 +172,26 @@ pub fn changes(
             & (asked | list_stays(list))
             & indices_are(words, i, indices, k)
             & numbers_are(words, words::after(i, 1), BY_EIGHT, records, 8 * k),
+    }
+}
+
+// So many passes: their kinds, their numbers by sixes, and their parts by twos. A refusal has none.
+pub fn passes(
+    words: &[u64; LIMIT],
+    m: Mark,
+    count: u64,
+    kinds: &[u32],
+    numbers: &[f64],
+    parts: &[usize],
+) -> Mark {
+    let k = count % 65536;
+    let i = words::after(m.at, k);
+    let j = words::after(i, 6 * k);
+    Mark {
+        at: words::after(j, 2 * k),
+        ok: m.ok
+            & kinds_are(words, m.at, kinds, k)
+            & numbers_are(words, i, PLAIN, numbers, 6 * k)
+            & sizes_are(words, j, parts, 2 * k),
     }
 }

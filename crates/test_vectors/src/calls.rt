@@ -338,3 +338,72 @@ pub fn change(
         ),
     }
 }
+
+// A check of passes.
+pub fn check(
+    g: Given,
+    cells: &[f64],
+    blocks: &[f64],
+    targets: &[f64],
+    kinds: &[u32],
+    numbers: &[f64],
+    parts: &[usize],
+    lists: &[f64],
+    after: &mut [f64],
+    after_blocks: &mut [f64],
+    verdict: &mut u32,
+    place: &mut usize,
+    reason: &mut u32,
+    generation: &mut u64,
+) -> u32 {
+    turning::turning_check_passes(
+        g.z_min,
+        g.z_max,
+        g.outer,
+        g.bore,
+        g.cell,
+        g.max_cells,
+        g.edition,
+        g.generation,
+        cells,
+        blocks,
+        targets,
+        kinds,
+        numbers,
+        parts,
+        lists,
+        after,
+        after_blocks,
+        verdict,
+        place,
+        reason,
+        generation,
+    )
+}
+
+// Proposed passes.
+pub fn propose(
+    g: Given,
+    cells: &[f64],
+    targets: &[f64],
+    kinds: &mut [u32],
+    numbers: &mut [f64],
+    parts: &mut [usize],
+    count: &mut usize,
+) -> u32 {
+    turning::turning_propose_passes(
+        g.z_min,
+        g.z_max,
+        g.outer,
+        g.bore,
+        g.cell,
+        g.max_cells,
+        cells,
+        targets,
+        g.x,
+        kinds,
+        numbers,
+        parts,
+        count,
+    )
+}

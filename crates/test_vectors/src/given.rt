@@ -23,7 +23,9 @@ pub const TO_CHANGES: u64 = 5;
 // Where the parts of a call stand, in the order in which any call has them: its spec with the stamp
 // of its stock, from word 1 on; cells or points, kept numbers, rings, a size, numbers, changes, more
 // points, the room that is lent, the answer. The lengths of rings and changes that are only lent stand
-// in the room; of cells and kept numbers that are only lent there is the length alone.
+// in the room; of cells and kept numbers that are only lent there is the length alone. Passes stand in
+// the same order: targets in the place of rings, kinds in that of a size, their numbers, their parts in
+// the place of changes, their lists in that of points.
 pub struct Places {
     pub cells: usize,
     pub blocks: usize,
@@ -32,6 +34,7 @@ pub struct Places {
     pub numbers: usize,
     pub changes: usize,
     pub points: usize,
+    pub room: usize,
     pub answer: usize,
 }
 
@@ -84,6 +87,7 @@ pub fn places_of(words: &[u64; LIMIT], kind: usize) -> Places {
         numbers,
         changes: either(changes, points, room),
         points,
+        room,
         answer: past(words, kind, PARTS + 8, room),
     }
 }
@@ -110,7 +114,7 @@ pub struct Given {
     pub list_generation: u64,
 }
 
-// An edition, or a side: the word's last 32 bits.
+// An edition, a side, or a kind: the word's last 32 bits.
 fn short(word: u64) -> u32 {
     (word % 4294967296) as u32
 }
@@ -154,6 +158,13 @@ fn front_indices(xs: &mut [usize], n: u64) -> &mut [usize] {
     &mut xs[..0]
 }
 
+fn front_kinds(xs: &mut [u32], n: u64) -> &mut [u32] {
+    if n <= xs.len() as u64 {
+        return &mut xs[..n as usize];
+    }
+    &mut xs[..0]
+}
+
 // The numbers from word i on.
 fn fill(words: &[u64; LIMIT], i: usize, list: usize, xs: &mut [f64]) {
     let mut j: usize = 0;
@@ -169,6 +180,24 @@ fn fill_indices(words: &[u64; LIMIT], i: usize, xs: &mut [usize]) {
     let mut j: usize = 0;
     while j < xs.len() {
         xs[j] = words::at(words, i, 9 * j) as usize;
+        j += 1;
+    }
+}
+
+// The sizes from word i on.
+fn fill_sizes(words: &[u64; LIMIT], i: usize, xs: &mut [usize]) {
+    let mut j: usize = 0;
+    while j < xs.len() {
+        xs[j] = words::at(words, i, j) as usize;
+        j += 1;
+    }
+}
+
+// The kinds from word i on.
+fn fill_kinds(words: &[u64; LIMIT], i: usize, xs: &mut [u32]) {
+    let mut j: usize = 0;
+    while j < xs.len() {
+        xs[j] = short(words::at(words, i, j));
         j += 1;
     }
 }
@@ -190,5 +219,33 @@ pub fn lent<'a>(
 pub fn lent_indices<'a>(words: &[u64; LIMIT], i: usize, xs: &'a mut [usize]) -> &'a mut [usize] {
     let ys = front_indices(xs, words::at(words, i, 0));
     fill_indices(words, words::after(i, TO_CHANGES), ys);
+    ys
+}
+
+// Word i says how many sizes are lent; nothing is put into them.
+pub fn room_sizes<'a>(words: &[u64; LIMIT], i: usize, xs: &'a mut [usize]) -> &'a mut [usize] {
+    front_indices(xs, words::at(words, i, 0))
+}
+
+// Or how many kinds, or numbers.
+pub fn room_kinds<'a>(words: &[u64; LIMIT], i: usize, xs: &'a mut [u32]) -> &'a mut [u32] {
+    front_kinds(xs, words::at(words, i, 0))
+}
+
+pub fn room_numbers<'a>(words: &[u64; LIMIT], i: usize, xs: &'a mut [f64]) -> &'a mut [f64] {
+    front(xs, words::at(words, i, 0))
+}
+
+// Word i says how many sizes are lent, and they stand behind it.
+pub fn lent_sizes<'a>(words: &[u64; LIMIT], i: usize, xs: &'a mut [usize]) -> &'a mut [usize] {
+    let ys = room_sizes(words, i, xs);
+    fill_sizes(words, words::after(i, 1), ys);
+    ys
+}
+
+// The same of kinds.
+pub fn lent_kinds<'a>(words: &[u64; LIMIT], i: usize, xs: &'a mut [u32]) -> &'a mut [u32] {
+    let ys = room_kinds(words, i, xs);
+    fill_kinds(words, words::after(i, 1), ys);
     ys
 }

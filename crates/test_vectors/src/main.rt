@@ -4,10 +4,11 @@
 // A line has the call's name, its inputs, `=`, and the number that it answers, followed where that
 // is 0 by what it wrote, and where it is a refusal that tells a place by that. A stock's edition and
 // generation stand behind its spec, those of a list behind the count of its changes; a call that
-// writes a stock writes the generation first. Fields are parted by single spaces. An f64 is the 16
-// digits of its bits, everything else is decimal. `N*M` stands for M fields, each the one N places
-// before it. The recorded calls are `compare record 160 2026`, with the answers of the Rust: a sample
-// of each family, and the calls at the limits.
+// writes a stock writes the generation first. A check of passes writes its verdict, the generation, the
+// place and the reason where it has them, and then the cells with their kept numbers. Fields are parted
+// by single spaces. An f64 is the 16 digits of its bits, everything else is decimal. `N*M` stands for M
+// fields, each the one N places before it. The recorded calls are `compare record 160 2026`, with the
+// answers of the Rust: a sample of each family, and the calls at the limits.
 mod answers;
 mod calls;
 mod given;

@@ -172,6 +172,111 @@ fn changed(words: &[u64; LIMIT], kind: usize, p: Places, g: Given) -> Mark {
     stock(words, kind, p, g, s, position, c, b, r)
 }
 
+// What a check of passes told, and what stands in the place of each before.
+struct Passing {
+    verdict: u32,
+    place: usize,
+    reason: u32,
+    generation: u64,
+}
+
+// What a check of passes answered. A refusal leaves the lent numbers, which were 0, and tells nothing.
+fn verdict(
+    words: &[u64; LIMIT],
+    p: Places,
+    s: Said,
+    v: Passing,
+    after: &[f64],
+    blocks: &[f64],
+) -> Mark {
+    let done = s.code == 0;
+    let n = after.len() as u64;
+    let l = blocks.len() as u64;
+    let a = answers::place(words, answers::answer(words, p.answer, s), v.place);
+    let m = answers::place(words, a, v.reason as usize);
+    let i = answers::list(words, m, done, n, n, after);
+    let k = answers::list(words, i, done, l, l, blocks);
+    let told = (v.verdict as usize != answers::UNTOLD) & (v.generation != answers::UNTOLD as u64);
+    Mark {
+        at: k.at,
+        ok: k.ok & (done | (!told & answers::are_zero(after) & answers::are_zero(blocks))),
+    }
+}
+
+// A call that checks passes.
+fn checked(words: &[u64; LIMIT], kind: usize, p: Places, g: Given) -> Mark {
+    let mut cells = [0.0f64; ROOM];
+    let mut blocks = [0.0f64; ROOM];
+    let mut targets = [0.0f64; ROOM];
+    let mut kinds = [0u32; INDICES];
+    let mut numbers = [0.0f64; ROOM];
+    let mut parts = [0usize; INDICES];
+    let mut lists = [0.0f64; ROOM];
+    let mut after = [0.0f64; ROOM];
+    let mut after_blocks = [0.0f64; ROOM];
+    let c = given::lent(words, p.cells, 1, PLAIN, &mut cells);
+    let b = given::lent(words, p.blocks, 1, PLAIN, &mut blocks);
+    let t = given::lent(words, p.rings, 1, PLAIN, &mut targets);
+    let k = given::lent_kinds(words, p.size, &mut kinds);
+    let x = given::lent(words, p.numbers, 1, PLAIN, &mut numbers);
+    let q = given::lent_sizes(words, p.changes, &mut parts);
+    let l = given::lent(words, p.points, 1, PLAIN, &mut lists);
+    let a = given::room_numbers(words, p.room, &mut after);
+    let d = given::room_numbers(words, words::after(p.room, 1), &mut after_blocks);
+    let mut verdict_is: u32 = answers::UNTOLD as u32;
+    let mut place = answers::UNTOLD;
+    let mut reason: u32 = answers::UNTOLD as u32;
+    let mut n: u64 = answers::UNTOLD as u64;
+    let code = calls::check(
+        g,
+        c,
+        b,
+        t,
+        k,
+        x,
+        q,
+        l,
+        a,
+        d,
+        &mut verdict_is,
+        &mut place,
+        &mut reason,
+        &mut n,
+    );
+    let v = Passing {
+        verdict: verdict_is,
+        place,
+        reason,
+        generation: n,
+    };
+    let s = said(kind, code, verdict_is as u64, n, false, 0.0, 0.0);
+    verdict(words, p, s, v, a, d)
+}
+
+// A call that proposes passes. A refusal leaves the count.
+fn proposed(words: &[u64; LIMIT], kind: usize, p: Places, g: Given) -> Mark {
+    let mut cells = [0.0f64; ROOM];
+    let mut targets = [0.0f64; ROOM];
+    let mut kinds = [answers::UNTOLD as u32; INDICES];
+    let mut numbers = [0.0f64; ROOM];
+    let mut parts = [answers::UNTOLD; INDICES];
+    let c = given::lent(words, p.cells, 1, PLAIN, &mut cells);
+    let t = given::lent(words, p.rings, 1, PLAIN, &mut targets);
+    let k = given::room_kinds(words, p.room, &mut kinds);
+    let x = given::room_numbers(words, words::after(p.room, 1), &mut numbers);
+    let q = given::room_sizes(words, words::after(p.room, 2), &mut parts);
+    let mut count = answers::UNTOLD;
+    let code = calls::propose(g, c, t, k, x, q, &mut count);
+    let s = said(kind, code, count as u64, 0, false, 0.0, 0.0);
+    let m = answers::answer(words, p.answer, s);
+    let n = words::only(count as u64, code == 0);
+    let left = Mark {
+        at: m.at,
+        ok: m.ok & ((code == 0) | (count == answers::UNTOLD)),
+    };
+    answers::passes(words, left, n, k, x, q)
+}
+
 // Replays the call of a line, and says how far that is as recorded.
 pub fn replay(words: &[u64; LIMIT], kind: usize) -> Mark {
     let p = given::places_of(words, kind);
@@ -190,6 +295,8 @@ pub fn replay(words: &[u64; LIMIT], kind: usize) -> Mark {
         | table::FROM_PARTS
         | table::SEGMENTS
         | table::RENEW => changed(words, kind, p, g),
+        table::CHECK_PASSES => checked(words, kind, p, g),
+        table::PROPOSE_PASSES => proposed(words, kind, p, g),
         _ => asked(words, kind, p, g),
     }
 }

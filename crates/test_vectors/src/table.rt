@@ -55,8 +55,12 @@ pub const RENEW: usize = 25;
 
 pub const RANGE: usize = 26;
 
+pub const CHECK_PASSES: usize = 27;
+
+pub const PROPOSE_PASSES: usize = 28;
+
 // A line whose name is not in the table.
-pub const UNREAD: usize = 27;
+pub const UNREAD: usize = 29;
 
 // Calls of kind k at k, those that differ at APART + k.
 const APART: usize = 32;
@@ -67,7 +71,7 @@ pub const COUNTS: usize = 64;
 // numbers the call writes besides lists.
 const ROW: usize = 28;
 
-const ROWS: usize = 28;
+const ROWS: usize = 30;
 
 const NAME: usize = 16;
 
@@ -109,6 +113,8 @@ penetration     0N00010N0 11\
 eroded          0N0002000 11\
 renew           6NN000000 00\
 range           6NN002000 12\
+check_passes    8NNNNNNN2 20\
+propose_passes  6N0N01003 10\
 unread          000000000 00";
     rows[ROW * (k % ROWS) + j % ROW]
 }

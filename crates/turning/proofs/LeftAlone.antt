@@ -15,6 +15,7 @@ use Rattle.refusals.specs.Paper.{Paper, Reason, answers, refuses, only, at, onw
 use Rattle.refusals.specs.Lent.{over}
 use Rattle.stock.specs.declared.TurnStockSpec.{TurnStockSpec}
 use Rattle.stock.specs.declared.Stamp.{Stamp}
+use Rattle.stock.specs.declared.TurnStock.{TurnStock}
 use Rattle.stock.specs.declared.TurnChange.{TurnChange}
 use Rattle.stock.specs.declared.ZRange.{ZRange}
 use Rattle.changes.specs.Change.{numbersOf}
@@ -23,12 +24,16 @@ use Rattle.rings.specs.declared.Ring.{Ring}
 use Rattle.rings.specs.Remove.{RingStore, ringsAfter}
 use Rattle.moves.specs.Move.{Left}
 use Rattle.profile.specs.Chords.{Chord, flatOf, writtenOf}
+use Rattle.passes.specs.declared.propose.Level.{Level}
+use Rattle.passes.specs.Check.{Verdict}
+use Rattle.passes.specs.Propose.{sixes}
 use Rattle.lines.specs.Hands.{Hand}
 use Rattle.lines.proofs.Parts.{stopped-takes}
 use Rattle.stock_lines.specs.Reading.{State, state, onLine}
 use Rattle.stock_file.specs.Read.{stopped, onLong, heldIn, Stocked}
 use Rattle.turning.specs.JobCalls.{Flat}
 use Rattle.turning.specs.Files.{refusedIn, heldFrom, readingFrom, takingIn, afterPart, TakesFile, GivesKept, GivesFileLine}
+use Rattle.turning.specs.Passes.{GivesChecked, GivesPasses}
 use Rattle.turning.specs.Boundary.{codeOf, placeOut, Gives, GivesBin, GivesCells, GivesBlocks, GivesChanges, GivesStock, GivesTwo, GivesTwoPlace, GivesRings, GivesMove, GivesStore, GivesChords, GivesFound, GivesFoundTwo}
 
 no-code : {r : ℕ} → r ≡ 0 → 0 < r → ⊥
@@ -106,6 +111,17 @@ pub chords-left : (p : Paper (List Chord)) (r : ℕ) (xs xs' : List Float) (k k'
 unfolding over flatOf writtenOf
 chords-left (answers l) r xs xs' k k' g h = absurd (no-code (g .code) h)
 chords-left (refuses n) r xs xs' k k' g h = (g .chords, g .count)
+
+-- `turning_check_passes`: the cells and the kept numbers afterwards, the verdict, its place and its reason, and the generation
+pub checked-left : (s : TurnStock) (cs : List Float) (p : Paper Verdict) (r : ℕ) (es es' bs bs' : List Float) (v v' x x' q q' j j' : ℕ) → GivesChecked s cs p r es es' bs bs' v v' x x' q q' j j' → 0 < r → (es' ≡ es) × (bs' ≡ bs) × (v' ≡ v) × (x' ≡ x) × (q' ≡ q) × (j' ≡ j)
+checked-left s cs (answers a) r es es' bs bs' v v' x x' q q' j j' g h = absurd (no-code (g .said .code) h)
+checked-left s cs (refuses n) r es es' bs bs' v v' x x' q q' j j' g h = (g .cells, g .kept, g .said .verdict, g .said .place, g .said .reason, g .said .generation)
+
+-- `turning_propose_passes`: the three lists and the count
+pub passes-left : (p : Paper (List Level)) (r : ℕ) (ks ks' : List ℕ) (xs xs' : List Float) (ps ps' : List ℕ) (c c' : ℕ) → GivesPasses p r ks ks' xs xs' ps ps' c c' → 0 < r → (ks' ≡ ks) × (xs' ≡ xs) × (ps' ≡ ps) × (c' ≡ c)
+unfolding over sixes
+passes-left (answers l) r ks ks' xs xs' ps ps' c c' g h = absurd (no-code (g .code) h)
+passes-left (refuses n) r ks ks' xs xs' ps ps' c c' g h = (g .kinds, g .numbers, g .parts, g .count)
 
 -- `turning_radius_at`, `turning_excess`, `turning_penetration`, `turning_eroded`: whether there is one, and the radius or the distance
 pub found-left : {A : Type 0} (p : Paper (Option A)) (r f f' : ℕ) (x x' : A) → GivesFound p r f f' x x' → 0 < r → (f' ≡ f) × (x' ≡ x)

@@ -1,5 +1,6 @@
 pub mod Given
 pub mod Blocks
+pub mod Passing
 pub mod Once
 pub mod LeftAlone
 pub mod Keeping

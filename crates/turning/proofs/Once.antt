@@ -14,6 +14,8 @@
 --   gives-move-once       turning_apply_move
 --   gives-store-once      turning_from_parts
 --   gives-chords-once     turning_segments
+--   gives-checked-once    turning_check_passes
+--   gives-passes-once     turning_propose_passes
 --   gives-found-once      turning_radius_at, turning_excess, turning_penetration, turning_eroded
 --   gives-found-two-once  turning_envelope_at, turning_range, turning_radius_range
 --   takes-job-once        turning_job_take
@@ -32,6 +34,7 @@ use lib.Ieee.{Float}
 use Rattle.refusals.specs.Paper.{Paper}
 use Rattle.stock.specs.declared.TurnStockSpec.{TurnStockSpec}
 use Rattle.stock.specs.declared.Stamp.{Stamp}
+use Rattle.stock.specs.declared.TurnStock.{TurnStock}
 use Rattle.stock.specs.declared.TurnChange.{TurnChange}
 use Rattle.stock.specs.declared.ZRange.{ZRange}
 use Rattle.changes.specs.declared.ChangeList.{ChangeList}
@@ -40,16 +43,19 @@ use Rattle.rings.specs.declared.Ring.{Ring}
 use Rattle.rings.specs.Remove.{RingStore}
 use Rattle.moves.specs.Move.{Left}
 use Rattle.profile.specs.Chords.{Chord}
+use Rattle.passes.specs.declared.propose.Level.{Level}
+use Rattle.passes.specs.Check.{Verdict}
 use Rattle.job_run.specs.declared.Run.{Run}
 use Rattle.job_run.specs.Run.{State, Hold}
 use Rattle.stock_file.specs.Read.{Stocked}
 use Rattle.turning.specs.Jobs.{TakesJob, EndsJob, WritesJob}
 use Rattle.turning.specs.JobCalls.{Flat}
 use Rattle.turning.specs.Files.{TakesFile, GivesKept, GivesFileLine}
+use Rattle.turning.specs.Passes.{GivesChecked, GivesPasses}
 use Rattle.turning.specs.Boundary.{keptOut, Gives, GivesTwo, GivesTwoPlace, GivesBin, GivesCells, GivesBlocks, GivesList, GivesChanges, GivesStock, GivesRings, GivesMove, GivesStore, GivesChords, GivesFound, GivesFoundTwo}
 
 -- the number of the header
-pub header-once : (r r' : ℕ) → r ≡ 5 → r' ≡ 5 → r ≡ r'
+pub header-once : (r r' : ℕ) → r ≡ 6 → r' ≡ 6 → r ≡ r'
 header-once r r' a b = a ∙ sym b
 
 -- one number
@@ -116,6 +122,20 @@ gives-store-once spec cs p r r' bs bs₁ bs₂ xs xs₁ xs₂ k k₁ k₂ g g₁
 -- the chords and their count
 pub gives-chords-once : (p : Paper (List Chord)) (r r' : ℕ) (xs xs₁ xs₂ : List Float) (k k₁ k₂ : ℕ) → GivesChords p r xs xs₁ k k₁ → GivesChords p r' xs xs₂ k k₂ → (r ≡ r') × (xs₁ ≡ xs₂) × (k₁ ≡ k₂)
 gives-chords-once p r r' xs xs₁ xs₂ k k₁ k₂ a b = (a .code ∙ sym (b .code), a .chords ∙ sym (b .chords), a .count ∙ sym (b .count))
+
+-- the cells and their kept numbers after a check of passes, the verdict, its place and its reason, and the generation
+pub gives-checked-once : (k : TurnStock) (cs : List Float) (p : Paper Verdict) (r r' : ℕ) (es es₁ es₂ bs bs₁ bs₂ : List Float) (v v₁ v₂ x x₁ x₂ q q₁ q₂ g g₁ g₂ : ℕ) → GivesChecked k cs p r es es₁ bs bs₁ v v₁ x x₁ q q₁ g g₁ → GivesChecked k cs p r' es es₂ bs bs₂ v v₂ x x₂ q q₂ g g₂
+    → (r ≡ r') × (es₁ ≡ es₂) × (bs₁ ≡ bs₂) × (v₁ ≡ v₂) × (x₁ ≡ x₂) × (q₁ ≡ q₂) × (g₁ ≡ g₂)
+gives-checked-once k cs p r r' es es₁ es₂ bs bs₁ bs₂ v v₁ v₂ x x₁ x₂ q q₁ q₂ g g₁ g₂ a b =
+    let s = a .said in
+    let t = b .said in
+    (s .code ∙ sym (t .code), a .cells ∙ sym (b .cells), a .kept ∙ sym (b .kept), s .verdict ∙ sym (t .verdict), s .place ∙ sym (t .place), s .reason ∙ sym (t .reason), s .generation ∙ sym (t .generation))
+
+-- the three lists of proposed passes, and their count
+pub gives-passes-once : (p : Paper (List Level)) (r r' : ℕ) (ks ks₁ ks₂ : List ℕ) (xs xs₁ xs₂ : List Float) (ps ps₁ ps₂ : List ℕ) (c c₁ c₂ : ℕ) → GivesPasses p r ks ks₁ xs xs₁ ps ps₁ c c₁ → GivesPasses p r' ks ks₂ xs xs₂ ps ps₂ c c₂
+    → (r ≡ r') × (ks₁ ≡ ks₂) × (xs₁ ≡ xs₂) × (ps₁ ≡ ps₂) × (c₁ ≡ c₂)
+gives-passes-once p r r' ks ks₁ ks₂ xs xs₁ xs₂ ps ps₁ ps₂ c c₁ c₂ a b =
+    (a .code ∙ sym (b .code), a .kinds ∙ sym (b .kinds), a .numbers ∙ sym (b .numbers), a .parts ∙ sym (b .parts), a .count ∙ sym (b .count))
 
 -- one number, if it is found
 pub gives-found-once : {A : Type 0} (p : Paper (Option A)) (r r' f f₁ f₂ : ℕ) (x x₁ x₂ : A) → GivesFound p r f f₁ x x₁ → GivesFound p r' f f₂ x x₂ → (r ≡ r') × (f₁ ≡ f₂) × (x₁ ≡ x₂)

@@ -3,3 +3,4 @@ pub mod Jobs
 pub mod JobCalls
 pub mod Files
 pub mod FileCalls
+pub mod Passes

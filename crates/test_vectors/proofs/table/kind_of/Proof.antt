@@ -5,10 +5,10 @@ use Rattle.test_vectors.proofs.table.kind_of.Statement.{statement}
 use Rattle.test_vectors.proofs.table.kind_of.Tie as tie
 
 abbrev Inv-loop : tie.InvT-loop
-Inv-loop name k₀ k = k ≤ 27
+Inv-loop name k₀ k = k ≤ 29
 
 abbrev μ-loop : tie.MeasureT-loop
-μ-loop name k₀ k = 27 - k
+μ-loop name k₀ k = 29 - k
 
 pub kind-of-spec : {M : Type 1} → statement M
 kind-of-spec =

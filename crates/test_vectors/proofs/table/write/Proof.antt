@@ -5,10 +5,10 @@ use Rattle.test_vectors.proofs.table.write.Statement.{statement}
 use Rattle.test_vectors.proofs.table.write.Tie as tie
 
 abbrev Inv-loop : tie.InvT-loop
-Inv-loop counts k₀ t3 t4 t5 k = k ≤ 28
+Inv-loop counts k₀ t3 t4 t5 k = k ≤ 30
 
 abbrev μ-loop : tie.MeasureT-loop
-μ-loop counts k₀ t3 t4 t5 k = 28 - k
+μ-loop counts k₀ t3 t4 t5 k = 30 - k
 
 pub write-spec : {M : Type 1} → statement M
 write-spec =

@@ -1,0 +1,30 @@
+-- `test_vectors::given::fill_kinds` meets its contract. Assumes nothing.
+use borrow.Author.Needs.{needs}
+use Prim.Native.Nat.{_≤_, _-_}
+use lib.ListN.{length}
+use mathlib.Core.Path.{_≡_}
+use Rattle.test_vectors.proofs.given.fill_kinds.Statement.{statement}
+use Rattle.test_vectors.proofs.given.fill_kinds.Tie as tie
+
+abbrev Inv-loop : tie.InvT-loop
+Inv-loop words i xs₀ j₀ xs j = (j ≤ length xs₀) × (length xs ≡ length xs₀)
+
+abbrev μ-loop : tie.MeasureT-loop
+μ-loop words i xs₀ j₀ xs j = length xs₀ - j
+
+pub fill-kinds-spec : {M : Type 1} → statement M
+fill-kinds-spec =
+    tie.close
+    (tie.spec
+    Inv-loop
+    μ-loop
+    (λ c. search needs)
+    (λ c κs. tt)
+    (λ c κs. tt)
+    (λ c. search needs)
+    (λ c. search needs)
+    (λ c. search needs)
+    (λ c. search needs)
+    (λ c. search needs)
+    (λ c. search needs)
+    (λ c. tt))
