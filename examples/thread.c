@@ -23,7 +23,7 @@ static int refused(const char *call, uint32_t number)
 int main(void)
 {
     double cells[4 * BINS], blocks[BLOCKS], records[8 * BINS], rings[4 * 8];
-    size_t indices[BINS], n = 0, changes = 0, stored = 0, position = 0, k;
+    size_t indices[BINS], n = 0, changes = 0, stored = 0, tests = 0, position = 0, k;
     uint64_t generation = 0, list_generation = 0;
     uint32_t number, found = 0, list_edition = 0;
     double least = 0, greatest = 0, bore = 0, outer = 0;
@@ -52,7 +52,7 @@ int main(void)
                            list_edition, list_generation, &position);
     if (refused("turning_apply", number))
         return 1;
-    number = turning_remove_ring(BAR, rings, 4 * 8, &stored, &generation, 3.5, 4.5, 4.0, 5.0, &position);
+    number = turning_remove_ring(BAR, rings, 4 * 8, &stored, &generation, 3.5, 4.5, 4.0, 5.0, &tests, &position);
     if (refused("turning_remove_ring", number))
         return 1;
     printf("ring: z %g..%g, radius %g..%g; generation %u\n", rings[0], rings[1], rings[2], rings[3], (unsigned)generation);

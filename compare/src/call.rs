@@ -196,8 +196,8 @@ pub enum Answer {
     /// The changes of a preview or a difference, and the stamp that they carry.
     Changes(Vec<Change>, Stamp),
     /// The cells, the kept numbers of their blocks, the rings stored and the generation, of which a call
-    /// has what it lends.
-    Stock(Vec<[f64; 4]>, Vec<f64>, Vec<[f64; 4]>, u64),
+    /// has what it lends; and of each ring taken the tests of a piece against a stored ring (Req 14 of 02).
+    Stock(Vec<[f64; 4]>, Vec<f64>, Vec<[f64; 4]>, u64, Vec<usize>),
     /// The kept numbers of the blocks.
     Blocks(Vec<f64>),
     /// The least and the greatest volume.

@@ -117,18 +117,19 @@ pub mod c {
         );
         turning_remove_ring(
             rings: Out, rings_len: usize, rings_count: Size, generation: *mut u64, z0: f64, z1: f64,
-            r0: f64, r1: f64, position: Size
+            r0: f64, r1: f64, tests: Size, position: Size
         );
         turning_apply_move(
             edition: u32, generation: *mut u64, cells: Out, cells_len: usize, blocks: Out,
             blocks_len: usize, rings: Out, rings_len: usize, rings_count: Size, indices: Sizes,
             indices_len: usize, records: In, records_len: usize, changes: usize, list_edition: u32,
-            list_generation: u64, removed: In, removed_len: usize, position: Size
+            list_generation: u64, removed: In, removed_len: usize, tests: Size, tests_len: usize,
+            position: Size
         );
         turning_from_parts(
             edition: u32, generation: *mut u64, cells: In, cells_len: usize, blocks: Out,
             blocks_len: usize, given: In, given_len: usize, rings: Out, rings_len: usize,
-            rings_count: Size, position: Size
+            rings_count: Size, tests: Size, tests_len: usize, position: Size
         );
         turning_renew(cells: In, cells_len: usize, blocks: Out, blocks_len: usize);
         turning_volume(
@@ -226,19 +227,19 @@ pub fn run(call: &Call, memory: &mut Memory) -> u32 {
             ),
             Call::RemoveRing { spec, ring, .. } => spec_call!(
                 turning_remove_ring, spec, m[0].start(), m[0].size(), m[1].start(), m[2].start(),
-                ring[0], ring[1], ring[2], ring[3], m[3].start()
+                ring[0], ring[1], ring[2], ring[3], m[3].start(), m[4].start()
             ),
             Call::ApplyMove { spec, stamp, list, .. } => spec_call!(
                 turning_apply_move, spec, stamp.edition, m[0].start(), m[1].start(), m[1].size(),
                 m[2].start(), m[2].size(), m[3].start(), m[3].size(), m[4].start(),
                 m[5].start(), m[5].size(), m[6].start(), m[6].size(), list.changes,
                 list.stamp.edition, list.stamp.generation,
-                m[7].start(), m[7].size(), m[8].start()
+                m[7].start(), m[7].size(), m[8].start(), m[8].size(), m[9].start()
             ),
             Call::FromParts { spec, stamp, .. } => spec_call!(
                 turning_from_parts, spec, stamp.edition, m[0].start(), m[1].start(), m[1].size(),
                 m[2].start(), m[2].size(), m[3].start(), m[3].size(),
-                m[4].start(), m[4].size(), m[5].start(), m[6].start()
+                m[4].start(), m[4].size(), m[5].start(), m[6].start(), m[6].size(), m[7].start()
             ),
             Call::Renew { spec, .. } => spec_call!(
                 turning_renew, spec, m[0].start(), m[0].size(), m[1].start(), m[1].size()

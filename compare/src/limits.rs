@@ -1,16 +1,18 @@
 //! Calls at document 01's limits and one beyond, each with the number that 01 gives; kept numbers and
 //! ranges over one bin to the most; lengths at the corners of their rule; envelope queries at the corners where a look at a part of the points could
 //! miss a segment; profiles at the corners of theirs; and passes, in `passes`. Those that say where they fail are in
-//! `positions`.
+//! `positions`; calls that change every bin of a long bar are in `bins`.
+mod bins;
 mod passes;
 
+pub use bins::all_bins;
 pub use passes::{checks, pass_bar, proposals, two_steps};
 
 use crate::call::{Answer, Call, List, Outcome, Reason, Room, Simple, Spec, Stamp, Store};
 use crate::oracle::ranges::{blocks, blocks_len};
 use crate::oracle::stock::Bar;
 use crate::oracle::{
-    ARGUMENT, BLOCKS, CELLS, CHORDS, COUNT, ENVELOPE, GENERATION, MILLION, MOST_CELLS,
+    ARGUMENT, BLOCKS, CELLS, CHORDS, COUNT, ENVELOPE, GENERATION, MANY_CELLS, MILLION, MOST_CELLS,
     MOST_ENVELOPE_POINTS, MOST_POINTS, MOST_PROFILE_POINTS, MOST_RINGS, MOST_SEGMENTS, NO_BIN,
     PIECES, PROFILE, ROOM, SPEC, STORED,
 };
@@ -19,7 +21,10 @@ use crate::run::number;
 
 type Ring = [f64; 4];
 
-const ALL: Room = room(MOST_CELLS);
+/// Bars of about as many bins as a call's shorter lists are for, and of the most.
+const LONG_BARS: [usize; 3] = [MANY_CELLS, MANY_CELLS + 1, MOST_CELLS];
+/// As much as is ever recorded.
+const ALL: Room = room(MANY_CELLS);
 /// What stocks and their lists carry where it is no limit.
 const STAMP: Stamp = stamp(7);
 const CELL: [f64; 4] = [10., 10., 0., 0.];
@@ -80,6 +85,8 @@ fn specs() -> Vec<(Call, u32)> {
     };
     let mut calls = vec![];
     for (spec, number) in [
+        (bar(MANY_CELLS), 0),
+        (bar(MANY_CELLS + 1), 0),
         (most, 0),
         (over, COUNT),
         (wide(most), 0),
@@ -91,6 +98,7 @@ fn specs() -> Vec<(Call, u32)> {
         calls.push((Call::Validate { spec }, number));
     }
     for (spec, i, number) in [
+        (bar(MANY_CELLS + 1), MANY_CELLS, 0),
         (most, MOST_CELLS - 1, 0),
         (most, MOST_CELLS, NO_BIN),
         (most, MOST_CELLS + 1, NO_BIN),
@@ -127,7 +135,7 @@ fn chords(count: usize) -> (Vec<f64>, Vec<f64>) {
 /// The numbers of a nose and of a polygon, whether the cut is a nose's, a million and beyond.
 fn listed() -> Vec<(Call, u32)> {
     let mut calls = vec![];
-    for n in [64, MOST_CELLS] {
+    for n in [64, MANY_CELLS, MANY_CELLS + 1, MOST_CELLS] {
         for (over, number) in [(0, 0), (1, ARGUMENT)] {
             for side in [0, 1] {
                 let (spec, cells) = (bar(n), whole(n));
@@ -184,11 +192,15 @@ fn polygon(spec: Spec, cells: Vec<f64>, side: u32, excess: f64, points: Vec<f64>
     }
 }
 
-/// Each cut of no list changes seven bins: room for them, and for one fewer.
 fn single() -> Vec<(Call, u32)> {
-    let (spec, cells) = (bar(MOST_CELLS), whole(MOST_CELLS));
-    let (z0, z1) = (100., 107.);
-    let end = MOST_CELLS as f64;
+    LONG_BARS.iter().flat_map(|n| single_of(*n)).collect()
+}
+
+/// Each cut of no list changes seven bins, the last ones: room for them, and for one fewer.
+fn single_of(n: usize) -> Vec<(Call, u32)> {
+    let (spec, cells) = (bar(n), whole(n));
+    let end = n as f64;
+    let (z0, z1) = (end - 7., end);
     let mut calls = vec![];
     for (room, number) in [(ALL, 0), (room(7), 0), (room(6), ROOM)] {
         let mut cut = |cut: Simple| {
@@ -214,7 +226,7 @@ fn single() -> Vec<(Call, u32)> {
             cone: 2.,
         });
         let mut after = cells.clone();
-        after[400..428].copy_from_slice([TURNED].repeat(7).as_flattened());
+        after[4 * (n - 7)..].copy_from_slice([TURNED].repeat(7).as_flattened());
         let (spec, cells) = (spec, cells.clone());
         calls.push((
             Call::ChangesTo {
@@ -322,13 +334,15 @@ fn stamps() -> Vec<(Call, u32)> {
 
 fn commits() -> Vec<(Call, u32)> {
     let mut calls = vec![];
-    let last = MOST_CELLS - 1;
-    for (i, generation, number) in [
-        (0, 0, 0),
-        (last, u64::MAX - 1, 0),
-        (last, u64::MAX, GENERATION),
+    let (many, last) = (MANY_CELLS, MOST_CELLS - 1);
+    for (n, i, generation, number) in [
+        (many, many - 1, 0, 0),
+        (many + 1, many, 0, 0),
+        (MOST_CELLS, 0, 0, 0),
+        (MOST_CELLS, last, u64::MAX - 1, 0),
+        (MOST_CELLS, last, u64::MAX, GENERATION),
     ] {
-        let (spec, cells) = (bar(MOST_CELLS), whole(MOST_CELLS));
+        let (spec, cells) = (bar(n), whole(n));
         let stamp = stamp(generation);
         let list = change(i, stamp);
         let call = Call::Apply {
@@ -344,7 +358,19 @@ fn commits() -> Vec<(Call, u32)> {
 }
 
 /// About as many bins as blocks have, and the fewest and the most.
-const BINS: [usize; 9] = [1, 63, 64, 65, 127, 128, 130, MOST_CELLS - 1, MOST_CELLS];
+const BINS: [usize; 11] = [
+    1,
+    63,
+    64,
+    65,
+    127,
+    128,
+    130,
+    MANY_CELLS,
+    MANY_CELLS + 1,
+    MOST_CELLS - 1,
+    MOST_CELLS,
+];
 
 /// Two cells by turns, so that a recorded line says them once; every second one holds no material.
 fn turns(n: usize) -> Vec<f64> {

@@ -156,6 +156,19 @@ fn generation(value: u64) -> Lent {
     word("generation", value)
 }
 
+/// Where the tests of a list of rings are told: of none of them, of all, of half of them, and with one place
+/// more than there are rings.
+fn tests(rings: &[f64], stamp: &Stamp) -> Lent {
+    let count = rings.len() / 4;
+    let len = match stamp.generation % 4 {
+        0 => 0,
+        1 => count,
+        2 => count / 2,
+        _ => count + 1,
+    };
+    Lent::blank("tests", len)
+}
+
 fn position() -> Lent {
     word("position", NO_POSITION)
 }
@@ -234,6 +247,7 @@ impl Memory {
             } => {
                 store(&mut m, s);
                 m.push(generation(*g));
+                m.push(Lent::blank("tests", 1));
                 m.push(position());
             }
             Call::ApplyMove {
@@ -252,6 +266,7 @@ impl Memory {
                 m.push(indices(list));
                 m.push(Lent::holding("records", &list.records));
                 m.push(Lent::holding("removed", removed));
+                m.push(tests(removed, stamp));
                 m.push(position());
             }
             Call::FromParts {
@@ -268,6 +283,7 @@ impl Memory {
                 m.push(Lent::holding("given", given));
                 m.push(Lent::blank("rings", *rings_len));
                 m.push(Lent::blank("rings_count", 1));
+                m.push(tests(given, stamp));
                 m.push(position());
             }
             Call::Renew { cells, blocks, .. } => {
@@ -446,7 +462,7 @@ impl Memory {
                 self.put("zb", &[*zb]);
             }
             Answer::Changes(changes, stamp) => self.put_changes(changes, *stamp),
-            Answer::Stock(cells, blocks, rings, generation) => {
+            Answer::Stock(cells, blocks, rings, generation, tests) => {
                 if self.named("cells").is_some() {
                     self.put("cells", cells.as_flattened());
                     self.put("blocks", blocks);
@@ -457,6 +473,11 @@ impl Memory {
                 }
                 if self.named("generation").is_some() {
                     self.put_word("generation", *generation);
+                }
+                if let Some(lent) = self.named("tests") {
+                    for (k, count) in tests.iter().enumerate().take(lent.size()) {
+                        lent.put_word(k, *count as u64);
+                    }
                 }
             }
             Answer::Blocks(blocks) => self.put("blocks", blocks),

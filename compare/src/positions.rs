@@ -3,8 +3,8 @@
 use crate::call::{Call, Change, List, Reason, Spec, Stamp, Store};
 use crate::oracle::ranges::BLOCK;
 use crate::oracle::{
-    ADDS, AFTER, BLOCKS, CELLS, COUNT, GENERATION, HOLDS_OTHER, MOST_CELLS, NO_BIN, PIECES, RING,
-    RISING, ROOM, SPEC, STALE, STORED,
+    ADDS, AFTER, BLOCKS, CELLS, COUNT, GENERATION, HOLDS_OTHER, MANY_CELLS, MOST_CELLS, NO_BIN,
+    PIECES, RING, RISING, ROOM, SPEC, STALE, STORED,
 };
 use crate::sequence::list_of;
 
@@ -235,7 +235,7 @@ pub fn commits() -> Vec<Case> {
         .map(|(name, changes, reason)| (name, commit(8, listed(&changes)), reason))
         .collect();
     cases.push(minus_zero());
-    for n in [256, MOST_CELLS] {
+    for n in [256, MANY_CELLS, MOST_CELLS] {
         cases.extend(last_of_many(n));
     }
     cases.extend(around());

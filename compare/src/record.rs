@@ -19,6 +19,7 @@
 //! STORE    rings_len rings_count, then 4 numbers for each ring stored
 //! CHANGES  how many, STAMP, then for each its index and 8 numbers
 //! RINGS    how many, then 4 numbers for each
+//! TESTS    of each ring of the call, one a ring, how many tests of a piece against a stored ring it took
 //! CHORDS   how many, then 5 numbers for each
 //!
 //! root x = 0 root                              length x y = 0 length
@@ -30,9 +31,9 @@
 //! drill SPEC STAMP NUMBERS tip_z radius cone ROOM = 0 CHANGES
 //! apply SPEC STAMP NUMBERS BLOCKS LIST = 0 generation NUMBERS BLOCKS
 //! changes_to SPEC STAMP NUMBERS NUMBERS ROOM = 0 CHANGES
-//! remove_ring SPEC STORE generation z0 z1 r0 r1 = 0 generation RINGS
-//! apply_move SPEC STAMP NUMBERS BLOCKS STORE LIST NUMBERS = 0 generation NUMBERS BLOCKS RINGS
-//! from_parts SPEC STAMP NUMBERS BLOCKS NUMBERS rings_len = 0 generation BLOCKS RINGS
+//! remove_ring SPEC STORE generation z0 z1 r0 r1 = 0 generation RINGS TESTS
+//! apply_move SPEC STAMP NUMBERS BLOCKS STORE LIST NUMBERS = 0 generation NUMBERS BLOCKS RINGS TESTS
+//! from_parts SPEC STAMP NUMBERS BLOCKS NUMBERS rings_len = 0 generation BLOCKS RINGS TESTS
 //! renew SPEC NUMBERS BLOCKS = 0 BLOCKS
 //! volume SPEC NUMBERS STORE = 0 least greatest
 //! envelope_at SPEC NUMBERS z = 0 found [bore_lower outer_upper]
@@ -66,13 +67,17 @@ const LONGEST: usize = 8192;
 /// The replay has room for so many fields, indices and numbers of a list, and no line at a limit has
 /// so many bytes.
 const LINE: usize = 131072;
-const FIELDS: usize = 36864;
+const FIELDS: usize = 172032;
 const INDICES: usize = 4096;
-const NUMBERS: usize = 32768;
+const NUMBERS: usize = 66560;
 
-/// So far back goes a repeat, and so many fields at least does it say.
+/// Lists of so many changes are left out: their lines are long.
+const CHANGES: usize = 4096;
+
+/// So far back goes a repeat, and so many fields does it say, at least and at most.
 const PERIOD: usize = 32;
 const WORTH: usize = 8;
+const MOST: usize = 65535;
 
 #[derive(Default)]
 struct Line {
@@ -174,6 +179,12 @@ impl Line {
     fn rings(&mut self, rings: &[[f64; 4]]) -> &mut Self {
         self.size(rings.len()).each(rings.as_flattened())
     }
+    fn tests(&mut self, tests: &[usize]) -> &mut Self {
+        for count in tests {
+            self.size(count);
+        }
+        self
+    }
 
     /// How many fields from `i` on are each the one so many places before it.
     fn again(&self, i: usize, back: usize) -> usize {
@@ -181,7 +192,7 @@ impl Line {
             return 0;
         };
         let pairs = self.fields[first..].iter().zip(&self.fields[i..]);
-        pairs.take_while(|(a, b)| a == b).count()
+        pairs.take(MOST).take_while(|(a, b)| a == b).count()
     }
 
     /// The line, with what is repeated said once.
@@ -382,7 +393,7 @@ fn written(line: &mut Line, call: &Call, answer: &Answer) {
         Answer::Bins(n) => line.size(n),
         Answer::Range(za, zb) => line.number(*za).number(*zb),
         Answer::Changes(changes, stamp) => line.changes(changes, stamp),
-        Answer::Stock(cells, blocks, rings, generation) => {
+        Answer::Stock(cells, blocks, rings, generation, tests) => {
             line.size(generation);
             let cells = cells.as_flattened();
             match call {
@@ -391,6 +402,7 @@ fn written(line: &mut Line, call: &Call, answer: &Answer) {
                 Call::FromParts { .. } => line.numbers(blocks).rings(rings),
                 _ => line.rings(rings),
             }
+            .tests(tests)
         }
         Answer::Blocks(blocks) => line.numbers(blocks),
         Answer::Volume(least, greatest) => line.number(*least).number(*greatest),
@@ -475,21 +487,18 @@ fn replayed(call: &Call, outcome: &Outcome, longest: usize) -> Option<String> {
     Some(fields.short()).filter(|text| text.len() < longest)
 }
 
-/// Every call at a limit, a line each, but for lists of 4,096 changes and a check over 4,096 bins, which the replay has no room for.
+/// Every call at a limit, a line each, but for lists of very many changes.
 pub fn at_the_limits() -> Vec<String> {
-    let mut lines = vec![];
-    for (call, _) in limits::calls() {
-        match replayed(&call, &oracle::answer(&call), LINE) {
-            Some(line) => lines.push(line),
-            None => assert!(
-                matches!(&call, Call::Apply { list, .. } | Call::ApplyMove { list, .. } if list.changes == 4096)
-                    || matches!(&call, Call::CheckPasses { cells, .. } if cells.len() == 4 * 4096),
-                "the replay has no room for a call of {}",
-                call.name()
-            ),
-        }
-    }
-    lines
+    let few = |call: &Call| match call {
+        Call::Apply { list, .. } | Call::ApplyMove { list, .. } => list.changes < CHANGES,
+        _ => true,
+    };
+    let calls = limits::calls().into_iter().map(|(call, _)| call);
+    let line = |call: Call| {
+        let line = replayed(&call, &oracle::answer(&call), LINE);
+        line.unwrap_or_else(|| panic!("the replay has no room for a call of {}", call.name()))
+    };
+    calls.filter(few).map(line).collect()
 }
 
 /// So many lines of a family, and of an insert's so many of each call.

@@ -9,7 +9,7 @@ use std::collections::BTreeMap;
 use std::hint::black_box;
 
 /// What is painted below the caller.
-const DEPTH: usize = 1 << 20;
+const DEPTH: usize = 2 << 20;
 const PAINT: u64 = 0x5A5A_A5A5_3C3C_C3C3;
 /// Words below the painter's own that it leaves as they are: its frame.
 const FRAME: usize = 64;
@@ -64,6 +64,7 @@ pub fn most(count: usize, seed: u64) -> BTreeMap<&'static str, usize> {
             *entry = bytes.max(*entry);
         };
         limits::calls().into_iter().for_each(|(call, _)| add(call));
+        (limits::all_bins().into_iter()).for_each(|(call, _)| add(call));
         for (name, ..) in FAMILIES {
             let (make, mut rng) = (family(name).expect("a family"), Rng::new(seed));
             (0..count).for_each(|_| add(make(&mut rng)));

@@ -63,17 +63,19 @@ fn null_with_length_0() {
     assert_eq!((own, generation), (CELL, 0));
     assert_eq!(bar!(turning_apply, 2, &mut generation, own.as_mut_ptr(), 4, b, 2, null(), 0, none, 0, 0, 2, 0, at), 0);
     assert_eq!((own, generation, count), (CELL, 1, 0));
-    assert_eq!(bar!(turning_remove_ring, xs, 0, &mut count, &mut generation, 2., 3., 0., 1., at), 0);
+    let mut told = 7_usize;
+    assert_eq!(bar!(turning_remove_ring, xs, 0, &mut count, &mut generation, 2., 3., 0., 1., &mut told, at), 0);
     assert_eq!((count, generation), (0, 1));
-    assert_eq!(bar!(turning_remove_ring, xs, 0, &mut count, &mut generation, 0., 1., 0., 1., at), 11);
+    assert_eq!(bar!(turning_remove_ring, xs, 0, &mut count, &mut generation, 0., 1., 0., 1., &mut told, at), 11);
+    assert_eq!(told, 0);
     let stored = &mut count;
-    assert_eq!(bar!(turning_apply_move, 2, &mut generation, own.as_mut_ptr(), 4, xs, 0, xs, 0, stored, null(), 0, none, 0, 0, 2, 0, none, 0, at), 19);
-    assert_eq!(bar!(turning_apply_move, 2, &mut generation, own.as_mut_ptr(), 4, xs, 0, xs, 0, stored, null(), 0, none, 0, 0, 2, 1, none, 0, at), 20);
-    assert_eq!(bar!(turning_apply_move, 2, &mut generation, own.as_mut_ptr(), 4, b, 2, xs, 0, stored, null(), 0, none, 0, 0, 2, 1, none, 0, at), 0);
+    assert_eq!(bar!(turning_apply_move, 2, &mut generation, own.as_mut_ptr(), 4, xs, 0, xs, 0, stored, null(), 0, none, 0, 0, 2, 0, none, 0, null_mut(), 0, at), 19);
+    assert_eq!(bar!(turning_apply_move, 2, &mut generation, own.as_mut_ptr(), 4, xs, 0, xs, 0, stored, null(), 0, none, 0, 0, 2, 1, none, 0, null_mut(), 0, at), 20);
+    assert_eq!(bar!(turning_apply_move, 2, &mut generation, own.as_mut_ptr(), 4, b, 2, xs, 0, stored, null(), 0, none, 0, 0, 2, 1, none, 0, null_mut(), 0, at), 0);
     assert_eq!((count, generation), (0, 2));
-    assert_eq!(bar!(turning_from_parts, 9, &mut generation, cells, 4, xs, 0, none, 0, xs, 0, &mut count, at), 20);
+    assert_eq!(bar!(turning_from_parts, 9, &mut generation, cells, 4, xs, 0, none, 0, xs, 0, &mut count, null_mut(), 0, at), 20);
     kept = [f64::NAN; 2];
-    assert_eq!(bar!(turning_from_parts, 9, &mut generation, cells, 4, kept.as_mut_ptr(), 2, none, 0, xs, 0, &mut count, at), 0);
+    assert_eq!(bar!(turning_from_parts, 9, &mut generation, cells, 4, kept.as_mut_ptr(), 2, none, 0, xs, 0, &mut count, null_mut(), 0, at), 0);
     assert_eq!((count, generation, kept), (0, 0, KEPT));
     kept = [f64::NAN; 2];
     assert_eq!(bar!(turning_renew, cells, 4, kept.as_mut_ptr(), 2), 0);
@@ -143,9 +145,9 @@ fn lengths_near_the_end_are_refused_unread() {
         assert_eq!(bar!(turning_changes_to, 2, 5, cells, 4, none, len, is, 0, xs, 0, &mut count, e, g), 3);
         assert_eq!(bar!(turning_apply, 2, &mut generation, xs, len, xs, 2, null(), 0, none, 0, 0, 2, 5, at), 3);
         assert_eq!(bar!(turning_apply, 2, &mut generation, own.as_mut_ptr(), 4, xs, len, null(), 0, none, 0, 0, 2, 5, at), 20);
-        assert_eq!(bar!(turning_apply_move, 2, &mut generation, own.as_mut_ptr(), 4, xs, len, xs, 0, &mut none_stored, null(), 0, none, 0, 0, 2, 5, none, 0, at), 20);
-        assert_eq!(bar!(turning_from_parts, 2, &mut generation, none, len, xs, 2, none, 0, xs, 0, &mut count, at), 3);
-        assert_eq!(bar!(turning_from_parts, 2, &mut generation, cells, 4, xs, len, none, 0, xs, 0, &mut count, at), 20);
+        assert_eq!(bar!(turning_apply_move, 2, &mut generation, own.as_mut_ptr(), 4, xs, len, xs, 0, &mut none_stored, null(), 0, none, 0, 0, 2, 5, none, 0, null_mut(), 0, at), 20);
+        assert_eq!(bar!(turning_from_parts, 2, &mut generation, none, len, xs, 2, none, 0, xs, 0, &mut count, null_mut(), 0, at), 3);
+        assert_eq!(bar!(turning_from_parts, 2, &mut generation, cells, 4, xs, len, none, 0, xs, 0, &mut count, null_mut(), 0, at), 20);
         assert_eq!(bar!(turning_renew, none, len, xs, 2), 3);
         assert_eq!(bar!(turning_renew, cells, 4, xs, len), 20);
         assert_eq!(bar!(turning_range, none, len, none, 2, 0., 1., &mut found, &mut x, &mut y), 3);
@@ -220,9 +222,10 @@ fn room_near_the_end_is_room() {
         assert_eq!(bar!(turning_apply, 2, &mut generation, own, 4, b, 2, is, len, xs, len, 1, 2, 0, at), 0);
         assert_eq!((cells, generation), ([5., 10., 0., 0.], 1));
         count = 0;
-        let room = rings.as_mut_ptr();
-        assert_eq!(bar!(turning_remove_ring, room, len, &mut count, &mut generation, 0., 1., 2., 3., at), 0);
+        let (room, mut told) = (rings.as_mut_ptr(), 7_usize);
+        assert_eq!(bar!(turning_remove_ring, room, len, &mut count, &mut generation, 0., 1., 2., 3., &mut told, at), 0);
         assert_eq!((count, generation, rings), (1, 2, [0., 1., 2., 3., 7., 7., 7., 7.]));
+        assert_eq!(told, 0);
         // the same list again: it is for the stock before; and as if it were for this one: the bin holds something else
         assert_eq!(bar!(turning_apply, 2, &mut generation, own, 4, b, 2, is, len, xs, len, 1, 2, 0, at), 19);
         assert_eq!(position, 7);
@@ -243,7 +246,7 @@ fn read_only_buffers_may_be_the_same() {
     assert_eq!((count, edition, generation), (0, 2, 5));
     assert_eq!(bar!(turning_volume, at, 4, at, 4, 1, &mut least, &mut greatest), 0);
     assert_eq!((least, greatest), (0., 0.));
-    assert_eq!(bar!(turning_from_parts, 2, &mut generation, at, 4, kept.as_mut_ptr(), 2, at, 4, rings.as_mut_ptr(), 4, &mut count, &mut position), 0);
+    assert_eq!(bar!(turning_from_parts, 2, &mut generation, at, 4, kept.as_mut_ptr(), 2, at, 4, rings.as_mut_ptr(), 4, &mut count, null_mut(), 0, &mut position), 0);
     assert_eq!((count, rings, position, generation), (1, both, 7, 0));
     // a cell without material, whose bore and outer radius are then kept
     assert_eq!(kept, [0., 10.]);

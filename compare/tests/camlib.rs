@@ -212,7 +212,9 @@ fn ranges_of_every_kind_are_reached() {
             one += (first == last) as usize;
         }
     }
-    for n in [1, 63, 64, 65, 127, 128, 129, 130, 192, 193, 4095, 4096] {
+    for n in [
+        1, 63, 64, 65, 127, 128, 129, 130, 192, 193, 4095, 4096, 4097, 16383, 16384,
+    ] {
         assert!(bins.contains(&n), "{n}");
     }
     let counts = [found, whole, empty, signed, one];
@@ -247,7 +249,7 @@ fn a_position_is_all_that_is_written() {
     }
 }
 
-/// 1 and 2 are camlib's, but for the limit of 4,096 cells and a count that camlib's cast brings down.
+/// 1 and 2 are camlib's, but for the limit of 16,384 cells and a count that camlib's cast brings down.
 #[test]
 fn camlib_refuses_the_spec_too() {
     for call in calls("stock") {
@@ -256,7 +258,7 @@ fn camlib_refuses_the_spec_too() {
         };
         let ours = stock::bar(&spec).map(|bar| bar.n).ok();
         let theirs = camlib_spec(&spec).validate().ok();
-        let theirs = theirs.filter(|n| *n <= 4096);
+        let theirs = theirs.filter(|n| *n <= 16384);
         assert_eq!(ours, theirs, "{spec:?}");
     }
 }
@@ -388,7 +390,7 @@ fn the_limit_of_pieces_is_reached() {
     let mut stored = BTreeSet::new();
     for call in calls("rings") {
         let outcome = answer(&call);
-        if let Ok(Answer::Stock(_, _, rings, _)) = &outcome {
+        if let Ok(Answer::Stock(_, _, rings, _, _)) = &outcome {
             stored.insert(rings.len());
         }
         let Call::RemoveRing {

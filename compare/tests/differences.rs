@@ -227,11 +227,11 @@ fn the_number_of_cells() {
     assert_eq!(camlib_spec(&infinite).validate(), Ok(usize::MAX));
     assert_eq!(here(Call::Validate { spec: infinite }), Err(2));
     let many = Spec {
-        z_max: 4097.,
-        max_cells: 4097,
+        z_max: 16385.,
+        max_cells: 16385,
         ..BAR
     };
-    assert_eq!(camlib_spec(&many).validate(), Ok(4097));
+    assert_eq!(camlib_spec(&many).validate(), Ok(16385));
     assert_eq!(here(Call::Validate { spec: many }), Err(2));
 }
 
@@ -329,7 +329,7 @@ fn kept_numbers_that_are_not_the_cells() {
             list: list(CELL, [5., 8., 0., 0.]),
         };
         match here(call) {
-            Ok(Answer::Stock(_, blocks, _, 1)) => {
+            Ok(Answer::Stock(_, blocks, _, 1, _)) => {
                 Ok(blocks.into_iter().map(f64::to_bits).collect())
             }
             Err(number) => Err(number),
@@ -402,7 +402,7 @@ fn minus_zero_in_a_spec() {
         cells_len: 4,
         blocks_len: 2,
     };
-    let Ok(Answer::Stock(cells, blocks, _, 0)) = here(call) else {
+    let Ok(Answer::Stock(cells, blocks, _, 0, _)) = here(call) else {
         panic!()
     };
     assert_eq!([cells[0][2], blocks[1]].map(f64::to_bits), [0; 2]);
@@ -675,7 +675,7 @@ fn a_list_for_another_stamp() {
     assert_eq!((ours.len(), stamp), (1, first));
     let kept = || list_of(&ours, stamp);
     let none = list_of(&[], first);
-    assert!(matches!(commit(first, none), Ok(Answer::Stock(_, _, _, 1))));
+    assert!(matches!(commit(first, none), Ok(Answer::Stock(_, _, _, 1, _))));
     assert_eq!(commit(second(0, 1), kept()), Err(19));
     assert_eq!(commit(second(1, 0), kept()), Err(19));
     // no change at all is a list too
@@ -688,7 +688,7 @@ fn a_list_for_another_stamp() {
         given: vec![],
         rings_len: 0,
     });
-    let new = Answer::Stock(vec![CELL], KEPT.to_vec(), vec![], 0);
+    let new = Answer::Stock(vec![CELL], KEPT.to_vec(), vec![], 0, vec![]);
     assert_eq!(rebuilt, Ok(new));
     assert!(commit(first, kept()).is_ok());
 }
@@ -723,7 +723,7 @@ fn a_move_for_another_stamp() {
 /// camlib's generation is its own, and nobody counts to its end.
 #[test]
 fn the_last_generation() {
-    let unchanged = |g| Ok(Answer::Stock(vec![CELL], KEPT.to_vec(), vec![], g));
+    let unchanged = |g| Ok(Answer::Stock(vec![CELL], KEPT.to_vec(), vec![], g, vec![]));
     assert_eq!(apply(u64::MAX - 1, List::default()), unchanged(u64::MAX));
     assert_eq!(apply(u64::MAX, List::default()), Err(12));
 }
@@ -764,7 +764,7 @@ fn the_257th_ring() {
     assert_eq!(stock.rings().len(), 257);
     assert_eq!(remove_ring(&rings, 2000, next), Err(11));
     let stored = remove_ring(&rings[1..], 2000, next);
-    assert!(matches!(stored, Ok(Answer::Stock(_, _, rings, 1)) if rings.len() == 256));
+    assert!(matches!(stored, Ok(Answer::Stock(_, _, rings, 1, _)) if rings.len() == 256));
 }
 
 /// 85 squares in a row and a slat cut a ring over all into 257 pieces in hand, though the bands that

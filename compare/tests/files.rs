@@ -1,7 +1,7 @@
-//! The reader and the writer of stock files that the calls are held against, by the words of Req 06 and Req 08.
-use compare::call::{Reason, Spec};
+//! The reader and the writer of stock files that the calls are held against, by the words of Req 06, Req 08 and Req 14.
+use compare::call::{Reason, Spec, Store};
 use compare::files::form::{MALFORMED, Read, in_form_1, lines};
-use compare::files::run::Reading;
+use compare::files::run::{Reading, Writing};
 use compare::oracle::stock::Bar;
 
 const EXAMPLE: &str = "\
@@ -60,9 +60,10 @@ fn with_first(change: impl Fn(&mut Vec<&str>)) -> String {
     format!("{}\n{rest}", fields.join("\t"))
 }
 
-/// Form 1 has no edition and is of edition 0; everything else in the place of form or edition is 16 at line 1.
+/// Form 1 has no edition and is of edition 0; everything else in the place of form or edition is 16 at line 1. Under form 3 an
+/// index of four digits is 16 at its line, and so is a ring before there are 4,097 cell lines.
 #[test]
-fn two_forms_are_read() {
+fn three_forms_are_read() {
     let older = with_first(|f| {
         f[1] = "1";
         f.pop();
@@ -80,7 +81,14 @@ fn two_forms_are_read() {
         assert_eq!((refused(&file), edition(&file)), (None, Some(said)));
     }
     let line_1 = Some((MALFORMED, Some(1)));
-    for form in ["0", "1", "3", "", "02", "2 ", " 2", "-2", "two"] {
+    let few = with_first(|f| f[1] = "3");
+    let five_digits = few.replace("cell\t", "cell\t0");
+    assert_eq!(refused(&few), Some((MALFORMED, Some(2))));
+    assert_eq!(refused(&five_digits), Some((MALFORMED, Some(5))));
+    assert_eq!(edition(&few), Some(0xC0DE_0002));
+    let without = few.replacen("\tC0DE0002", "", 1);
+    assert_eq!(refused(&without), line_1);
+    for form in ["0", "1", "4", "", "02", "03", "2 ", " 2", "-2", "two"] {
         let file = with_first(|f| f[1] = form);
         assert_eq!(refused(&file), line_1, "form {form:?} with an edition");
         let file = with_first(|f| {
@@ -166,4 +174,83 @@ fn refusals_have_their_order_and_their_line() {
     assert_eq!(number(end(EXAMPLE, 12, 12, 2)), Some(2));
     assert_eq!(number(end(EXAMPLE, 11, 12, 3)), Some(3));
     assert_eq!(number(end(EXAMPLE, 12, 11, 3)), Some(4));
+}
+
+/// A bar of so many bins of 1 mm.
+fn bar_of(n: usize) -> Spec {
+    Spec {
+        z_max: n as f64,
+        cell: 1.,
+        max_cells: n,
+        ..SPEC
+    }
+}
+
+/// Each of so many cells told apart.
+fn cells_of(n: usize) -> Vec<[f64; 4]> {
+    let cell = |i: usize| [1. + i as f64 / 16384., 9., 0., i as f64 / 32768.];
+    (0..n).map(cell).collect()
+}
+
+/// The number of cells says the form: 4,096 have four digits, 4,097 and 16,384 five. Such files are read and written by the
+/// calls, in parts of any size, and an end that is not theirs is refused.
+#[test]
+fn the_number_of_cells_says_the_form() {
+    for (n, form, index) in [
+        (4096, "2", "4095"),
+        (4097, "3", "04096"),
+        (16384, "3", "16383"),
+    ] {
+        let (spec, cells, rings) = (bar_of(n), cells_of(n), [[0., 6., 2., 6.]]);
+        let lines = lines(&spec, 7, &cells, &rings);
+        let text = lines.concat();
+        assert!(text.starts_with(&format!("stock\t{form}\t")));
+        assert!(lines[n].starts_with(&format!("cell\t{index}\t")));
+        assert_eq!(lines[n].len(), 74 + index.len());
+        assert_eq!(lines[n + 2], format!("end\t{}\n", n + 2));
+        for size in [1000, 4096, text.len()] {
+            let mut reading = Reading::fresh(4 * n, 4);
+            for part in text.as_bytes().chunks(size) {
+                assert_eq!(reading.take(part), 0);
+            }
+            assert_eq!(reading.end(n), (0, [Some(n), Some(1), Some(7), None]));
+            assert_eq!(reading.end(n - 1), (2, [None; 4]));
+            let bits = |x: &f64| x.to_bits();
+            assert!(
+                reading
+                    .cells
+                    .list()
+                    .iter()
+                    .copied()
+                    .eq(cells.as_flattened().iter().map(bits))
+            );
+        }
+        // without its last cell line the file breaks off, or 3 counts too few of them
+        let short: String = (lines[..n].iter().cloned())
+            .chain([format!("end\t{n}\n")])
+            .collect();
+        let mut reading = Reading::fresh(4 * n, 4);
+        let (part, whole) = match n {
+            4097 => (MALFORMED, (MALFORMED, [None, None, None, Some(n + 1)])),
+            _ => (0, (3, [None; 4])),
+        };
+        assert_eq!(reading.take(short.as_bytes()), part);
+        assert_eq!(reading.end(n), whole);
+        let store = Store {
+            rings: rings.as_flattened().to_vec(),
+            count: 1,
+        };
+        let writing = Writing {
+            spec,
+            edition: 7,
+            cells: cells.as_flattened(),
+            store: &store,
+        };
+        assert_eq!(writing.count(), (0, Some(n + 3)));
+        for (k, line) in lines.iter().enumerate() {
+            let mut lent = [0; 128];
+            assert_eq!(writing.put_line(k, &mut lent), (0, Some(line.len())));
+            assert_eq!(&lent[..line.len()], line.as_bytes());
+        }
+    }
 }

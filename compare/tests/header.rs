@@ -254,7 +254,7 @@ fn the_archive_is_of_this_header() {
     let number: u32 = number.split_whitespace().next().unwrap().parse().unwrap();
     // SAFETY: it takes nothing.
     assert_eq!(unsafe { compare::library::c::turning_header() }, number);
-    assert_eq!(number, 6);
+    assert_eq!(number, 7);
     assert_eq!(header()[NO_CALL], ("uint32_t".to_string(), vec![]));
 }
 

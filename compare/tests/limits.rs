@@ -1,15 +1,27 @@
 //! Each call at a limit of document 01 answers the number that 01 gives, and the position that 02
 //! gives, by the oracle and by the library.
 use compare::call::{Answer, Call, Reason};
-use compare::limits::{calls, checks, corners, edges, profiles, proposals, ranges};
+use compare::limits::{all_bins, calls, checks, corners, edges, profiles, proposals, ranges};
 use compare::oracle::{answer, full_look};
-use compare::run::difference;
+use compare::run::{difference, number};
 
 #[test]
 fn limits_are_where_01_has_them() {
     for (call, expected) in calls() {
         let outcome = answer(&call);
         assert_eq!(outcome.as_ref().err(), expected.as_ref(), "{}", call.name());
+        if let Some(text) = difference(&call, &outcome) {
+            panic!("{text}");
+        }
+    }
+}
+
+/// So do calls that change every bin of a long bar.
+#[test]
+fn all_bins_of_a_long_bar() {
+    for (call, expected) in all_bins() {
+        let outcome = answer(&call);
+        assert_eq!(number(&outcome), expected, "{}", call.name());
         if let Some(text) = difference(&call, &outcome) {
             panic!("{text}");
         }

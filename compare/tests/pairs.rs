@@ -1,4 +1,6 @@
 //! What differs between two stock files, over camlib: 02's own cases, and those of the gate.
+use compare::call::Spec;
+use compare::files::form::lines;
 use compare::pairs::oracle::{differences, text, told};
 use std::fs;
 use std::path::{Path, PathBuf};
@@ -45,7 +47,38 @@ fn the_gates_pairs_are_those_of_camlib() {
         wanted += &format!("{} {}\n", pair[0], pair[1]);
         wanted += &compared(&bytes(pair[0]), &bytes(pair[1]));
     }
+    for n in [4096, 4097] {
+        wanted += &long_pair(n);
+    }
     assert_eq!(fs::read_to_string(cases().join("stdout")).unwrap(), wanted);
+}
+
+/// What the gate's program writes of two stocks that it makes itself: the lines of the first and of the last bin.
+fn long_pair(n: usize) -> String {
+    let file = |x: f64| {
+        let spec = Spec {
+            z_min: 0.,
+            z_max: n as f64,
+            outer: 10.,
+            bore: 0.,
+            cell: 1.,
+            max_cells: n,
+        };
+        lines(&spec, 0, &vec![[x; 4]; n], &[]).concat().into_bytes()
+    };
+    let text = compared(&file(1.), &file(2.));
+    let lines: Vec<&str> = text.lines().collect();
+    assert_eq!(lines.len(), 2 * n);
+    let shown = [&lines[..2], &lines[2 * n - 2..]].concat().join("\n");
+    format!("bins {n}\n{shown}\n")
+}
+
+/// Every bin of the longest bars is told, with five digits.
+#[test]
+fn all_bins_of_the_longest_bars_are_told() {
+    let shown = long_pair(16384);
+    let last = shown.lines().last().unwrap();
+    assert!(last.starts_with("cell\t16383\t4000000000000000\t"));
 }
 
 #[test]

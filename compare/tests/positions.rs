@@ -39,7 +39,7 @@ fn every_number_is_there_at_several_places() {
         assert_eq!(places[&number].first(), Some(&0), "{number}");
     }
     for number in [7, 8, 21, 22, 23] {
-        assert_eq!(places[&number].last(), Some(&4095), "{number}");
+        assert_eq!(places[&number].last(), Some(&16383), "{number}");
     }
 }
 

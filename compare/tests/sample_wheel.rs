@@ -44,7 +44,7 @@ fn new(spec: Spec) -> Vec<f64> {
         blocks_len: 2 * n.div_ceil(64),
     };
     match answer(&call) {
-        Ok(Answer::Stock(cells, _, _, 0)) => cells.as_flattened().to_vec(),
+        Ok(Answer::Stock(cells, _, _, 0, _)) => cells.as_flattened().to_vec(),
         other => panic!("{other:?}"),
     }
 }
@@ -94,7 +94,7 @@ fn cut(call: Call) -> Vec<f64> {
         list,
     };
     match answer(&commit) {
-        Ok(Answer::Stock(cells, _, _, 8)) => cells.as_flattened().to_vec(),
+        Ok(Answer::Stock(cells, _, _, 8, _)) => cells.as_flattened().to_vec(),
         other => panic!("{other:?}"),
     }
 }
@@ -247,15 +247,19 @@ fn ring(rings: &[[f64; 4]], generation: u64, ring: [f64; 4]) -> Outcome {
 #[test]
 fn p11_p12_rings() {
     let first = ring(&[], 0, [0., 6., 2., 6.]);
-    let Ok(Answer::Stock(_, _, rings, 1)) = first else {
+    let Ok(Answer::Stock(_, _, rings, 1, tests)) = first else {
         panic!("{first:?}")
     };
+    assert_eq!(tests, [0]);
     let second = ring(&rings, 1, [3., 9., 4., 8.]);
     let three = vec![[0., 6., 2., 6.], [6., 9., 4., 8.], [3., 6., 6., 8.]];
-    let after = |generation| Ok(Answer::Stock(vec![], vec![], three.clone(), generation));
-    assert_eq!(second, after(2));
-    assert_eq!(ring(&three, 2, [1., 2., 3., 4.]), after(3));
-    assert_eq!(ring(&three, 3, [1., 2., 10., 12.]), after(3));
+    let after = |generation, tests| {
+        let (three, tests) = (three.clone(), vec![tests]);
+        Ok(Answer::Stock(vec![], vec![], three, generation, tests))
+    };
+    assert_eq!(second, after(2, 1));
+    assert_eq!(ring(&three, 2, [1., 2., 3., 4.]), after(3, 1));
+    assert_eq!(ring(&three, 3, [1., 2., 10., 12.]), after(3, 0));
 }
 
 #[test]
@@ -327,8 +331,10 @@ fn limits() {
         };
         answer(&Call::Validate { spec })
     };
-    assert_eq!(bins(4096., usize::MAX), Ok(Answer::Bins(4096)));
-    assert_eq!(bins(4097., usize::MAX), Err(2));
+    assert_eq!(bins(16384., usize::MAX), Ok(Answer::Bins(16384)));
+    assert_eq!(bins(16385., usize::MAX), Err(2));
+    assert_eq!(bins(16384., 16384), Ok(Answer::Bins(16384)));
+    assert_eq!(bins(16384., 16383), Err(2));
     assert_eq!(bins(512., 512), Ok(Answer::Bins(512)));
     assert_eq!(bins(513., 512), Err(2));
     let room_for = |indices: usize, records: usize| {
@@ -403,10 +409,12 @@ fn pieces_in_hand() {
         rings
     };
     let whole = [0., 9., 0., 10.];
-    let Ok(Answer::Stock(_, _, rings, 1)) = ring(&store(85, 0), 0, whole) else {
+    let Ok(Answer::Stock(_, _, rings, 1, tests)) = ring(&store(85, 0), 0, whole) else {
         panic!()
     };
     assert_eq!(rings.len(), 87 + 86);
+    // 1, 4, .., 253 before the squares, 10,795 in all, then 256 and 171 before the bands.
+    assert_eq!(tests, [10795 + 256 + 171]);
     assert_eq!(ring(&store(85, 1), 0, whole), Err(11));
     assert_eq!(ring(&store(85, 1), u64::MAX, whole), Err(12));
 }

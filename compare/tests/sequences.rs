@@ -207,14 +207,15 @@ fn a_wrong_refusal_shrinks_to_one_call() {
 #[test]
 fn a_wrong_commit_shrinks_to_a_preview_and_a_commit() {
     let wrong = |call: &Call, outcome: Outcome| match (call, &outcome) {
-        (Call::Apply { cells, list, .. }, Ok(Answer::Stock(after, blocks, rings, generation)))
+        (Call::Apply { cells, list, .. }, Ok(Answer::Stock(after, blocks, rings, generation, tests)))
             if list.changes > 1 =>
         {
             let mut after = after.clone();
             let last = list.indices[list.changes - 1];
             after[last] = cells.as_chunks::<4>().0[last];
             let (blocks, rings) = (blocks.clone(), rings.clone());
-            Ok(Answer::Stock(after, blocks, rings, *generation))
+            let tests = tests.clone();
+            Ok(Answer::Stock(after, blocks, rings, *generation, tests))
         }
         _ => outcome,
     };
@@ -228,9 +229,10 @@ fn a_wrong_commit_shrinks_to_a_preview_and_a_commit() {
 #[test]
 fn a_wrong_renewal_shrinks_to_a_preview_and_a_commit() {
     let wrong = |call: &Call, outcome: Outcome| match (call, &outcome) {
-        (Call::Apply { blocks, .. }, Ok(Answer::Stock(cells, _, rings, generation))) => {
+        (Call::Apply { blocks, .. }, Ok(Answer::Stock(cells, _, rings, generation, tests))) => {
             let (cells, rings) = (cells.clone(), rings.clone());
-            Ok(Answer::Stock(cells, blocks.clone(), rings, *generation))
+            let (blocks, tests) = (blocks.clone(), tests.clone());
+            Ok(Answer::Stock(cells, blocks, rings, *generation, tests))
         }
         _ => outcome,
     };
@@ -288,9 +290,10 @@ fn a_wrong_covered_ring_shrinks_to_two_rings() {
             Call::RemoveRing {
                 store, generation, ..
             },
-            Ok(Answer::Stock(_, _, rings, raised)),
+            Ok(Answer::Stock(_, _, rings, raised, tests)),
         ) if rings.len() == store.count && raised > generation => {
-            Ok(Answer::Stock(vec![], vec![], rings.clone(), *generation))
+            let (rings, tests) = (rings.clone(), tests.clone());
+            Ok(Answer::Stock(vec![], vec![], rings, *generation, tests))
         }
         _ => outcome,
     };
@@ -336,7 +339,7 @@ fn the_limits_of_rings_are_reached() {
     let refused = RefCell::new(BTreeMap::<(usize, usize), usize>::new());
     let see = |call: &Call, outcome: Outcome| {
         match &outcome {
-            Ok(Answer::Stock(_, _, rings, _)) => {
+            Ok(Answer::Stock(_, _, rings, _, _)) => {
                 *stored.borrow_mut().entry(rings.len()).or_default() += 1;
             }
             Err(Reason { number: 11, .. }) => {

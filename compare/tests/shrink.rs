@@ -41,7 +41,7 @@ fn a_nose_shrinks_to_one_segment() {
 #[test]
 fn a_store_shrinks_to_one_ring() {
     let fails = |call: &Call| match (call, answer(call)) {
-        (Call::RemoveRing { store, .. }, Ok(Answer::Stock(_, _, rings, _))) => {
+        (Call::RemoveRing { store, .. }, Ok(Answer::Stock(_, _, rings, _, _))) => {
             rings.len() > store.count + 1
         }
         _ => false,

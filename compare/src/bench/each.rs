@@ -12,7 +12,7 @@ type Row = (
 );
 
 #[rustfmt::skip]
-const EACH: [Row; 46] = [
+const EACH: [Row; 76] = [
     ("root", "1,024 of shop size", 1024, sides::root),
     ("length", "1,024 of shop size", 1024, sides::length),
     ("validate", "4,096 bins", 4096, sides::validate),
@@ -59,6 +59,36 @@ const EACH: [Row; 46] = [
     ("read_end", "4,096 cells and 256 rings", 4096, sides::read_end),
     ("stock_lines", "4,096 cells and 256 rings", 4096, sides::stock_lines),
     ("stock_line", "every line of 4,096 cells and 256 rings, with `stock_lines`", 4096, sides::stock_line),
+    ("validate", "16,384 bins", 16384, sides::validate),
+    ("new", "16,384 bins", 16384, sides::new),
+    ("preview", "1 segment over 16,384 bins", 16384, sides::preview_bins),
+    ("preview_polygon", "4 points over 16,384 bins", 16384, sides::polygon_bins),
+    ("thread_cut", "16,384 bins", 16384, sides::thread_cut),
+    ("thread_cut_inner", "16,384 bins", 16384, sides::thread_cut_inner),
+    ("drill", "16,384 bins", 16384, sides::drill),
+    ("apply", "16,384 changes of 16,384 bins", 16384, sides::apply),
+    ("apply", "1 change of 16,384 bins", 16384, sides::apply_one),
+    ("changes_to", "8,192 of 16,384 bins differ", 16384, sides::changes_to),
+    ("volume", "16,384 bins, no ring", 16384, sides::volume_bins),
+    ("envelope_at", "16,384 bins", 16384, sides::envelope_at),
+    ("renew", "16,384 bins; the Rust walks each block", 16384, sides::renew),
+    ("range", "16,382 of 16,384 bins; the Rust walks them", 16384, sides::range),
+    ("check_passes", "128 lines, each over 16,384 bins", 16384, sides::check_long),
+    ("check_passes", "128 lines, each over 32 of 16,384 bins", 16384, sides::check_short),
+    ("check_passes", "no cuts, 16,384 bins", 16384, sides::check_nothing),
+    ("propose_passes", "128 steps of 16,384 bins; the Rust is the rule's", 16384, sides::propose_passes),
+    ("read_part", "and `read_end`, a file of 16,384 cells and 256 rings", 16384, sides::read_file),
+    ("read_end", "16,384 cells and 256 rings", 16384, sides::read_end),
+    ("stock_lines", "16,384 cells and 256 rings", 16384, sides::stock_lines),
+    ("stock_line", "every line of 16,384 cells and 256 rings, with `stock_lines`", 16384, sides::stock_line),
+    ("preview", "1 segment over 64 bins", 64, sides::preview_bins),
+    ("preview_polygon", "4 points over 64 bins", 64, sides::polygon_bins),
+    ("thread_cut", "64 bins", 64, sides::thread_cut),
+    ("drill", "64 bins", 64, sides::drill),
+    ("check_passes", "128 lines, each over 32 of 64 bins", 64, sides::check_short),
+    ("check_passes", "no cuts, 64 bins", 64, sides::check_nothing),
+    ("preview", "1 segment over 1,024 bins", 1024, sides::preview_bins),
+    ("preview_polygon", "4 points over 1,024 bins", 1024, sides::polygon_bins),
 ];
 
 /// The names of the calls that the table has.

@@ -8,7 +8,7 @@ type Make = fn(usize) -> Sides<'static>;
 /// What grows, how far, the calls, and which of them the picture has.
 struct Growth {
     what: &'static str,
-    sizes: [usize; 4],
+    sizes: &'static [usize],
     calls: &'static [(&'static str, Make)],
     drawn: usize,
 }
@@ -28,6 +28,16 @@ const BINS: &[(&str, Make)] = &[
     ("envelope_at", sides::envelope_at),
     ("renew, all blocks; the Rust walks each", sides::renew),
     ("range, all bins but two; the Rust walks them", sides::range),
+    (
+        "check_passes, 128 lines, each over 32 bins",
+        sides::check_short,
+    ),
+    (
+        "propose_passes, 128 steps; the Rust is the rule's",
+        sides::propose_passes,
+    ),
+    ("stock file read, 256 rings", sides::read_file),
+    ("stock file written, 256 rings", sides::stock_line),
 ];
 const SEGMENTS: &[(&str, Make)] = &[("preview, a chain over 1,024 bins", sides::preview_segments)];
 const RINGS: &[(&str, Make)] = &[
@@ -54,31 +64,31 @@ const CORNERS: &[(&str, Make)] = &[("preview_polygon, 1,024 bins", sides::polygo
 const GROWTHS: [Growth; 5] = [
     Growth {
         what: "bins",
-        sizes: [64, 256, 1024, 4096],
+        sizes: &[64, 256, 1024, 4096, 16384],
         calls: BINS,
         drawn: 0,
     },
     Growth {
         what: "segments",
-        sizes: [1, 4, 16, 64],
+        sizes: &[1, 4, 16, 64],
         calls: SEGMENTS,
         drawn: 0,
     },
     Growth {
         what: "stored rings",
-        sizes: [0, 16, 64, 255],
+        sizes: &[0, 16, 64, 255],
         calls: RINGS,
         drawn: 0,
     },
     Growth {
         what: "envelope points",
-        sizes: [2, 16, 128, 1024],
+        sizes: &[2, 16, 128, 1024],
         calls: POINTS,
         drawn: 3,
     },
     Growth {
         what: "polygon points",
-        sizes: [3, 8, 24, 64],
+        sizes: &[3, 8, 24, 64],
         calls: CORNERS,
         drawn: usize::MAX,
     },
@@ -100,27 +110,30 @@ pub fn growth(word: &str) -> String {
             continue;
         }
         println!("## Growth with {}\n", growth.what);
-        println!(
-            "| call | side | {} |",
-            sizes.map(|n| n.to_string()).join(" | ")
-        );
+        let head: Vec<String> = sizes.iter().map(usize::to_string).collect();
+        println!("| call | side | {} |", head.join(" | "));
         println!("|---|---|{}", "---|".repeat(sizes.len()));
         for (k, (name, make)) in calls {
             eprintln!("{name}, by {}", growth.what);
-            let times = sizes.map(|size| both(times(make(size))));
+            let times: Vec<_> = sizes.iter().map(|n| both(times(make(*n)))).collect();
             for (k, side) in ["Rust", "library"].iter().enumerate() {
-                let shown = times.map(|t| t[k].map_or(String::new(), |t| t.shown()));
+                let shown = times
+                    .iter()
+                    .map(|t| t[k].map_or(String::new(), |t| t.shown()));
+                let shown: Vec<String> = shown.collect();
                 println!("| {name} | {side} | {} |", shown.join(" | "));
             }
-            let ratios = times
-                .map(|[rust, ours]| super::ratio([rust, None, ours].map(|t| t.map(|t| t.median))));
+            let ratio = |[rust, ours]: &[Option<Time>; 2]| {
+                super::ratio([*rust, None, *ours].map(|t| t.map(|t| t.median)))
+            };
+            let ratios: Vec<String> = times.iter().map(ratio).collect();
             println!("| {name} | library / Rust | {} |", ratios.join(" | "));
             if k == growth.drawn {
                 panels.push(Panel {
                     title: name.to_string(),
                     what: growth.what.to_string(),
                     sizes,
-                    lines: [0, 1].map(|k| times.map(|t| t[k].map(|t| t.median))),
+                    lines: [0, 1].map(|k| times.iter().map(|t| t[k].map(|t| t.median)).collect()),
                 });
             }
         }

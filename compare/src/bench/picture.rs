@@ -5,8 +5,8 @@ use std::fmt::Write;
 pub struct Panel {
     pub title: String,
     pub what: String,
-    pub sizes: [usize; 4],
-    pub lines: [[Option<f64>; 4]; 2],
+    pub sizes: &'static [usize],
+    pub lines: [Vec<Option<f64>>; 2],
 }
 
 const WIDTH: f64 = 400.;
@@ -28,7 +28,7 @@ struct Axes {
 }
 
 /// The place of a size on its axis; 0 has a place of its own, before the first.
-fn place(size: usize, sizes: [usize; 4]) -> f64 {
+fn place(size: usize, sizes: &[usize]) -> f64 {
     match size {
         0 => (sizes[1] as f64).log10() - ((sizes[2] / sizes[1]) as f64).log10(),
         size => (size as f64).log10(),
@@ -38,13 +38,13 @@ fn place(size: usize, sizes: [usize; 4]) -> f64 {
 impl Axes {
     fn new(panel: &Panel, x: f64, y: f64) -> Self {
         let at = |k: usize| place(panel.sizes[k], panel.sizes);
-        let times = panel.lines.as_flattened().iter().flatten();
+        let times = panel.lines.iter().flatten().flatten();
         let (low, high) = times.fold((f64::INFINITY, 0_f64), |(l, h), t| (l.min(*t), h.max(*t)));
         let decades = [low.max(1e-3).log10().floor(), high.max(1e-2).log10().ceil()];
         Self {
             x,
             y,
-            sizes: [at(0), at(3)],
+            sizes: [at(0), at(panel.sizes.len() - 1)],
             decades,
         }
     }
@@ -106,7 +106,7 @@ fn draw(svg: &mut String, panel: &Panel, x: f64, y: f64) {
         power += 1.;
     }
     for size in panel.sizes {
-        let at = axes.across(place(size, panel.sizes));
+        let at = axes.across(place(*size, panel.sizes));
         line(svg, [at, top], [at, bottom], "#dddddd");
         text(svg, at, bottom + 16., "middle", 11, &size.to_string());
     }

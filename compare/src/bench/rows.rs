@@ -6,6 +6,7 @@ use crate::call::{Call, List, Room, Simple, Spec, Stamp};
 use crate::generate::Rng;
 use crate::generate::numbers::{parts, radicand};
 use crate::guess;
+use crate::oracle::MOST_CELLS;
 use crate::oracle::cuts::{segment, stock_with_length};
 use crate::oracle::ranges::blocks;
 use crate::oracle::stock::{Bar, bar, camlib_spec, camlib_stock, fresh, to_camlib};
@@ -21,7 +22,7 @@ pub fn spec(cells: usize, outer: f64, bore: f64) -> Spec {
         outer,
         bore,
         cell: 0.125,
-        max_cells: 4096,
+        max_cells: MOST_CELLS,
     }
 }
 
@@ -87,30 +88,36 @@ fn numbers(table: &Table) {
     }
 }
 
-/// The fit of 4,096 cells, threads, the drill.
+/// The fit of all cells.
+fn fit(table: &Table, bar: &Bar, count: &str) {
+    let cells = fresh(bar);
+    let camlib_cells: Vec<_> = cells.iter().map(to_camlib).collect();
+    let name = format!("fit of {count} cells: apply of no changes, from_parts");
+    table.row(&name, || {
+        [
+            side(1, || {
+                TurnStock::from_parts(camlib_spec(&bar.spec), camlib_cells.clone(), vec![])
+            }),
+            None,
+            library_side(Call::Apply {
+                spec: bar.spec,
+                stamp: Stamp::default(),
+                cells: cells.as_flattened().to_vec(),
+                blocks: blocks(bar, &cells),
+                list: List::default(),
+            }),
+        ]
+    });
+}
+
+/// The fit of the cells, threads, the drill.
 fn cells(table: &Table, bar: &Bar) {
+    fit(table, bar, "4,096");
+    let most = crate::oracle::stock::bar(&spec(MOST_CELLS, 50., 0.)).unwrap();
+    fit(table, &most, "16,384");
     let cells = fresh(bar);
     let lent = || cells.as_flattened().to_vec();
-    let camlib_cells: Vec<_> = cells.iter().map(to_camlib).collect();
     let stock = camlib_stock(bar, &cells, &[]);
-    table.row(
-        "fit of 4,096 cells: apply of no changes, from_parts",
-        || {
-            [
-                side(1, || {
-                    TurnStock::from_parts(camlib_spec(&bar.spec), camlib_cells.clone(), vec![])
-                }),
-                None,
-                library_side(Call::Apply {
-                    spec: bar.spec,
-                    stamp: Stamp::default(),
-                    cells: lent(),
-                    blocks: blocks(bar, &cells),
-                    list: List::default(),
-                }),
-            ]
-        },
-    );
     table.row("changes_to, 4,096 cells, none differ", || {
         [
             side(1, || stock.changes_to(black_box(&stock))),

@@ -1,4 +1,5 @@
 //! Times of a stock file, read and written by the C calls and by a plain reader and writer in std Rust.
+use super::form::written;
 use super::run::{Reading, Writing};
 use crate::call::{Spec, Store};
 use std::fmt::Write;
@@ -51,7 +52,9 @@ pub fn plain_read(text: &str) -> Option<([f64; 5], u32, Vec<f64>, Vec<f64>)> {
 
 /// A file's text.
 pub fn plain_write(bar: &[f64; 5], cells: &[f64], rings: &[f64]) -> String {
-    let mut text = String::from("stock\t2");
+    let form = written(cells.len() / 4);
+    let digits = if form == 3 { 5 } else { 4 };
+    let mut text = format!("stock\t{form}");
     let put = |text: &mut String, numbers: &[f64]| {
         for x in numbers {
             write!(text, "\t{:016X}", x.to_bits()).unwrap();
@@ -62,7 +65,7 @@ pub fn plain_write(bar: &[f64; 5], cells: &[f64], rings: &[f64]) -> String {
     text.pop();
     writeln!(text, "\t{EDITION:08X}").unwrap();
     for (i, cell) in cells.chunks(4).enumerate() {
-        write!(text, "cell\t{i:04}").unwrap();
+        write!(text, "cell\t{i:0digits$}").unwrap();
         put(&mut text, cell);
     }
     for ring in rings.chunks(4) {
@@ -139,7 +142,7 @@ pub fn bench() {
     println!("## Stock files\n");
     println!("Processor time, the least of {RUNS} runs that take turns.\n");
     println!("| file | side | MB/s | ms |\n|---|---|---|---|");
-    for (n, m) in [(512, 64), (4096, 256)] {
+    for (n, m) in [(512, 64), (4096, 256), (16384, 256)] {
         let (spec, cells, store) = stock(n, m);
         let bar = [spec.z_min, spec.z_max, spec.outer, spec.bore, spec.cell];
         let text = plain_write(&bar, &cells, &store.rings);

@@ -1,5 +1,5 @@
-//! A stock file read and written, from the words of Req 06 and Req 08 of 02: lines parted by newlines, fields by tabs. The form that
-//! is written has an edition; the one before it is read as of edition 0.
+//! A stock file read and written, from the words of Req 06, 08 and 14 of 02: lines parted by newlines, fields by tabs. The forms that
+//! are written have an edition, and the number of cells says which it is; the one before them is read as of edition 0.
 use crate::call::{Reason, Spec, Store};
 use crate::oracle::stock::{Bar, bar, cells as cells_of};
 use crate::oracle::{CELLS, MOST_RINGS, rings::stored};
@@ -7,8 +7,41 @@ use crate::oracle::{CELLS, MOST_RINGS, rings::stored};
 /// 16: a line that is not of the form, or is missing.
 pub const MALFORMED: u32 = 16;
 
-/// Four digits have no index after 9999.
-const MOST_CELL_LINES: usize = 10_000;
+/// A stock of so many cells at most has indices of four digits.
+const FEW_CELLS: usize = 4096;
+
+/// What a form fixes: the digits of an index, and how many cell lines there are at least and at most.
+struct Form {
+    digits: usize,
+    least: usize,
+    most: usize,
+}
+
+impl Form {
+    fn of(number: u64) -> Self {
+        match number {
+            3 => Self {
+                digits: 5,
+                least: FEW_CELLS + 1,
+                most: 100_000,
+            },
+            _ => Self {
+                digits: 4,
+                least: 0,
+                most: FEW_CELLS,
+            },
+        }
+    }
+
+    fn index(&self, i: usize) -> String {
+        format!("{i:0width$}", width = self.digits)
+    }
+}
+
+/// The form that a stock of so many cells is written in.
+pub fn written(cells: usize) -> u64 {
+    if cells <= FEW_CELLS { 2 } else { 3 }
+}
 
 /// What every pattern of a NaN counts as: which one the room holds is left open.
 pub const NAN: u64 = 0x7FF8_0000_0000_0000;
@@ -16,7 +49,7 @@ pub const NAN: u64 = 0x7FF8_0000_0000_0000;
 /// What the first line says.
 #[derive(Clone, Copy, Debug, PartialEq)]
 pub struct First {
-    /// 1 or 2.
+    /// 1, 2 or 3.
     pub form: u64,
     /// The five numbers, by their bits.
     pub bar: [u64; 5],
@@ -53,11 +86,12 @@ fn number(field: &str) -> Option<u64> {
     }
 }
 
-/// The first line: form 1 has seven fields and is of edition 0, form 2 has eight.
+/// The first line: form 1 has seven fields and is of edition 0, forms 2 and 3 have eight.
 fn first(fields: &[&str]) -> Option<First> {
     let (form, edition) = match fields {
         ["stock", "1", _, _, _, _, _] => (1, 0),
         ["stock", "2", _, _, _, _, _, edition] => (2, digits(edition, 8)? as u32),
+        ["stock", "3", _, _, _, _, _, edition] => (3, digits(edition, 8)? as u32),
         _ => return None,
     };
     let bar = numbers(&fields[2..7])?;
@@ -80,15 +114,16 @@ impl Read {
     /// One line more; none where it is not of the form.
     fn line(&mut self, line: &str, cells: &mut [u64], rings: &mut [u64]) -> Option<()> {
         let fields: Vec<&str> = line.split('\t').collect();
+        let form = Form::of(self.first.map_or(1, |first| first.form));
         match (self.first, fields[0]) {
             _ if self.ended => return None,
             (None, _) => self.first = Some(first(&fields)?),
-            (Some(_), "cell") if self.ring_lines == 0 && self.cell_lines < MOST_CELL_LINES => {
-                let index = format!("{:04}", self.cell_lines);
-                (*fields.get(1)? == index).then_some(())?;
+            (Some(_), "cell") if self.ring_lines == 0 && self.cell_lines < form.most => {
+                (*fields.get(1)? == form.index(self.cell_lines)).then_some(())?;
                 write(cells, self.cell_lines, numbers(&fields[2..])?);
                 self.cell_lines += 1;
             }
+            (Some(_), _) if self.cell_lines < form.least => return None,
             (Some(_), "ring") => {
                 let ring = numbers(&fields[1..])?;
                 if self.ring_lines < MOST_RINGS {
@@ -164,9 +199,10 @@ fn fields(numbers: &[f64]) -> String {
         .collect()
 }
 
-/// The line of bin i's cell.
-pub fn cell_line(i: usize, cell: &[f64; 4]) -> String {
-    format!("cell\t{i:04}{}\n", fields(cell))
+/// The line of bin i's cell, in the file of a stock of so many.
+pub fn cell_line(i: usize, cells: usize, cell: &[f64; 4]) -> String {
+    let index = Form::of(written(cells)).index(i);
+    format!("cell\t{index}{}\n", fields(cell))
 }
 
 /// A ring's line.
@@ -177,8 +213,10 @@ pub fn ring_line(ring: &[f64; 4]) -> String {
 /// The lines of a stock's file, each with its newline.
 pub fn lines(spec: &Spec, edition: u32, cells: &[[f64; 4]], rings: &[[f64; 4]]) -> Vec<String> {
     let bar = [spec.z_min, spec.z_max, spec.outer, spec.bore, spec.cell].map(|x| x + 0.);
-    let mut lines = vec![format!("stock\t2{}\t{edition:08X}\n", fields(&bar))];
-    lines.extend(cells.iter().enumerate().map(|(i, c)| cell_line(i, c)));
+    let form = written(cells.len());
+    let mut lines = vec![format!("stock\t{form}{}\t{edition:08X}\n", fields(&bar))];
+    let line = |(i, c): (usize, &[f64; 4])| cell_line(i, cells.len(), c);
+    lines.extend(cells.iter().enumerate().map(line));
     lines.extend(rings.iter().map(ring_line));
     lines.push(format!("end\t{}\n", lines.len()));
     lines

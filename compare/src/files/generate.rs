@@ -4,7 +4,7 @@ use crate::call::Spec;
 use crate::generate::Rng;
 use crate::generate::rings::side_by_side;
 use crate::generate::sequence::sequence;
-use crate::generate::stock::damaged_spec;
+use crate::generate::stock::{damaged_spec, good_cells, long_bar};
 use crate::oracle::stock::bar;
 use crate::sequence::left_by;
 
@@ -20,8 +20,23 @@ pub struct Stock {
 /// Stocks of more cells than this are taken now and then only.
 const FEW: usize = 40;
 
-/// What a sequence of calls leaves.
+/// A stock on a bar of many cells or of the most, in either form.
+fn long_stock(rng: &mut Rng) -> Stock {
+    let base = long_bar(rng);
+    let rings = rng.pick(&[0, 1, 3, 256]);
+    Stock {
+        spec: base.spec,
+        edition: rng.word() as u32,
+        cells: good_cells(rng, &base),
+        rings: side_by_side(&base, rings),
+    }
+}
+
+/// What a sequence of calls leaves; now and then a long stock.
 pub fn stock(rng: &mut Rng) -> Stock {
+    if rng.once_in(200) {
+        return long_stock(rng);
+    }
     loop {
         let sequence = sequence(rng);
         if sequence.cells.len() > 4 * FEW && !rng.once_in(50) {

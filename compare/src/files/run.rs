@@ -9,7 +9,7 @@ use crate::library::c::{
     turning_read_end, turning_read_part, turning_stock_line, turning_stock_lines,
 };
 use crate::oracle::stock::{bar, camlib_stock, cells, from_camlib};
-use crate::oracle::{CELLS, MOST_RINGS, STORED, rings::stored};
+use crate::oracle::{CELLS, MANY_CELLS, MOST_CELLS, MOST_RINGS, STORED, rings::stored};
 use crate::run::{SHOWN, Source};
 use crate::stack::used_by;
 
@@ -440,7 +440,7 @@ impl Source for Files {
         let n = stock.cells.len();
         let most = match self.rng.below(6) {
             0 => n - n.min(1),
-            1 => 4096,
+            1 => self.rng.pick(&[MANY_CELLS, MOST_CELLS]),
             2 => n,
             _ => stock.spec.max_cells,
         };

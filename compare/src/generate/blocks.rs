@@ -3,17 +3,27 @@ use super::Rng;
 use super::numbers::{any, outside};
 use super::stock::{base, bin_edge, damaged_cells, damaged_spec, good_cells, random_cell, z_near};
 use crate::call::{Call, Spec};
-use crate::oracle::MOST_CELLS;
 use crate::oracle::ranges::{BLOCK, blocks};
 use crate::oracle::stock::{Bar, bar, fresh};
+use crate::oracle::{MANY_CELLS, MOST_CELLS};
 
 type Cell = [f64; 4];
 
 /// About as many bins as one block, two or three have.
 const BINS: [usize; 13] = [1, 2, 62, 63, 64, 65, 66, 127, 128, 129, 130, 192, 193];
 
-/// As many bins as there may be, and one fewer.
-const MOST: [usize; 2] = [MOST_CELLS - 1, MOST_CELLS];
+/// Many bins, and now and then as many as there may be and one fewer.
+const MOST: [usize; 9] = [
+    MANY_CELLS - 1,
+    MANY_CELLS,
+    MANY_CELLS - 1,
+    MANY_CELLS,
+    MANY_CELLS - 1,
+    MANY_CELLS,
+    MANY_CELLS + 1,
+    MOST_CELLS - 1,
+    MOST_CELLS,
+];
 
 /// A bar that is accepted, as a rule of about so many bins as blocks have; the last bin may round to be
 /// one more, empty or turned about.

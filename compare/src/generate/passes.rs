@@ -9,17 +9,17 @@ use crate::call::{Call, PassRoom, Passes, Spec, Stamp};
 use crate::oracle::cuts::stock_with_length;
 use crate::oracle::passes::{cells_of, inside, turn};
 use crate::oracle::stock::{Bar, bar, fresh};
-use crate::oracle::{MOST_CELLS, MOST_PASSES, clean};
+use crate::oracle::{MANY_CELLS, MOST_CELLS, MOST_PASSES, clean};
 
 type Cell = [f64; 4];
 
-/// A bar of 1 to 130 bins, now and then of the most.
+/// A bar of 1 to 130 bins, now and then of many or of the most.
 fn bar_of_passes(rng: &mut Rng) -> Bar {
     if rng.once_in(2) {
         return base(rng);
     }
     let n = match rng.below(1000) {
-        0 => MOST_CELLS,
+        0 => rng.pick(&[MANY_CELLS, MANY_CELLS, MANY_CELLS + 1, MOST_CELLS]),
         _ => 1 + rng.below(130),
     };
     bar_of(rng, n)

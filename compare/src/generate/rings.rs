@@ -91,7 +91,7 @@ fn disjoint(base: &Bar, given: Vec<Ring>) -> Vec<Ring> {
             rings_len: 4 * MOST_RINGS,
         };
         match answer(&call) {
-            Ok(Answer::Stock(_, _, rings, _)) => return rings,
+            Ok(Answer::Stock(_, _, rings, _, _)) => return rings,
             _ if given.is_empty() => return vec![],
             _ => given.truncate(given.len() / 2),
         }

@@ -5,7 +5,7 @@ use super::changes::stamp;
 use super::numbers::{any, damaged, edge, outside};
 use crate::call::{Answer, Call, Room, Simple, Spec, Stamp};
 use crate::oracle::stock::{Bar, bar, fresh};
-use crate::oracle::{MOST_CELLS, answer};
+use crate::oracle::{MANY_CELLS, MOST_CELLS, answer};
 
 const fn spec(z_min: f64, z_max: f64, outer: f64, bore: f64, cell: f64) -> Spec {
     Spec {
@@ -70,12 +70,23 @@ fn decimal(rng: &mut Rng) -> Spec {
     spec(start / unit, end / unit, 10., bore, cell / unit)
 }
 
-/// A bar of as many cells as there may be, or nearly.
+/// A bar of many cells, now and then of more, up to as many as there may be.
 fn long(rng: &mut Rng) -> Spec {
-    let n = (MOST_CELLS - rng.below(2)) as f64;
+    let n = match rng.below(12) {
+        0 => MOST_CELLS - rng.below(2),
+        1 => MANY_CELLS + 1 + rng.below(MOST_CELLS - MANY_CELLS),
+        2 => MANY_CELLS + 1,
+        _ => MANY_CELLS - rng.below(2),
+    };
+    let n = n as f64;
     let cell = rng.pick(&[0.125, 0.25, 1.]);
     let z_min = rng.pick(&[0., -8., 100.]);
     spec(z_min, z_min + n * cell, 50., rng.pick(&[0., 10.]), cell)
+}
+
+/// A bar that is accepted, of many cells or of the most.
+pub fn long_bar(rng: &mut Rng) -> Bar {
+    base_or_long(rng, 1)
 }
 
 /// A bar that is accepted; now and then a long one.
@@ -108,7 +119,7 @@ pub fn damaged_spec(rng: &mut Rng, base: &Bar) -> Spec {
     let mut s = base.spec;
     match rng.below(100) {
         0 => s.max_cells = base.n - 1,
-        1 => s.max_cells = rng.pick(&[0, 1, MOST_CELLS]),
+        1 => s.max_cells = rng.pick(&[0, 1, MANY_CELLS, MOST_CELLS]),
         2 => s.bore = rng.pick(&[s.outer, -s.outer, s.outer.next_up(), -f64::from_bits(1)]),
         3 => s.cell = rng.pick(&[0., -0., -s.cell, f64::from_bits(1), f64::INFINITY]),
         4 => s.z_max = rng.pick(&[s.z_min, s.z_min.next_down(), s.z_max + s.cell]),
@@ -311,7 +322,15 @@ pub fn stock_call(rng: &mut Rng) -> Call {
             spec,
             i: match rng.below(8) {
                 0 => base.n,
-                1 => rng.pick(&[0, base.n - 1, base.n + 1, usize::MAX, 4095, 4096]),
+                1 => rng.pick(&[
+                    0,
+                    base.n - 1,
+                    base.n + 1,
+                    usize::MAX,
+                    MANY_CELLS,
+                    MOST_CELLS - 1,
+                    MOST_CELLS,
+                ]),
                 _ => rng.below(base.n),
             },
         },

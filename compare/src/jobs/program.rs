@@ -138,7 +138,7 @@ impl Job {
             ring,
         };
         let outcome = oracle::answer(&call).map_err(|reason| reason.number);
-        let Answer::Stock(_, _, rings, generation) = outcome? else {
+        let Answer::Stock(_, _, rings, generation, _) = outcome? else {
             unreachable!()
         };
         self.generation = generation;

@@ -3,8 +3,8 @@ use super::{STAMP, bar, kept, stamp, whole};
 use crate::call::{Call, PassRoom, Passes, Spec, Verdict};
 use crate::oracle::ranges::blocks_len;
 use crate::oracle::{
-    ARC, ARGUMENT, BLOCKS, CELLS, GENERATION, MILLION, MOST_CELLS, MOST_PASSES, MOST_POINTS,
-    MOST_SEGMENTS, TARGETS,
+    ARC, ARGUMENT, BLOCKS, CELLS, GENERATION, MANY_CELLS, MILLION, MOST_CELLS, MOST_PASSES,
+    MOST_POINTS, MOST_SEGMENTS, TARGETS,
 };
 
 /// A check or its refusal, by name.
@@ -25,6 +25,15 @@ fn checked(n: usize, passes: Passes) -> Call {
     }
 }
 
+/// A check of cuts on such a bar with other targets.
+pub fn on_bar(n: usize, targets: Vec<f64>, passes: Passes) -> Call {
+    changed(n, passes, |call| {
+        if let Call::CheckPasses { targets: lent, .. } = call {
+            lent.clone_from(&targets);
+        }
+    })
+}
+
 /// So many level lines over bin 1, each a little deeper.
 fn lines(count: usize) -> Passes {
     let mut passes = Passes::default();
@@ -43,11 +52,7 @@ fn changed(n: usize, passes: Passes, change: impl Fn(&mut Call)) -> Call {
 }
 
 fn with_targets(n: usize, targets: Vec<f64>) -> Call {
-    changed(n, lines(1), |call| {
-        if let Call::CheckPasses { targets: lent, .. } = call {
-            lent.clone_from(&targets);
-        }
-    })
+    on_bar(n, targets, lines(1))
 }
 
 fn with_stamp(passes: Passes, generation: u64) -> Call {
@@ -99,6 +104,16 @@ fn cut_lists() -> Vec<Checked> {
             "one cut more",
             checked(4, lines(MOST_PASSES + 1)),
             Err(TARGETS),
+        ),
+        (
+            "the most over many bins",
+            checked(MANY_CELLS, lines(MOST_PASSES)),
+            Ok(Yes),
+        ),
+        (
+            "the most over one bin more",
+            checked(MANY_CELLS + 1, lines(MOST_PASSES)),
+            Ok(Yes),
         ),
         (
             "the most over the most bins",

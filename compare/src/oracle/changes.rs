@@ -65,7 +65,7 @@ pub fn apply(spec: &Spec, stamp: Stamp, lent: &[f64], lent_blocks: &[f64], list:
     let cells: Vec<_> = stock.cells().iter().map(from_camlib).collect();
     let renewed = blocks(&bar, &cells);
     let generation = stamp.generation + stock.generation();
-    Ok(Answer::Stock(cells, renewed, vec![], generation))
+    Ok(Answer::Stock(cells, renewed, vec![], generation, vec![]))
 }
 
 /// 1, 2, 3 for both stocks, 6.

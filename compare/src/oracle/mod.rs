@@ -45,9 +45,11 @@ pub const TARGETS: u32 = 25;
 /// The refusal of an arc, which of the calls a check of passes alone can be given.
 pub const ARC: u32 = 13;
 
-/// Document 01's limits, and those of Req 07 of 02: a nose's segments and a profile's points.
+/// Document 01's limits, those of Req 07 of 02 for a nose's segments and a profile's points, and the cells of Req 14.
 pub const MILLION: f64 = 1e6;
-pub const MOST_CELLS: usize = 4096;
+pub const MOST_CELLS: usize = 16384;
+/// Up to so many cells a call takes shorter lists of its own, and a stock file has four digits.
+pub const MANY_CELLS: usize = 4096;
 pub const MOST_SEGMENTS: usize = 4096;
 pub const MOST_POINTS: usize = 64;
 pub const MOST_ENVELOPE_POINTS: usize = 1024;

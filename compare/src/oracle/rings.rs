@@ -87,20 +87,23 @@ fn less(pieces: &[Ring], ring: &Ring) -> Vec<Ring> {
     left
 }
 
-/// 11: stores what is left of the ring, where neither the pieces in hand nor the room run over.
-fn store_ring(rings: &mut Vec<Ring>, room: usize, bar: &Bar, ring: &Ring) -> Result<(), Reason> {
+/// 11: stores what is left of the ring, where neither the pieces in hand nor the room run over. Tells how
+/// many tests that took: each stored ring is tested against the pieces in hand before it.
+fn store_ring(rings: &mut Vec<Ring>, room: usize, bar: &Bar, ring: &Ring) -> Result<usize, Reason> {
     let clipped = clip(bar, ring);
     if empty(&clipped) {
-        return Ok(());
+        return Ok(0);
     }
     let mut pieces = vec![clipped];
+    let mut tests = 0;
     for stored in rings.iter() {
+        tests += pieces.len();
         pieces = less(&pieces, stored);
         demand(pieces.len() <= MOST_PIECES, PIECES)?;
     }
     demand(rings.len() + pieces.len() <= room, PIECES)?;
     rings.extend(pieces);
-    Ok(())
+    Ok(tests)
 }
 
 /// Rings as they are stored, held against the ones that were counted.
@@ -116,16 +119,17 @@ pub fn remove_ring(spec: &Spec, store: &Store, generation: u64, ring: Ring) -> O
     demand_at(ring.iter().all(|x| x.is_finite()), RING, 0)?;
     let ring = ring.map(clean);
     if empty(&clip(&bar, &ring)) {
-        return Ok(Answer::Stock(vec![], vec![], rings, generation));
+        return Ok(Answer::Stock(vec![], vec![], rings, generation, vec![0]));
     }
     demand(generation < u64::MAX, GENERATION)?;
     let mut counted = rings.clone();
-    store_ring(&mut counted, room(store.rings.len()), &bar, &ring)?;
+    let tests = store_ring(&mut counted, room(store.rings.len()), &bar, &ring)?;
     let mut stock = camlib_stock(&bar, &fresh(&bar), &rings);
     stock.remove_ring([ring[0], ring[1]], [ring[2], ring[3]]);
     let rings = agreed(stock.rings(), &counted);
     let generation = generation + stock.generation();
-    Ok(Answer::Stock(vec![], vec![], rings, generation))
+    let tests = vec![tests];
+    Ok(Answer::Stock(vec![], vec![], rings, generation, tests))
 }
 
 /// 1, 2, 3, 6 for changes beyond what is lent, 4, 19, 20, 10, 7, 8/21/22/23, 12, 11.
@@ -149,8 +153,10 @@ pub fn apply_move(
     let steps = 1 + removed.iter().filter(|r| !empty(&clip(&bar, r))).count() as u64;
     demand(stamp.generation <= u64::MAX - steps, GENERATION)?;
     let mut counted = rings.clone();
+    let mut tests = vec![];
     for ring in &removed {
-        store_ring(&mut counted, room(store.rings.len()), &bar, ring)?;
+        let room = room(store.rings.len());
+        tests.push(store_ring(&mut counted, room, &bar, ring)?);
     }
     let mut stock = camlib_stock(&bar, &cells, &rings);
     let changes: Vec<_> = changes.iter().map(change_to_camlib).collect();
@@ -160,7 +166,7 @@ pub fn apply_move(
     let renewed = blocks(&bar, &cells);
     let rings = agreed(stock.rings(), &counted);
     let generation = stamp.generation + steps;
-    Ok(Answer::Stock(cells, renewed, rings, generation))
+    Ok(Answer::Stock(cells, renewed, rings, generation, tests))
 }
 
 /// 1, 2, 3, 20 for the count alone, 10, 11.
@@ -176,8 +182,9 @@ pub fn from_parts(
     ranges::counted(&bar, lent_blocks.len())?;
     let given = given_rings(given)?;
     let mut counted = vec![];
+    let mut tests = vec![];
     for ring in &given {
-        store_ring(&mut counted, room(rings_len), &bar, ring)?;
+        tests.push(store_ring(&mut counted, room(rings_len), &bar, ring)?);
     }
     let camlib = plain::turning::stock::TurnStock::from_parts(
         super::stock::camlib_spec(&bar.spec),
@@ -187,5 +194,6 @@ pub fn from_parts(
     .unwrap();
     let own = blocks(&bar, &cells);
     let rings = agreed(camlib.rings(), &counted);
-    Ok(Answer::Stock(cells, own, rings, camlib.generation()))
+    let generation = camlib.generation();
+    Ok(Answer::Stock(cells, own, rings, generation, tests))
 }

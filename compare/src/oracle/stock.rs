@@ -51,7 +51,7 @@ pub fn new(spec: &Spec, cells_len: usize, blocks_len: usize) -> Outcome {
     counted(&bar, blocks_len)?;
     let cells = fresh(&bar);
     let kept = blocks(&bar, &cells);
-    Ok(Answer::Stock(cells, kept, vec![], 0))
+    Ok(Answer::Stock(cells, kept, vec![], 0, vec![]))
 }
 
 /// The cells of a new stock.

@@ -42,9 +42,11 @@ fn left(stock: &TurnStock, ring: &Ring) -> Vec<Ring> {
 pub fn plain_compare(first: &str, second: &str) -> String {
     let [first, second] = [first, second].map(plain_stock);
     let mut text = String::new();
+    let bins = first.cells().len();
     for change in first.changes_to(&second) {
-        text += &cell_line(change.index, &from_camlib(&change.before));
-        text += &cell_line(change.index, &from_camlib(&change.after));
+        for cell in [&change.before, &change.after] {
+            text += &cell_line(change.index, bins, &from_camlib(cell));
+        }
     }
     for (stock, other) in [(&first, &second), (&second, &first)] {
         for piece in stock.rings().iter().flat_map(|ring| left(other, ring)) {
@@ -136,6 +138,7 @@ pub fn bench(program: &str) {
     );
     println!("| files | bytes written | `stock_compare` | Rust |\n|---|---|---|---|");
     let full = file(4096, 256, 1., 1.);
+    let most = file(16384, 256, 1., 1.);
     let rows = [
         (
             "one bin each, equal",
@@ -148,6 +151,12 @@ pub fn bench(program: &str) {
             "4,096 cells all unequal, 256 rings each apart",
             full.clone(),
             file(4096, 256, 2., 5.),
+        ),
+        ("16,384 cells, 256 rings, equal", most.clone(), most.clone()),
+        (
+            "16,384 cells all unequal, 256 rings each apart",
+            most.clone(),
+            file(16384, 256, 2., 5.),
         ),
     ];
     for (name, first, second) in &rows {

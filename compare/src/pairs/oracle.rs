@@ -125,7 +125,7 @@ fn lines(first: &Told, second: &Told) -> Result<Vec<String>, Reason> {
     let mut lines = vec![];
     for change in one.changes_to(&other) {
         for cell in [change.before, change.after] {
-            lines.push(cell_line(change.index, &from_camlib(&cell)));
+            lines.push(cell_line(change.index, first.bar.n, &from_camlib(&cell)));
         }
     }
     let bar = &first.bar;

@@ -153,23 +153,28 @@ fn carry_out(
     same_stock(ours, theirs)
 }
 
-/// Whether the living stock answers as the oracle does; of a stock, what the call lends.
+/// Whether the living stock answers as the oracle does; of a stock, what the call lends. It counts no tests.
 fn agree(call: &Call, living: &Outcome, outcome: &Outcome) -> bool {
     match (call, living, outcome) {
         (
             Call::FromParts { .. },
-            Ok(Answer::Stock(_, blocks, rings, g)),
-            Ok(Answer::Stock(_, kept, other, h)),
+            Ok(Answer::Stock(_, blocks, rings, g, _)),
+            Ok(Answer::Stock(_, kept, other, h, _)),
         ) => (blocks, rings, g) == (kept, other, h),
         (
             Call::Apply { .. },
-            Ok(Answer::Stock(cells, blocks, _, g)),
-            Ok(Answer::Stock(other, kept, _, h)),
+            Ok(Answer::Stock(cells, blocks, _, g, _)),
+            Ok(Answer::Stock(other, kept, _, h, _)),
         ) => (cells, blocks, g) == (other, kept, h),
         (
+            Call::ApplyMove { .. },
+            Ok(Answer::Stock(cells, blocks, rings, g, _)),
+            Ok(Answer::Stock(other, kept, stored, h, _)),
+        ) => (cells, blocks, rings, g) == (other, kept, stored, h),
+        (
             Call::RemoveRing { .. },
-            Ok(Answer::Stock(_, _, rings, g)),
-            Ok(Answer::Stock(_, _, other, h)),
+            Ok(Answer::Stock(_, _, rings, g, _)),
+            Ok(Answer::Stock(_, _, other, h, _)),
         ) => (rings, g) == (other, h),
         _ => living == outcome,
     }

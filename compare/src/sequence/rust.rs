@@ -174,7 +174,7 @@ impl Rust {
             Action::Check { passes, targets } => {
                 self.earlier.push(self.now.clone());
                 let said = self.now.check(passes, targets);
-                let Answer::Stock(cells, blocks, _, generation) = self.keep() else {
+                let Answer::Stock(cells, blocks, _, generation, _) = self.keep() else {
                     unreachable!()
                 };
                 Answer::Checked(said, cells, blocks, generation)
@@ -255,7 +255,7 @@ impl Rust {
         } = self.now.answer();
         let rings = store.rings.as_chunks::<4>().0.to_vec();
         let cells = cells.as_chunks::<4>().0.to_vec();
-        Answer::Stock(cells, blocks, rings, stamp.generation)
+        Answer::Stock(cells, blocks, rings, stamp.generation, vec![])
     }
 }
 

@@ -2,7 +2,7 @@
 use mathlib.Core.Path.{_≡_, refl, sym, ap, ap₂, _∙_, subst}
 use mathlib.Core.Bool.{Bool, true, false, not}
 use mathlib.Core.List.{List}
-use Prim.Native.Nat.{ℕ, _≤_}
+use Prim.Native.Nat.{ℕ, _*_, _≤_}
 use native.Mathlib.Nat.{le-trans}
 use native.Mathlib.Omega.{arith}
 use lib.Dec.{leb, ltb}
@@ -83,8 +83,8 @@ module _ (spec : TurnStockSpec) (cs : List Float) where
   all-rooms (Nose side rn) ys = rooms-of (segmentsGood rn ys) (noseAct (cleanSpec spec) side rn ys)
   all-rooms (Polygon side excess) ys = rooms-of (polygonGood ys excess) (polygonAct (cleanSpec spec) side excess ys)
 
-  -- so flat lists of 4,096 indices and 32,768 numbers are enough
-  pub lists-enough-for : (t : Tool) (ys : List Float) (a b : ℕ) → a ≡ 4096 → b ≡ 32768 → Enough (previewTool spec cs t ys) (roomOf a b)
+  -- so flat lists of one index and eight numbers a cell are enough
+  pub lists-enough-for : (t : Tool) (ys : List Float) (a b : ℕ) → a ≡ cellLimit → b ≡ 8 * cellLimit → Enough (previewTool spec cs t ys) (roomOf a b)
   lists-enough-for t ys a b ea eb room = all-rooms t ys room ∙ ap (λ (k : ℕ). narrowed room (previewTool spec cs t ys k)) (sym (ap₂ roomOf ea eb))
 
 -- ---- the flat lists after a proposal that is narrowed

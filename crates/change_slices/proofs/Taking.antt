@@ -18,13 +18,16 @@ use Rattle.stock.proofs.Count.{demanded}
 use Rattle.blocks.specs.Block.{matchesOf}
 use Rattle.rings.specs.declared.Counts.{Counts}
 use Rattle.rings.specs.declared.Counts.the-variants as counts
-use Rattle.rings.specs.Remove.{countsPaper, stockAfter}
+use Rattle.rings.specs.Remove.{countsPaper, stockAfter, removeRings}
+use Rattle.rings.specs.Tests.{listTests}
 use Rattle.changes.specs.Commit.{passAll, putAll, numbersKept}
 use Rattle.changes.proofs.Decided.{answering}
 use Rattle.moves.specs.declared.Moved.{Moved}
-use Rattle.moves.specs.Move.{Left, RingsLeft, movableOf, ringsMoved, takenOf, moveIn, countsOf, movedCells, movedRings, movedKept, movedPaper, MovesKept, countsLeft, ringsAfter, TakesRings, isMoved}
+use Rattle.moves.specs.Move.{Left, RingsLeft, movableOf, ringsMoved, takenOf, moveIn, countsOf, movedCells, movedRings, movedKept, movedPaper, MovesKept, countsLeft, ringsAfter, TakesRings, isMoved, toldTests, MovesTold}
+use Rattle.moves.proofs.Answered.{answered}
+use Rattle.moves.proofs.Told.{told-where, moved-rings}
 use Rattle.change_slices.specs.Move.{moveListOf}
-use Rattle.change_slices.specs.Kept.{renewedOver, WrittenKept, Renewable, takenFor, Takes}
+use Rattle.change_slices.specs.Kept.{renewedOver, WrittenKept, Renewable, takenFor, Takes, TakesTold}
 use Rattle.change_slices.proofs.Renewed.{cells-in, renewable}
 
 -- ---- rings that are taken
@@ -67,6 +70,24 @@ module _ (k : TurnStock) (cs bs xs : List Float) (st : Stamp) (removed : List Fl
     take-all n r xs' hs hc hb e t =
         let q : takenFor k cs bs xs st p removed ≡ takenOf k n cs bs xs st p removed = ap (λ (m : Paper ℕ). onward m (λ j. takenOf k j cs bs xs st p removed)) e in
         record { taken = subst (λ (m : Paper RingsLeft). TakesRings m r xs xs') (sym q) t; keeps = λ y. renewable k cs bs n hs hc hb e (taken-matched n p (sym (moved-as (takenOf k n cs bs xs st p removed) r (t .answer)) ∙ y)) }
+
+    -- the rings that are taken are those of the list
+    rings-for : (a : RingsLeft) → takenFor k cs bs xs st p removed ≡ answers a → removeRings (k .spec) xs (k .rings) removed ≡ answers (a .rings)
+    unfolding takenFor takenOf
+    rings-for a h =
+        let n = answered _ _ _ h in
+        let m = answered _ _ _ (n .then) in
+        let q = answered _ _ _ (m .then) in
+        moved-rings k xs removed a (q .then)
+
+    pub take-told : (r : Counts) (xs' : List Float) (t : Bool) (ts ts' : List ℕ) → Takes k cs bs st p removed r xs xs' → t ≡ isMoved r → ts' ≡ pick t (listTests (k .spec) xs' (k .rings) removed ts) ts → TakesTold k cs bs st p removed r xs xs' ts ts'
+    take-told r xs' t ts ts' s f e =
+        record {
+          takes = s;
+          tests = told-where (takenFor k cs bs xs st p removed) (λ (a : RingsLeft). a .rings) t (k .spec) xs xs' (k .rings) removed ts ts' e
+              (λ a h. (f ∙ moved-as (takenFor k cs bs xs st p removed) r (s .taken .answer) ∙ ap answering h, s .taken .rings ∙ ap (λ (q : Paper RingsLeft). ringsAfter q xs) h, rings-for a h))
+              (λ x h. f ∙ moved-as (takenFor k cs bs xs st p removed) r (s .taken .answer) ∙ ap answering h);
+        }
 
   -- ---- what is left
   module _ (l : List TurnChange) where
@@ -120,3 +141,19 @@ module _ (k : TurnStock) (cs bs xs : List Float) (st : Stamp) (removed : List Fl
 
         all : answering q ≡ true → fresh ≡ numbersKept (k .spec) (putAll cs l)
         all y = ap (λ (x : TurnStockSpec). renewedOver x (length cs / 4) (putAll cs l) bs l) es ∙ b .keeps (moved-as q r (b .taken .answer) ∙ y) l
+
+    tests-done : (q : Paper RingsLeft) (new old : List ℕ) → toldTests q new old ≡ toldTests (onward q done) new old
+    unfolding onward
+    tests-done (answers t) new old = refl
+    tests-done (refuses x) new old = refl
+
+    -- the same, with the tests
+    pub move-told : (s : TurnStockSpec) (p : Paper (Unit {0})) (r : Counts) (t : Bool) (m : Moved) (cs' bs' xs' : List Float) (ts ts' : List ℕ) → s ≡ cleanSpec (k .spec) → p ≡ passAll s (length cs / 4) cs l → TakesTold k cs bs st p removed r xs xs' ts ts' → t ≡ isMoved r
+        → WrittenKept t s (length cs / 4) l cs cs' bs bs' → movedPaper m ≡ stockAfter k (countsPaper r) → MovesTold k (moveListOf k cs bs xs st l removed) removed m cs cs' bs bs' xs xs' ts ts'
+    move-told s p r t m cs' bs' xs' ts ts' es ep a et w em =
+        let new = listTests (k .spec) xs (k .rings) removed ts in
+        let q = takenFor k cs bs xs st (passAll (cleanSpec (k .spec)) (length cs / 4) cs l) removed in
+        record {
+          moves = move-done s p r t m cs' bs' xs' es ep (a .takes) et w em;
+          tests = a .tests ∙ ap (λ (x : Paper (Unit {0})). toldTests (takenFor k cs bs xs st x removed) new ts) (ep ∙ ap (λ (x : TurnStockSpec). passAll x (length cs / 4) cs l) es) ∙ tests-done q new ts ∙ sym (ap (λ (x : Paper Left). toldTests x new ts) list-is);
+        }

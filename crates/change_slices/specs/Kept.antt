@@ -20,10 +20,11 @@ use Rattle.stock.specs.Cell.{stockOf}
 use Rattle.blocks.specs.Block.{blocksIn}
 use Rattle.blocks.specs.Renew.{renewOver}
 use Rattle.rings.specs.declared.Counts.{Counts}
+use Rattle.rings.specs.Tests.{listTests}
 use Rattle.changes.specs.declared.Applied.{Applied}
 use Rattle.changes.specs.Commit.{putAll, askedStock, appliedPaper, stockAt, numbersKept}
 use Rattle.changes.specs.Decide.{raisedOf, isAccepted}
-use Rattle.moves.specs.Move.{RingsLeft, takenOf, TakesRings, isMoved}
+use Rattle.moves.specs.Move.{RingsLeft, takenOf, TakesRings, isMoved, toldTests}
 
 -- what is left after a list of changes: each number cleared, and the blocks of their bins worked out of the cells
 abbrev pub renewedOver : TurnStockSpec → ℕ → List Float → List Float → List TurnChange → List Float
@@ -68,3 +69,8 @@ takenFor k cs bs xs st p removed = onward (stockOf (k .spec) cs) (λ n. takenOf 
 pub record Takes (k : TurnStock) (cs bs : List Float) (st : Stamp) (p : Paper (Unit {0})) (removed : List Float) (r : Counts) (xs xs' : List Float) : Type 0 where
   pub taken : TakesRings (takenFor k cs bs xs st p removed) r xs xs'
   pub keeps : isMoved r ≡ true → Renewable k cs bs
+
+-- the same, with the tests of each ring at the front of a lent list
+pub record TakesTold (k : TurnStock) (cs bs : List Float) (st : Stamp) (p : Paper (Unit {0})) (removed : List Float) (r : Counts) (xs xs' : List Float) (ts ts' : List ℕ) : Type 0 where
+  pub takes : Takes k cs bs st p removed r xs xs'
+  pub tests : ts' ≡ toldTests (takenFor k cs bs xs st p removed) (listTests (k .spec) xs (k .rings) removed ts) ts

@@ -3,7 +3,7 @@ ghost use mathlib.Core.Path.{_≡_};
 ghost use Rattle.stock.specs.Spec.{cleanSpec};
 ghost use Rattle.blocks.specs.Renew.{LeavesFor};
 ghost use Rattle.changes.specs.Commit.{passingPaper};
-ghost use Rattle.change_slices.specs.Kept.{OpensBlocks, Answers, Takes};
+ghost use Rattle.change_slices.specs.Kept.{OpensBlocks, Answers, Takes, TakesTold};
 use changes::Applied;
 use changes::Passing;
 use rings::Counts;
@@ -64,7 +64,7 @@ pub fn answer(
 
 // The rings of a move whose changes say `found`, taken: 1, 2, 3, 4, 19, 20, 10, then what they say, 12,
 // 11.
-pub fn take(
+fn take_found(
     stock: TurnStock,
     cells: &[f64],
     blocks: &[f64],
@@ -82,4 +82,25 @@ pub fn take(
             moves::take_rings(stock, n, cells, blocks, rings, stamp, found, removed)
         }
     }
+}
+
+// The same, and in `tests`, as far as it reaches, the tests that each ring took.
+pub fn take(
+    stock: TurnStock,
+    cells: &[f64],
+    blocks: &[f64],
+    rings: &mut [f64],
+    stamp: Stamp,
+    found: Passing,
+    removed: &[f64],
+    tests: &mut [usize],
+) -> Counts
+    ensures { λ r. ⌜ TakesTold stock (now (cells .entry)) (now (blocks .entry)) stamp (passingPaper found) (now (removed .entry)) r
+        (now (rings .entry)) (now (rings .exit)) (now (tests .entry)) (now (tests .exit)) ⌝ }
+{
+    let counts = take_found(stock, cells, blocks, rings, stamp, found, removed);
+    let spec = stock.spec;
+    let taken = moves::is_moved(counts);
+    moves::tell_tests(taken, spec, rings, stock.rings, removed, tests);
+    counts
 }

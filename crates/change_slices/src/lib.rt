@@ -29,7 +29,7 @@ mod flat;
 mod kept;
 
 // Eight numbers for each of as many changes as a stock has cells.
-const RECORD_LIMIT: usize = 32768;
+const RECORD_LIMIT: usize = 8 * CELL_LIMIT;
 
 // The after-cell, written into its bin.
 fn put_after(cells: &mut [f64], change: TurnChange)
@@ -125,9 +125,10 @@ pub fn apply(
     answer
 }
 
-// Commit the changes of a list with this stamp and take the rings `removed`: the stock afterwards; 1, 2,
-// 3, 4, 19 where the stamp is not the stock's, 20 where the kept numbers do not match the cells, 10, 7,
-// then change by change 8, 21, 22, 23, then 12, 11.
+// Commit the changes of a list with this stamp and take the rings `removed`: the stock afterwards, and in
+// `tests`, as far as it reaches, the tests that each ring took; 1, 2, 3, 4, 19 where the stamp is not the
+// stock's, 20 where the kept numbers do not match the cells, 10, 7, then change by change 8, 21, 22, 23,
+// then 12, 11.
 pub fn apply_move(
     stock: TurnStock,
     cells: &mut [f64],
@@ -136,15 +137,16 @@ pub fn apply_move(
     stamp: Stamp,
     changes: &[TurnChange],
     removed: &[f64],
+    tests: &mut [usize],
 ) -> Moved
     ensures { λ r. ⌜ MovesLent stock
         (moveListOf stock (now (cells .entry)) (now (blocks .entry)) (now (rings .entry)) stamp (now (changes .entry)) (now (removed .entry)))
-        r cells blocks rings ⌝ }
+        (now (removed .entry)) r cells blocks rings tests ⌝ }
 {
     let s = kept::clean(stock);
     let n = cells.len() / 4;
     let found = decide(s, n, cells, changes);
-    let counts = kept::take(stock, cells, blocks, rings, stamp, found, removed);
+    let counts = kept::take(stock, cells, blocks, rings, stamp, found, removed, tests);
     let accepted = moves::is_moved(counts);
     write_accepted(accepted, s, n, cells, blocks, changes);
     moves::with_counts(stock, counts)

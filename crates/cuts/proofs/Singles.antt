@@ -21,12 +21,12 @@ use Rattle.stock.specs.declared.ZRange.{ZRange}
 use Rattle.stock.specs.Spec.{cleanSpec}
 use Rattle.stock.specs.Bin.{binOf}
 use Rattle.stock.proofs.Count.{Checked}
-use Rattle.stock.proofs.Bins.{Sized, HeldSpec, HeldList, BinSized, clean-sized, bin-within}
+use Rattle.stock.proofs.Bins.{Sized, HeldSpec, HeldList, BinSized, clean-sized, bin-within, binBits}
 use Rattle.reach.specs.Reach.{passed, low, both}
 use Rattle.reach.specs.Kinds.{ReachOf, PlainAct}
 use Rattle.reach.proofs.Reaches.{reach-map, reach-pick}
 use Rattle.nose.specs.Nose.{noseAct}
-use Rattle.nose.proofs.Noses.{nose-sized}
+use Rattle.nose.proofs.Noses.{nose-sized, reachBits}
 use Rattle.cuts.specs.declared.Cut.{Cut}
 use Rattle.cuts.specs.declared.Cut.the-variants.{Line, Thread, ThreadInner, Drill, Arc}
 use Rattle.cuts.specs.Cut.{misses, drillAt, lineOf, threadReach, drillReach, cutReach, cutGood, cleanCut, cutAct}
@@ -82,8 +82,8 @@ line-held ar az br bz sag a b c d e (suc (suc (suc zero))) = d
 line-held ar az br bz sag a b c d e (suc (suc (suc (suc zero)))) = e
 line-held ar az br bz sag a b c d e (suc (suc (suc (suc (suc k))))) = tt
 
--- at most 2 ^ 20 is at most 2 ^ 37
-larger : (x : Float) → Sized 20 x → Sized 37 x
+-- at most 2 ^ 20 is at most 2 ^ 39
+larger : (x : Float) → Sized 20 x → Sized reachBits x
 larger x s = record { plain = s .plain; within = within-weaken (lit≤ tt) (s .within) }
 
 thread-reach : (b : ZRange) (z0 z1 r : Float) → T (fits binary64 r) → T (usable (cleanOf z0) && usable (cleanOf z1) && usable (cleanOf r) && le zero64 (cleanOf r)) → ReachOf (Sized 20) (threadReach b (cleanOf z0) (cleanOf z1) (cleanOf r))
@@ -104,16 +104,16 @@ drill-reach b w tip r cone fa fr fc g =
     let C = clean-sized cone fc (and-r (x && y) z t3) in
     let r+ = and-r (x && y && z) d g in
     reach-pick (Sized 20) (le (b .zb) (cleanOf tip)) passed (both (drillAt (b .zb) (cleanOf tip) (cleanOf r) (cleanOf cone)) (drillAt (b .za) (cleanOf tip) (cleanOf r) (cleanOf cone))) tt
-    (drill-sized 34 (lit< tt) (b .zb) (cleanOf tip) (cleanOf r) (cleanOf cone) (w .zb) A R C r+, drill-sized 34 (lit< tt) (b .za) (cleanOf tip) (cleanOf r) (cleanOf cone) (w .za) A R C r+)
+    (drill-sized binBits (lit< tt) (b .zb) (cleanOf tip) (cleanOf r) (cleanOf cone) (w .zb) A R C r+, drill-sized binBits (lit< tt) (b .za) (cleanOf tip) (cleanOf r) (cleanOf cone) (w .za) A R C r+)
 
 -- ---- a cut that is not refused, on a stock that is not refused
 module _ {spec : TurnStockSpec} {n : ℕ} (held : HeldSpec spec) (ok : Checked spec n) (u : Cut) (cut-held : HeldCut u) (good : cutGood (cleanCut u) ≡ true) where
-  -- the numbers that it reaches in a bin are at most 2 ^ 37 in size, and neither a NaN nor -0.0
-  pub cut-sized : (i : ℕ) → i < n → ReachOf (Sized 37) (cutAct (cleanSpec spec) (cleanCut u) .at i)
+  -- the numbers that it reaches in a bin are at most 2 ^ 39 in size, and neither a NaN nor -0.0
+  pub cut-sized : (i : ℕ) → i < n → ReachOf (Sized reachBits) (cutAct (cleanSpec spec) (cleanCut u) .at i)
   unfolding cutReach cutGood cleanCut noseAct
   cut-sized i h = go u cut-held (subst T (sym good) tt)
     where
-      go : (u : Cut) → HeldCut u → T (cutGood (cleanCut u)) → ReachOf (Sized 37) (cutReach (binOf (cleanSpec spec) i) (cleanCut u))
+      go : (u : Cut) → HeldCut u → T (cutGood (cleanCut u)) → ReachOf (Sized reachBits) (cutReach (binOf (cleanSpec spec) i) (cleanCut u))
       go (Line side rn sag ar az br bz) f g = nose-sized held ok rn (lineOf ar az br bz sag) (f .0) (line-held ar az br bz sag (f .2) (f .3) (f .4) (f .5) (f .1)) (is-true _ g) side i h
       go (Thread z0 z1 r) f g = reach-map larger (threadReach (binOf (cleanSpec spec) i) (cleanOf z0) (cleanOf z1) (cleanOf r)) (thread-reach (binOf (cleanSpec spec) i) z0 z1 r (f .2) g)
       go (ThreadInner z0 z1 r) f g = reach-map larger (threadReach (binOf (cleanSpec spec) i) (cleanOf z0) (cleanOf z1) (cleanOf r)) (thread-reach (binOf (cleanSpec spec) i) z0 z1 r (f .2) g)

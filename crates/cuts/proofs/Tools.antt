@@ -1,16 +1,18 @@
 -- The rule of a tool's preview, by what its questions find, and what a sweep says. Assumes nothing.
-use mathlib.Core.Path.{_≡_, refl, sym, ap, _∙_}
+use mathlib.Core.Path.{_≡_, refl, sym, ap, _∙_, subst}
 use mathlib.Core.Bool.{Bool, true, false}
 use mathlib.Core.List.{List}
-use Prim.Native.Nat.{ℕ}
+use Prim.Native.Nat.{ℕ, _≤_}
 use lib.Ieee.{Float}
 use Rattle.refusals.specs.Paper.{Reason, answers, refuses, only}
+use Rattle.floats.specs.Numbers.{cleanOf}
 use Rattle.stock.specs.declared.TurnStockSpec.{TurnStockSpec}
 use Rattle.stock.specs.declared.TurnSide.{TurnSide}
+use Rattle.stock.specs.declared.BinRange.{BinRange}
 use Rattle.stock.specs.Spec.{cleanSpec}
 use Rattle.stock.specs.Cell.{stockOf}
 use Rattle.reach.specs.Low.{Found}
-use Rattle.nose.specs.Nose.{segmentsGood, noseAct}
+use Rattle.nose.specs.Nose.{segmentsGood, segmentCount, noseAct}
 use Rattle.polygon.specs.Polygon.{polygonGood, polygonAct}
 use Rattle.cuts.specs.declared.Cut.{Cut}
 use Rattle.cuts.specs.declared.Tool.{Tool}
@@ -18,11 +20,12 @@ use Rattle.cuts.specs.declared.Tool.the-variants as tool
 use Rattle.cuts.specs.declared.each_cut.Sweep.{Sweep}
 use Rattle.cuts.specs.declared.each_cut.Sweep.the-variants as sweep
 use Rattle.cuts.specs.Cut.{cleanCut}
-use Rattle.cuts.specs.Rows.{rowAt, Says}
+use Rattle.cuts.specs.Rows.{rowAt, RowFilled, Idle, Says}
 use Rattle.cuts.specs.Source.{sourceAct, spanAct}
 use Rattle.cuts.specs.declared.list.Source.the-variants as source
 use Rattle.cuts.specs.Preview.{proposed, previewCut}
 use Rattle.cuts.specs.Tool.{toolInside, previewTool, cutIn, toolIn, sweepSide, sweepAct}
+use Rattle.cuts.proofs.Sweeps.{says-nose}
 use Rattle.cuts.proofs.Previews.{of-refused, of-outside, act-is, cut-refused, cut-outside, cut-is, rows-propose}
 
 -- ---- the preview
@@ -76,9 +79,22 @@ pub says-nose-sweep : (s : TurnStockSpec) (w : Sweep) (ys : List Float) {side : 
 unfolding sweepAct
 says-nose-sweep s w ys n first last new e h = rw e h
 
+-- of a radius that is read as its clean one, by what its rows are filled with
+pub says-clean-nose : (s : TurnStockSpec) (w : Sweep) (ys : List Float) {side : TurnSide} {rn r : Float} (n : ℕ) (new : ℕ → Found) (bins : BinRange) → w ≡ sweep.Nose side rn → r ≡ cleanOf rn → RowFilled s n side r ys (segmentCount ys) new × Idle n bins new × (bins .from ≤ bins .to) → Says (sweepAct s w ys) n (bins .from) (bins .to) new
+says-clean-nose s w ys {side} {rn} n new bins e c f = says-nose-sweep s w ys n (bins .from) (bins .to) new e (says-nose s n side rn ys new bins (subst (λ (x : Float). RowFilled s n side x ys (segmentCount ys) new) c (f .0)) (f .1) (f .2))
+
 pub says-polygon-sweep : (s : TurnStockSpec) (w : Sweep) (ys : List Float) {side : TurnSide} {excess : Float} (n first last : ℕ) (new : ℕ → Found) → w ≡ sweep.Polygon side excess → Says (polygonAct s side excess ys) n first last new → Says (sweepAct s w ys) n first last new
 unfolding sweepAct
 says-polygon-sweep s w ys n first last new e h = rw e h
+
+-- which surface each cuts
+pub nose-side : (w : Sweep) {side : TurnSide} {rn : Float} → w ≡ sweep.Nose side rn → side ≡ sweepSide w
+unfolding sweepSide
+nose-side w e = sym (ap sweepSide e)
+
+pub polygon-side : (w : Sweep) {side : TurnSide} {excess : Float} → w ≡ sweep.Polygon side excess → side ≡ sweepSide w
+unfolding sweepSide
+polygon-side w e = sym (ap sweepSide e)
 
 -- the lists are taken from the rows
 pub sweep-proposes : (s : TurnStockSpec) (w : Sweep) (ys cs : List Float) (room n : ℕ) (side : TurnSide) (values : List Float) (there : List Bool) (first last : ℕ) → side ≡ sweepSide w → Says (sweepAct s w ys) n first last (rowAt values there)

@@ -1,6 +1,7 @@
 // Each tool on a stock whose cells are checked: the rows of a nose or a polygon are filled first, a
 // thread and a drill are taken from their numbers; then the changes are listed.
 ghost use mathlib.Core.Path.{_≡_};
+ghost use Prim.Native.Nat.{_≤_};
 ghost use Rattle.changes.specs.Change.{Tallies};
 ghost use Rattle.cuts.specs.Rows.{Graded, Room, Unfilled, rowAt, Says};
 ghost use Rattle.cuts.specs.Source.{threadAct, drillAct, ReadyFor};
@@ -91,7 +92,8 @@ fn swept_over(
     )
 }
 
-// A sweep. A stock of few bins has shorter rows, since rows are cleared for each cut.
+// A sweep over a stock of many bins at most. A stock of few has shorter rows, since rows are cleared for
+// each cut.
 fn swept(
     s: TurnStockSpec,
     n: usize,
@@ -101,7 +103,7 @@ fn swept(
     indices: &mut [usize],
     records: &mut [f64],
 ) -> Tally
-    requires { ⌜ ReadyFor s n (now cells) ⌝ }
+    requires { ⌜ ReadyFor s n (now cells) × (n ≤ 4096) ⌝ }
     ensures { λ r. ⌜ Tallies (proposing (sweepAct s sweep (now (beside .entry))) (now (cells .entry)) n) r indices records ⌝ }
 {
     if n <= rows::FEW_BINS {
@@ -119,8 +121,8 @@ fn swept(
             &mut there,
         );
     }
-    let mut values = [0.0f64; rows::PLACES];
-    let mut there = [false; rows::PLACES];
+    let mut values = [0.0f64; rows::MANY_PLACES];
+    let mut there = [false; rows::MANY_PLACES];
     swept_over(
         s,
         n,
@@ -132,6 +134,57 @@ fn swept(
         &mut values,
         &mut there,
     )
+}
+
+// A sweep over a stock of any size. Its rows are long, so it is to stay a call of its own, which a
+// shorter stock does not make: the compiler leaves it one for its two ways.
+fn swept_long(
+    s: TurnStockSpec,
+    n: usize,
+    sweep: Sweep,
+    beside: &[f64],
+    cells: &[f64],
+    indices: &mut [usize],
+    records: &mut [f64],
+) -> Tally
+    requires { ⌜ ReadyFor s n (now cells) ⌝ }
+    ensures { λ r. ⌜ Tallies (proposing (sweepAct s sweep (now (beside .entry))) (now (cells .entry)) n) r indices records ⌝ }
+{
+    let mut values = [0.0f64; rows::PLACES];
+    let mut there = [false; rows::PLACES];
+    match sweep {
+        Sweep::Nose { side, rn } => {
+            let r = floats::clean(rn);
+            let bins = nose_rows::fill(s, n, side, r, beside, &mut values, &mut there);
+            list::list(
+                s,
+                Source::Rows(side),
+                &values,
+                &there,
+                cells,
+                bins.from,
+                bins.to,
+                n,
+                indices,
+                records,
+            )
+        }
+        Sweep::Polygon { side, excess } => {
+            let bins = polygon_rows::fill(s, n, side, excess, beside, &mut values, &mut there);
+            list::list(
+                s,
+                Source::Rows(side),
+                &values,
+                &there,
+                cells,
+                bins.from,
+                bins.to,
+                n,
+                indices,
+                records,
+            )
+        }
+    }
 }
 
 // A thread: only the bins between its ends are visited, and it reaches the same in each of them.
@@ -220,15 +273,14 @@ fn cut_in(
             a_z,
             b_r,
             b_z,
-        } => swept(
-            s,
-            n,
-            Sweep::Nose { side, rn },
-            &[a_r, a_z, b_r, b_z, sag],
-            cells,
-            indices,
-            records,
-        ),
+        } => {
+            let path = [a_r, a_z, b_r, b_z, sag];
+            let sweep = Sweep::Nose { side, rn };
+            if n <= rows::MANY_BINS {
+                return swept(s, n, sweep, &path, cells, indices, records);
+            }
+            swept_long(s, n, sweep, &path, cells, indices, records)
+        }
         Cut::Thread { z0, z1, radius } => thread(
             s,
             n,
@@ -275,24 +327,20 @@ pub fn tool_in(
 {
     match tool {
         Tool::Single(cut) => cut_in(s, n, single::clean_cut(cut), cells, indices, records),
-        Tool::Nose { side, rn } => swept(
-            s,
-            n,
-            Sweep::Nose { side, rn },
-            beside,
-            cells,
-            indices,
-            records,
-        ),
-        Tool::Polygon { side, excess } => swept(
-            s,
-            n,
-            Sweep::Polygon { side, excess },
-            beside,
-            cells,
-            indices,
-            records,
-        ),
+        Tool::Nose { side, rn } => {
+            let sweep = Sweep::Nose { side, rn };
+            if n <= rows::MANY_BINS {
+                return swept(s, n, sweep, beside, cells, indices, records);
+            }
+            swept_long(s, n, sweep, beside, cells, indices, records)
+        }
+        Tool::Polygon { side, excess } => {
+            let sweep = Sweep::Polygon { side, excess };
+            if n <= rows::MANY_BINS {
+                return swept(s, n, sweep, beside, cells, indices, records);
+            }
+            swept_long(s, n, sweep, beside, cells, indices, records)
+        }
     }
 }
 

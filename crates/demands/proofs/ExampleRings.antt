@@ -22,6 +22,7 @@ use Rattle.rings.specs.Ring as Ring
 use Rattle.rings.specs.Ring.{kept, around, split, subtract, subtractAll, inHand, clip, left}
 use Rattle.rings.specs.Store.{ringsOf, flatOf, storeAs, ringFits, apartAll, storeFits, countFits, badFrom, badRing, raisedBy}
 use Rattle.rings.specs.Remove.{roomFor, added, addedAll, countOf, removeAllIn, removeRings, storedNext, removeIn, removeRing, countsOf, ringsAfter}
+use Rattle.rings.specs.Tests.{testsOf, testsFor, testsList, ringTests}
 use Rattle.moves.specs.declared.Rebuilt.the-variants as rebuilt
 use Rattle.moves.specs.Move.{generationAfter, movableOf, ringsMoved, takenOf, moveIn, moveOf, givenOf, partsOf, Rebuilds}
 use Rattle.text.specs.Parts.{intoFirst, partedAt}
@@ -56,8 +57,31 @@ none-stored = record { numbers = empty; count = 0; generation = 0 }
 
 -- a ring taken by `remove_ring`
 pub ring-taken : RanRings bar 3 none-stored (Ring.ring zero64 six two six ∷ []) (record { numbers = one; count = 1; generation = 1 })
-unfolding demand demandAt onward pick leastOf greatestOf sizeOf minusZero cleanOf over kept around split subtract subtractAll inHand clip left ringsOf flatOf storeAs ringFits apartAll storeFits countFits roomFor added storedNext removeIn removeRing countsOf ringsAfter cleanSpec specGood cellsOf wholeUp Ieee.ofBits Ieee.ofFields Ieee.odd Ieee.eq Ieee.ne Ieee.lt Ieee.le Ieee.div Ieee.sub Ieee.add Ieee.mul Ieee.neg Ieee.sum Ieee.round Ieee.units Ieee.ofInt Ieee.size Ieee.span Ieee.climb Ieee.toUnsigned
-ring-taken = ring (record { answer = refl; store = refl }) done
+unfolding demand demandAt onward pick leastOf greatestOf sizeOf minusZero cleanOf over kept around split subtract subtractAll inHand clip left ringsOf flatOf storeAs ringFits apartAll storeFits countFits roomFor added storedNext removeIn removeRing countsOf ringsAfter testsOf testsFor ringTests cleanSpec specGood cellsOf wholeUp Ieee.ofBits Ieee.ofFields Ieee.odd Ieee.eq Ieee.ne Ieee.lt Ieee.le Ieee.div Ieee.sub Ieee.add Ieee.mul Ieee.neg Ieee.sum Ieee.round Ieee.units Ieee.ofInt Ieee.size Ieee.span Ieee.climb Ieee.toUnsigned
+ring-taken = ring {t = 0} (record { answer = refl; store = refl; tests = refl }) done
+
+-- ---- the tests that rings take, on a bar z 0..9 r 0..10
+
+abbrev num : ℕ → Float
+num n = ofBits binary64 n
+
+abbrev field : Ring
+field = Ring.ring zero64 (num 0x4022000000000000) zero64 (num 0x4024000000000000)
+
+-- z 0..9 r 0..9, and two within it: z 1..2 r 1..2, z 4..5 r 4..5
+abbrev wide : Ring
+wide = Ring.ring zero64 (num 0x4022000000000000) zero64 (num 0x4022000000000000)
+
+abbrev low : Ring
+low = Ring.ring (num 0x3ff0000000000000) two (num 0x3ff0000000000000) two
+
+abbrev high : Ring
+high = Ring.ring (num 0x4010000000000000) (num 0x4014000000000000) (num 0x4010000000000000) (num 0x4014000000000000)
+
+-- the order shows in them: 0, 1, 1 with the wide one first, and 0, 1, 5 with it last
+pub orders-differ : (testsList field 256 [] (wide ∷ low ∷ high ∷ []) ≡ 0 ∷ 1 ∷ 1 ∷ []) × (testsList field 256 [] (low ∷ high ∷ wide ∷ []) ≡ 0 ∷ 1 ∷ 5 ∷ [])
+unfolding demand pick leastOf greatestOf cleanOf kept around split subtract subtractAll inHand clip left roomFor added testsOf testsFor testsList Ieee.ofBits Ieee.ofFields Ieee.odd Ieee.eq Ieee.ne Ieee.lt Ieee.le Ieee.div Ieee.sub Ieee.add Ieee.mul Ieee.neg Ieee.sum Ieee.round Ieee.units Ieee.ofInt Ieee.size Ieee.span Ieee.climb Ieee.toUnsigned
+orders-differ = (refl, refl)
 
 -- the kept numbers of the whole bar
 abbrev barKept : List Float

@@ -22,7 +22,7 @@ use Rattle.stock_lines.specs.declared.room.Took.{Took}
 use Rattle.stock_lines.specs.declared.room.Took.the-variants.{Cell, Ring, End, NoLine}
 use Rattle.stock_lines.specs.Form.{formOf, lineOf, fourOf, cellPrefix}
 use Rattle.stock_lines.specs.First.{firstOf}
-use Rattle.stock_lines.specs.Room.{kept, stored, taken, cellAt, ringAt, tookOf, ringsAfter}
+use Rattle.stock_lines.specs.Room.{kept, stored, taken, cellAt, ringAt, ringTurn, tookOf, ringsAfter}
 use Rattle.stock_lines.specs.Reading.{State, state, next, countTo, refusing, begun, onwardTo, went, onBody, onLine}
 use Rattle.stock_lines.proofs.Readings.{line-first, line-body, line-behind, count-more, count-full, begun-is}
 use Rattle.stock_file.specs.Read.{freshReading, stopped, onLong, onEnd, fileIn}
@@ -97,9 +97,9 @@ rings-beyond : (k n m : ℕ) (s : List ℕ) (l : List Float) (i : ℕ) → 4 * m
 unfolding ringsAfter
 rings-beyond k n m s l i h = by (taken (cellAt k n m s)) refl
   where
-    by : (t : Bool) → taken (cellAt k n m s) ≡ t → getD (pick (taken (cellAt k n m s)) l (stored 256 l m (ringAt s))) i nan ≡ getD l i nan
+    by : (t : Bool) → taken (cellAt k n m s) ≡ t → getD (pick (taken (cellAt k n m s)) l (stored 256 l m (ringTurn k n s))) i nan ≡ getD l i nan
     by true e = ap (λ (x : List Float). getD x i nan) (pick-true _ _ _ e)
-    by false e = ap (λ (x : List Float). getD x i nan) (pick-false _ _ _ e) ∙ stored-beyond 256 l m (ringAt s) i h
+    by false e = ap (λ (x : List Float). getD x i nan) (pick-false _ _ _ e) ∙ stored-beyond 256 l m (ringTurn k n s) i h
 
 line-beyond : (st : State) (s : List ℕ) → Beyond st (onLine st s)
 unfolding onBody
@@ -337,8 +337,8 @@ module _ (left : State) where
         where
           kinds-of : walk (onLine st p) (q ∷ ls) ≡ left → kinds.Kind b n m l cs rs p → Rest (b .form) n m cs rs (p ∷ q ∷ ls)
           kinds-of f (kinds.cell x y z w em lt h k) = a-cell x y z w em lt h k f
-          kinds-of f (kinds.ring x y z w h k) = a-ring x y z w h k f
-          kinds-of f (kinds.end t k) = let c = done-counts (state (reading b 2 n m (l + 1)) cs rs) (q ∷ ls) (omega arith) refl (on _ k f) in no-more (b .form) n m cs rs _ (c .cells) (c .rings) (c .form)
+          kinds-of f (kinds.ring x y z w enough h k) = a-ring x y z w h k f
+          kinds-of f (kinds.end enough t k) = let c = done-counts (state (reading b 2 n m (l + 1)) cs rs) (q ∷ ls) (omega arith) refl (on _ k f) in no-more (b .form) n m cs rs _ (c .cells) (c .rings) (c .form)
 
           by : (t : Bool) → ltb (length p) 128 ≡ t → (u : Bool) → stopped (onLine st p) ≡ u → Rest (b .form) n m cs rs (p ∷ q ∷ ls)
           by false f u g =

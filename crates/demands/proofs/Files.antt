@@ -18,7 +18,7 @@ use Rattle.blocks.specs.Block.{blocksIn}
 use Rattle.moves.specs.Move.{partsOf}
 use Rattle.lines.specs.File.{joined, piecesOf}
 use Rattle.lines.specs.Hands.{Hand, hand}
-use Rattle.stock_lines.specs.Form.{endLine}
+use Rattle.stock_lines.specs.Form.{fewCells, formOf, Counts, writtenForm, endLine}
 use Rattle.stock_lines.specs.First.{CanSay}
 use Rattle.stock_lines.specs.Reading.{State, state}
 use Rattle.stock_file.specs.declared.Kept.{Kept}
@@ -28,7 +28,7 @@ use Rattle.stock_file.specs.InParts.{Finished}
 use Rattle.stock_file.proofs.Cut.{however-cut}
 use Rattle.stock_file.proofs.LineSteps.{reading}
 use Rattle.stock_file.proofs.ReadBack as back
-use Rattle.stock_file.proofs.Keepable.{Lent64, stock-back}
+use Rattle.stock_file.proofs.Keepable.{Lent64, stock-back, written-back}
 use Rattle.stock_file.proofs.Tells.{tells, told-stocked, fileAs, told-spelled, told-unique}
 use Rattle.stock_file.proofs.Leaves.{Stays, room-left}
 use Rattle.stock_file.proofs.Begins as begins
@@ -55,15 +55,21 @@ parts-read-back {most} {room} {space} b cs n rs m k h g f e =
     ∙ ap (readOf most room space) e
     ∙ ap (λ (x : State). toldAs (x .reading) most (x .cells) (x .rings)) (back.reads-back b cs n rs m k room space h g)
 
--- and a stock that 1 to 4 accept reads back, in each form that can say its edition, as the same clean spec, with the reader's limit, as that edition at generation 0, and as the same counts
-pub stock-reads-back : (form edition : ℕ) (spec : TurnStockSpec) (cs rs : List Float) (n m most : ℕ) → CanSay form edition → stockOf spec cs ≡ answers n → countFits (barRing (cleanSpec spec)) rs m ≡ true → Lent64 spec cs rs → n ≤ most
+-- and a stock that 1 to 4 accept reads back, in each form that can say its edition and have so many cell lines, as the same clean spec, with the reader's limit, as that edition at generation 0, and as the same counts
+pub stock-reads-back : (form edition : ℕ) (spec : TurnStockSpec) (cs rs : List Float) (n m most : ℕ) → CanSay form edition → Counts form n → stockOf spec cs ≡ answers n → countFits (barRing (cleanSpec spec)) rs m ≡ true → Lent64 spec cs rs → n ≤ most
     → (room space : List Float) → 4 * n ≤ length room → 4 * m ≤ length space
     → readOf most room space (fileOf (opening form edition (barOf spec)) cs n rs m) ≡ answers (stockedOf (specOf (barOf spec) most) edition n m)
-stock-reads-back form edition spec cs rs n m most says e f g h room space w d = stock-back form edition spec cs rs n m most says e f g h room space w d
+stock-reads-back form edition spec cs rs n m most says counts e f g h room space w d = stock-back form edition spec cs rs n m most says counts e f g h room space w d
 
--- WRITE AFTER READ: bytes that tell a stock, of fewer than 2^64 lines, are its file in form 2, or, where its edition is 0, its file in form 1, and there is no third: its edition and its bar, and the numbers that stand first in the lent room
+-- the form that is written, by the number of cells, is one of them
+pub written-reads-back : (edition : ℕ) (spec : TurnStockSpec) (cs rs : List Float) (n m most : ℕ) → edition < 4294967296 → stockOf spec cs ≡ answers n → countFits (barRing (cleanSpec spec)) rs m ≡ true → Lent64 spec cs rs → n ≤ most
+    → (room space : List Float) → 4 * n ≤ length room → 4 * m ≤ length space
+    → readOf most room space (fileOf (opening (writtenForm n) edition (barOf spec)) cs n rs m) ≡ answers (stockedOf (specOf (barOf spec) most) edition n m)
+written-reads-back edition spec cs rs n m most small e f g h room space w d = written-back edition spec cs rs n m most small e f g h room space w d
+
+-- WRITE AFTER READ: bytes that tell a stock, of fewer than 2^64 lines, are its file in the form that its number of cells determines, or, where its edition is 0 and its cells are 4,096 at most, its file in form 1, and there is no third: its edition and its bar, and the numbers that stand first in the lent room
 pub file-spelled : (most : ℕ) (cs rs : List Float) (s : List ℕ) (k : Stocked) → readOf most cs rs s ≡ answers k → length (piecesOf s) < 2 ^ 64
-    → (s ≡ fileAs 2 (fileIn cs rs s)) ⊎ ((fileIn cs rs s .reading .edition ≡ 0) × (s ≡ fileAs 1 (fileIn cs rs s)))
+    → (s ≡ fileAs (writtenForm (fileIn cs rs s .reading .cells)) (fileIn cs rs s)) ⊎ ((fileIn cs rs s .reading .edition ≡ 0) × (fileIn cs rs s .reading .cells ≤ fewCells) × (s ≡ fileAs 1 (fileIn cs rs s)))
 file-spelled most cs rs s k e few = told-spelled most cs rs s k e few
 
 -- SO A FILE THAT READS IS THE ONLY ONE OF ITS FORM WITH ITS STOCK, ring order counted: two that leave the same form, edition, bar, counts and numbers are the same bytes
@@ -82,10 +88,10 @@ file-tells most cs rs s k e = told-stocked (fileIn cs rs s) most k (tells (fileI
 pub file-begins-none : (cs rs : List Float) (p t : List ℕ) → stopped (begins.after cs rs p .job) ≡ true → fileIn cs rs (p ++ t) ≡ begins.after cs rs p .job
 file-begins-none cs rs p t e = begins.begins-none cs rs p t e
 
--- LINES THAT ARE NOT REFUSED begin some file of the form: with their `end` they are one
-pub file-begins-some : (cs rs : List Float) (p : List ℕ) (b : Opening) (n m l : ℕ) (cs' rs' : List Float) → l + 1 < 2 ^ 64
+-- LINES THAT ARE NOT REFUSED, with enough cell lines, begin some file of the form: with their `end` they are one. Where cell lines are missing, in form 3, they go on with these (`refused-exactly`).
+pub file-begins-some : (cs rs : List Float) (p : List ℕ) (b : Opening) (n m l : ℕ) (cs' rs' : List Float) → l + 1 < 2 ^ 64 → formOf (b .form) .least ≤ n
     → begins.after cs rs p ≡ hand (state (reading b 1 n m l) cs' rs') [] → fileIn cs rs (p ++ endLine l) ≡ state (reading b 2 n m (l + 1)) cs' rs'
-file-begins-some cs rs p b n m l cs' rs' h e = begins.begins-some cs rs p b n m l cs' rs' h e
+file-begins-some cs rs p b n m l cs' rs' h enough e = begins.begins-some cs rs p b n m l cs' rs' h enough e
 
 -- WHAT THE LENT ROOM HOLDS after any read, refused or not: it keeps its length, and the numbers behind those of the lines that were counted stay
 pub file-room-left : (cs rs : List Float) (s : List ℕ) → Stays (state freshReading cs rs) (fileIn cs rs s)

@@ -35,6 +35,7 @@ use Rattle.changes.proofs.Kept.{asked}
 use Rattle.rings.specs.declared.Ring.{Ring}
 use Rattle.rings.specs.declared.Removed.the-variants as ring
 use Rattle.rings.specs.Remove.{countOf, removeRing, Removes}
+use Rattle.rings.specs.Tests.{ringTests}
 use Rattle.moves.specs.declared.Moved.the-variants as move
 use Rattle.moves.specs.declared.Rebuilt.the-variants as rebuilt
 use Rattle.moves.specs.Move.{Left, MovesKept, Rebuilds}
@@ -84,7 +85,7 @@ fresh-on spec cs bs m e (inl f) = f
 fresh-on spec cs bs m e (inr f) = f .1 ∙ e ∙ ap (numbersKept spec) (sym (f .0))
 
 -- a ring keeps the spec
-ring-spec : (s s' : TurnStock) (xs xs' : List Float) (q : Ring) → Removes s xs (removeRing (s .spec) xs (s .rings) (s .stamp .generation) q) (ring.Stock s') xs' → s' .spec ≡ s .spec
+ring-spec : (s s' : TurnStock) (xs xs' : List Float) {t : ℕ} (q : Ring) → Removes s xs (removeRing (s .spec) xs (s .rings) (s .stamp .generation) q) (ringTests (s .spec) xs (s .rings) q) (ring.Stock s' t) xs' → s' .spec ≡ s .spec
 ring-spec s s' xs xs' q a = history-later (ringed {cs = []} {bs = []} q a nothing-called) .spec
 
 -- of a stock of the same spec

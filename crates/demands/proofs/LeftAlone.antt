@@ -101,18 +101,18 @@ commit-kept k p r n cs cs' bs bs' e h = let w = commit-left k p r n cs cs' e (h 
 
 -- ---- one ring: the rings
 
-pub ring-call : {k : TurnStock} {p : Paper RingStore} {r : Removed} {xs ys : List Float} {l : List Asked} → Removes k xs p r ys → Exactly p l → Exactly (removedPaper r) l
+pub ring-call : {k : TurnStock} {p : Paper RingStore} {m : ℕ} {r : Removed} {xs ys : List Float} {l : List Asked} → Removes k xs p m r ys → Exactly p l → Exactly (removedPaper r) l
 unfolding refusalOf countsOf onward
-ring-call {k} {p} {r} h x = exactly-as (removedPaper r) (ap refusalOf (h .answer) ∙ same p) x
+ring-call {k} {p} {m} {r} h x = exactly-as (removedPaper r) (ap refusalOf (h .answer) ∙ same p) x
   where
     same : (p : Paper RingStore) → refusalOf (stockAfter k (countsOf p)) ≡ refusalOf p
     same (answers s) = refl
     same (refuses n) = refl
 
-pub ring-left : (k : TurnStock) (p : Paper RingStore) (r : Removed) (n : Reason) (xs ys : List Float) → removedPaper r ≡ refuses n → Removes k xs p r ys → (p ≡ refuses n) × (ys ≡ xs)
+pub ring-left : (k : TurnStock) (p : Paper RingStore) (t : ℕ) (r : Removed) (n : Reason) (xs ys : List Float) → removedPaper r ≡ refuses n → Removes k xs p t r ys → (p ≡ refuses n) × (ys ≡ xs)
 unfolding countsOf ringsAfter onward
-ring-left k (answers s) r n xs ys e h = absurd (no-answer n _ (sym e ∙ h .answer))
-ring-left k (refuses m) r n xs ys e h = (same-number (sym e ∙ h .answer), h .store)
+ring-left k (answers s) t r n xs ys e h = absurd (no-answer n _ (sym e ∙ h .answer))
+ring-left k (refuses m) t r n xs ys e h = (same-number (sym e ∙ h .answer), h .store)
 
 -- ---- a list of rings: the rings
 

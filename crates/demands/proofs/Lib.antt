@@ -11,6 +11,7 @@ pub mod First
 pub mod JobLines
 pub mod LeftAlone
 pub mod Rings
+pub mod RingTests
 pub mod Rising
 pub mod Written
 pub mod Second

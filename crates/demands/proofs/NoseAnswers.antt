@@ -3,7 +3,7 @@
 use mathlib.Core.Path.{_≡_, refl, sym, ap, ap₂, _∙_, subst}
 use mathlib.Core.Bool.{Bool, true, _&&_}
 use mathlib.Core.List.{List}
-use Prim.Native.Nat.{ℕ, _<_}
+use Prim.Native.Nat.{ℕ, _+_, _*_, _<_}
 use lib.Dec.{T, lit<, lit≤}
 use lib.Ieee.{Float, binary64, ofBits, le, fits}
 use lib.Ieee.Bits.{is-true}
@@ -24,7 +24,7 @@ use Rattle.stock.specs.declared.TurnSide.{TurnSide}
 use Rattle.stock.specs.Spec.{cleanSpec}
 use Rattle.stock.specs.Bin.{binOf}
 use Rattle.stock.proofs.Count.{Checked}
-use Rattle.stock.proofs.Bins.{HeldSpec, HeldList, bin-within}
+use Rattle.stock.proofs.Bins.{HeldSpec, HeldList, bin-within, binBits}
 use Rattle.nose.specs.declared.Point.{Point}
 use Rattle.nose.specs.declared.Segment.{Segment}
 use Rattle.nose.specs.Nose.{segmentAt, segmentCount, segmentsGood}
@@ -49,14 +49,14 @@ sideLength s = lengthOf (s .b .r -₆₄ s .a .r) (s .b .z -₆₄ s .a .z)
 root-answers : (g : Float) → T (finite g) → T (le zero64 g) → Answered (rootOf g)
 root-answers g f n = root-exactly g .answered (ap₂ (λ (a b : Bool). a && b) (is-true (finite g) f) (is-true (le zero64 g) n), tt)
 
-end-answers : (p : Point) (rn c : Float) → PointWithin p → Within binary64 21 rn → Within binary64 34 c → Answered (endRoot p rn c)
+end-answers : (p : Point) (rn c : Float) → PointWithin p → Within binary64 21 rn → Within binary64 binBits c → Answered (endRoot p rn c)
 unfolding ofBits
 end-answers p rn c w R C =
     let dz = p .z -₆₄ c in
-    let D : Within binary64 35 dz = within-sub (w .z) C (lit< tt) in
-    let S : Within binary64 71 (rn *₆₄ rn -₆₄ dz *₆₄ dz) = within-sub (within-mul {j = 35} {k = 35} (within-weaken (lit≤ tt) R) (within-weaken (lit≤ tt) R) (lit≤ tt)) (within-mul D D (lit≤ tt)) (lit< tt) in
+    let D : Within binary64 (binBits + 1) dz = within-sub (w .z) C (lit< tt) in
+    let S : Within binary64 (2 * binBits + 3) (rn *₆₄ rn -₆₄ dz *₆₄ dz) = within-sub (within-mul {j = binBits + 1} {k = binBits + 1} (within-weaken (lit≤ tt) R) (within-weaken (lit≤ tt) R) (lit≤ tt)) (within-mul D D (lit≤ tt)) (lit< tt) in
     let g = greatestOf (rn *₆₄ rn -₆₄ dz *₆₄ dz) zero64 in
-    let G : Within binary64 71 g = gap-within (within-weaken (lit≤ tt) R) D (lit< tt) in
+    let G : Within binary64 (2 * binBits + 3) g = gap-within (within-weaken (lit≤ tt) R) D (lit< tt) in
     root-answers g (G .finite) (greatest-ge-r (number-finite (finite-within S)) number-zero)
 
 -- of a segment, with a capsule of this radius, on this line
@@ -65,7 +65,7 @@ pub record SegmentAnswers (s : Segment) (rn c : Float) : Type 0 where
   pub first : Answered (endRoot (s .a) rn c)
   pub second : Answered (endRoot (s .b) rn c)
 
-segment-answers : (s : Segment) (rn c : Float) → SegmentWithin s → Within binary64 21 rn → Within binary64 34 c → SegmentAnswers s rn c
+segment-answers : (s : Segment) (rn c : Float) → SegmentWithin s → Within binary64 21 rn → Within binary64 binBits c → SegmentAnswers s rn c
 segment-answers s rn c w R C = record {
   length = length-answers (within-weaken (lit≤ tt) (within-sub (w .b .r) (w .a .r) (lit< tt))) (within-weaken (lit≤ tt) (within-sub (w .b .z) (w .a .z) (lit< tt)));
   first = end-answers (s .a) rn c (w .a) R C;

@@ -11,8 +11,8 @@
 --   nose      segment_at, segments_good, track_of, alike
 --   polygon   polygon_good, index_range
 --   changes   room, change_at, held_of, is_accepted, put_after
---   moves     is_moved
---   rings     rings_fit, raised_by; first_bad_ring (`same-judged`)
+--   moves     is_moved, tell_tests
+--   rings     rings_fit, raised_by, list_tests; first_bad_ring (`same-judged`)
 --   queries   bins_at
 --   blocks    blocks_in, matches, renew_all, clear, renew_block, renew_changed
 --   envelope  within, of the numbers of the part that is lent back; number_of
@@ -41,9 +41,9 @@
 --   polygon   swept_in (swept-once)
 --   cuts      preview_tool, preview_cut, preview, preview_polygon, thread_cut, thread_cut_inner, drill (Proposals.proposed-once of changes)
 --   changes   list_change (listed-once), commit_unasked (applied-once), apply (applied-kept-once), changes_to (Proposals.proposed-once of changes); list_of (Proposals.same-previewed of changes)
---   change_slices apply, read_changes, propose (Once of change_slices), apply_move (Once.moved-once of moves)
+--   change_slices apply, read_changes, propose (Once of change_slices), apply_move (Once.moved-told-once of moves)
 --   rings     remove_ring (removed-once), remove_rings (Once.stored-once of moves), left_of (left-of-once)
---   moves     apply_move (Once.moved-once of moves), from_parts (Once.rebuilt-once of moves), take_rings (taken-rings-once); with_counts (Once.same-moved of moves)
+--   moves     apply_move (Once.moved-told-once of moves), from_parts (Once.rebuilt-told-once of moves), take_rings (taken-rings-once); with_counts (Once.same-moved of moves)
 --   passes    check (checked-once); propose: propose (proposed-once)
 --   blocks    renew (renewed-once), leave_block (left-once), range_kept (kept-once)
 --   envelope  span_over (span-over-once), highest (highest-once)
@@ -152,7 +152,7 @@ use Rattle.rings.specs.declared.Left.the-variants as pieces
 use Rattle.rings.specs.Store.{judgedPlace}
 use Rattle.rings.specs.declared.Counts.{Counts}
 use Rattle.rings.specs.declared.Counts.the-variants as counts
-use Rattle.rings.specs.Remove.{RingStore, RingCount, countsPaper, removedPaper, Removes, leftPaper, LeavesOf}
+use Rattle.rings.specs.Remove.{RingStore, RingCount, countsPaper, removedPaper, removedTests, Removes, leftPaper, LeavesOf}
 use Rattle.moves.specs.Move.{RingsLeft, TakesRings}
 use Rattle.text.specs.Wrote.{Wrote, Put}
 use Rattle.job_run.specs.declared.Run.{Run}
@@ -299,16 +299,16 @@ same-counts (counts.Refused c) (counts.RefusedAt d k) h = absurd (no-place c d k
 same-counts (counts.RefusedAt c j) (counts.Refused d) h = absurd (no-place d c j (same-number (sym h)))
 same-counts (counts.RefusedAt c j) (counts.RefusedAt d k) h = let e = one-place c d j k (same-number h) in ap₂ counts.RefusedAt (e .0) (e .1)
 
-pub same-removed : (r r' : Removed) → removedPaper r ≡ removedPaper r' → r ≡ r'
-same-removed (removed.Stock k) (removed.Stock k') h = ap removed.Stock (same-answer h)
-same-removed (removed.Stock k) (removed.Refused d) h = absurd (no-answer _ _ (sym h))
-same-removed (removed.Refused c) (removed.Stock k) h = absurd (no-answer _ _ h)
-same-removed (removed.Refused c) (removed.Refused d) h = ap removed.Refused (same-refusal c d h)
-same-removed (removed.Stock k) (removed.RefusedAt d j) h = absurd (no-answer _ _ (sym h))
-same-removed (removed.RefusedAt c j) (removed.Stock k) h = absurd (no-answer _ _ h)
-same-removed (removed.Refused c) (removed.RefusedAt d k) h = absurd (no-place c d k (same-number h))
-same-removed (removed.RefusedAt c j) (removed.Refused d) h = absurd (no-place d c j (same-number (sym h)))
-same-removed (removed.RefusedAt c j) (removed.RefusedAt d k) h = let e = one-place c d j k (same-number h) in ap₂ removed.RefusedAt (e .0) (e .1)
+pub same-removed : (r r' : Removed) → removedPaper r ≡ removedPaper r' → removedTests r ≡ removedTests r' → r ≡ r'
+same-removed (removed.Stock k t) (removed.Stock k' t') h u = ap₂ removed.Stock (same-answer h) (same-answer u)
+same-removed (removed.Stock k t) (removed.Refused d) h u = absurd (no-answer _ _ (sym h))
+same-removed (removed.Refused c) (removed.Stock k t) h u = absurd (no-answer _ _ h)
+same-removed (removed.Refused c) (removed.Refused d) h u = ap removed.Refused (same-refusal c d h)
+same-removed (removed.Stock k t) (removed.RefusedAt d j) h u = absurd (no-answer _ _ (sym h))
+same-removed (removed.RefusedAt c j) (removed.Stock k t) h u = absurd (no-answer _ _ h)
+same-removed (removed.Refused c) (removed.RefusedAt d k) h u = absurd (no-place c d k (same-number h))
+same-removed (removed.RefusedAt c j) (removed.Refused d) h u = absurd (no-place d c j (same-number (sym h)))
+same-removed (removed.RefusedAt c j) (removed.RefusedAt d k) h u = let e = one-place c d j k (same-number h) in ap₂ removed.RefusedAt (e .0) (e .1)
 
 pub same-left : (r r' : Left) → leftPaper r ≡ leftPaper r' → r ≡ r'
 same-left (pieces.Pieces n) (pieces.Pieces m) h = ap pieces.Pieces (same-answer h)
@@ -476,8 +476,8 @@ same-proposal (proposal.Refused c) (proposal.Refused d) h = ap proposal.Refused 
 pub proposed-once : (p : Paper (List Level)) (r r' : Proposal) (ks ks₁ ks₂ : List ℕ) (xs xs₁ xs₂ : List Float) (ps ps₁ ps₂ : List ℕ) → Proposes p r ks ks₁ xs xs₁ ps ps₁ → Proposes p r' ks ks₂ xs xs₂ ps ps₂ → (r ≡ r') × (ks₁ ≡ ks₂) × (xs₁ ≡ xs₂) × (ps₁ ≡ ps₂)
 proposed-once p r r' ks ks₁ ks₂ xs xs₁ xs₂ ps ps₁ ps₂ a b = (same-proposal r r' (a .answer ∙ sym (b .answer)), a .kinds ∙ sym (b .kinds), a .numbers ∙ sym (b .numbers), a .parts ∙ sym (b .parts))
 
-pub removed-once : (k : TurnStock) (xs : List Float) (p : Paper RingStore) (r r' : Removed) (xs₁ xs₂ : List Float) → Removes k xs p r xs₁ → Removes k xs p r' xs₂ → (r ≡ r') × (xs₁ ≡ xs₂)
-removed-once k xs p r r' xs₁ xs₂ a b = (same-removed r r' (a .answer ∙ sym (b .answer)), a .store ∙ sym (b .store))
+pub removed-once : (k : TurnStock) (xs : List Float) (p : Paper RingStore) (m : ℕ) (r r' : Removed) (xs₁ xs₂ : List Float) → Removes k xs p m r xs₁ → Removes k xs p m r' xs₂ → (r ≡ r') × (xs₁ ≡ xs₂)
+removed-once k xs p m r r' xs₁ xs₂ a b = (same-removed r r' (a .answer ∙ sym (b .answer)) (a .tests ∙ sym (b .tests)), a .store ∙ sym (b .store))
 
 pub left-of-once : (xs : List Float) (p : Paper (List Ring)) (r r' : Left) (xs₁ xs₂ : List Float) → LeavesOf xs p r xs₁ → LeavesOf xs p r' xs₂ → (r ≡ r') × (xs₁ ≡ xs₂)
 left-of-once xs p r r' xs₁ xs₂ a b = (same-left r r' (a .answer ∙ sym (b .answer)), a .store ∙ sym (b .store))

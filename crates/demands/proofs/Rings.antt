@@ -52,7 +52,7 @@ record Took (spec : TurnStockSpec) (xs : List Float) (n g : ℕ) (q : Ring) (m h
   numbers : ys ≡ storeAs xs (store .rings)
   generation : h ≡ store .generation
 
-took : {spec : TurnStockSpec} {edition : ℕ} {xs : List Float} {n g : ℕ} {q : Ring} {m h : ℕ} {ys : List Float} → Removes (stockFrom spec edition n g) xs (removeRing spec xs n g q) (Stock (stockFrom spec edition m h)) ys → Took spec xs n g q m h ys
+took : {spec : TurnStockSpec} {edition : ℕ} {xs : List Float} {n g : ℕ} {q : Ring} {m h : ℕ} {ys : List Float} {u t : ℕ} → Removes (stockFrom spec edition n g) xs (removeRing spec xs n g q) u (Stock (stockFrom spec edition m h) t) ys → Took spec xs n g q m h ys
 unfolding countsOf ringsAfter onward
 took {spec} {edition} {xs} {n} {g} {q} {m} {h} {ys} a = go (removeRing spec xs n g q) refl (a .answer) (a .store)
   where

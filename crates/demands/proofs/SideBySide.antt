@@ -43,13 +43,13 @@ use Rattle.demands.specs.Run.{Store, RanRings}
 use Rattle.demands.proofs.Rings.{run-covers}
 use Rattle.demands.proofs.SideLines.{each-left}
 
--- CELLS: of the bins below n the lines are those of the changes from the first stock to the second: the cell before, and the cell after
-pub compared-cells : (cs ds : List Float) (n : ℕ) → joined (binTexts cs ds n) ≡ changeTexts (changesTo (otherCell ds) cs n)
-compared-cells cs ds n = bins-changes cs ds n
+-- CELLS: of the bins below n, of as many as there are in all, the lines are those of the changes from the first stock to the second: the cell before, and the cell after
+pub compared-cells : (all : ℕ) (cs ds : List Float) (n : ℕ) → joined (binTexts all cs ds n) ≡ changeTexts all (changesTo (otherCell ds) cs n)
+compared-cells all cs ds n = bins-changes all cs ds n
 
 -- so they are the changes of the difference, which committed to the first gives the second's cells where no bin gains material (`difference-committed` of `changes`), and else is refused with 23 at the first change that adds (`difference-adds`, proofs/Which)
-pub compared-difference : (spec : TurnStockSpec) (cs ds : List Float) (n room : ℕ) (l : List TurnChange) → stockOf spec cs ≡ answers n → differenceOf spec cs ds room ≡ answers l → joined (binTexts cs ds n) ≡ changeTexts l
-compared-difference spec cs ds n room l e f = bins-changes cs ds n ∙ ap changeTexts (sym (difference-is spec cs ds n room l e f))
+pub compared-difference : (spec : TurnStockSpec) (cs ds : List Float) (n room : ℕ) (l : List TurnChange) → stockOf spec cs ≡ answers n → differenceOf spec cs ds room ≡ answers l → joined (binTexts n cs ds n) ≡ changeTexts n l
+compared-difference spec cs ds n room l e f = bins-changes n cs ds n ∙ ap (changeTexts n) (sym (difference-is spec cs ds n room l e f))
 
 module _ (e : Ring) (ks qs : List Ring) (f : storeFits e ks ≡ true) (g : storeFits e qs ≡ true) where
   -- POINTS: a point is in as many of the rings left of qs as qs cover it and ks do not, which is one or none
@@ -89,8 +89,8 @@ pub compared-turned : (a b : Side) → bothInHand a b ≡ true → joined (chunk
 compared-turned a b h = written.written-turned a b h
 
 -- each pair of cell lines turns about
-pub compared-bin-turned : (cs ds : List Float) (i : ℕ) → binText ds cs i ≡ pick (sameCell (cellAt cs i) (cellAt ds i)) [] (cellText i (cellAt ds i) ++ cellText i (cellAt cs i))
-compared-bin-turned cs ds i = bin-turned cs ds i
+pub compared-bin-turned : (all : ℕ) (cs ds : List Float) (i : ℕ) → binText all ds cs i ≡ pick (sameCell (cellAt cs i) (cellAt ds i)) [] (cellText all i (cellAt ds i) ++ cellText all i (cellAt cs i))
+compared-bin-turned all cs ds i = bin-turned all cs ds i
 
 -- and 11 is given in both orders or in none
 pub compared-hand-turned : (a b : Side) → bothInHand b a ≡ bothInHand a b

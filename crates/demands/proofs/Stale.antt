@@ -31,6 +31,7 @@ use Rattle.rings.specs.declared.Removed.the-variants as ring
 use Rattle.rings.specs.Ring.{filled, clip}
 use Rattle.rings.specs.Store.{barRing, ringsOf, countFits, badRing, raisedBy}
 use Rattle.rings.specs.Remove.{RingStore, countsOf, stockAfter, removeRing, Removes}
+use Rattle.rings.specs.Tests.{ringTests}
 use Rattle.rings.proofs.Taken.{ring-taken}
 use Rattle.moves.specs.declared.Moved.{Moved}
 use Rattle.moves.specs.declared.Moved.the-variants as move
@@ -186,7 +187,7 @@ records-later s s' cs cs' bs xs xs' st l removed a =
     t .stock ∙ ap (λ (g : ℕ). stockWith s (s' .rings) g) (taken-in s (w .value) cs bs xs st l removed (t .left) (w .then) .rises)
 
 -- a ring leaves it, or raises it by 1
-ring-later : (s s' : TurnStock) (xs xs' : List Float) (q : Ring) → Removes s xs (removeRing (s .spec) xs (s .rings) (s .stamp .generation) q) (ring.Stock s') xs' → Later s s'
+ring-later : (s s' : TurnStock) (xs xs' : List Float) {t : ℕ} (q : Ring) → Removes s xs (removeRing (s .spec) xs (s .rings) (s .stamp .generation) q) (ringTests (s .spec) xs (s .rings) q) (ring.Stock s' t) xs' → Later s s'
 unfolding countsOf onward pick
 ring-later s s' xs xs' q a = go (removeRing (s .spec) xs (s .rings) g q) refl (a .answer)
   where

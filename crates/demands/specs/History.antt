@@ -19,6 +19,7 @@ use Rattle.rings.specs.declared.Ring.{Ring}
 use Rattle.rings.specs.declared.Removed.the-variants as ring
 use Rattle.rings.specs.Store.{barRing, countFits}
 use Rattle.rings.specs.Remove.{removeRing, Removes}
+use Rattle.rings.specs.Tests.{ringTests}
 use Rattle.moves.specs.declared.Moved.the-variants as move
 use Rattle.moves.specs.Move.{Left, moveOf, MovesKept}
 use Rattle.change_slices.specs.Move.{moveListOf}
@@ -43,7 +44,7 @@ pub data History : Owned → Owned → Type 0 where
       → History (owned s' cs' bs' rs') m → History (owned s cs bs rs) m
   moved-records : {s s' : TurnStock} {cs cs' bs bs' rs rs' : List Float} {m : Owned} (st : Stamp) (l : List TurnChange) (removed : List Float) → MovesKept s (moveListOf s cs bs rs st l removed) (move.Stock s') cs cs' bs bs' rs rs'
       → History (owned s' cs' bs' rs') m → History (owned s cs bs rs) m
-  ringed : {s s' : TurnStock} {cs bs rs rs' : List Float} {m : Owned} (q : Ring) → Removes s rs (removeRing (s .spec) rs (s .rings) (s .stamp .generation) q) (ring.Stock s') rs' → History (owned s' cs bs rs') m → History (owned s cs bs rs) m
+  ringed : {s s' : TurnStock} {cs bs rs rs' : List Float} {m : Owned} {t : ℕ} (q : Ring) → Removes s rs (removeRing (s .spec) rs (s .rings) (s .stamp .generation) q) (ringTests (s .spec) rs (s .rings) q) (ring.Stock s' t) rs' → History (owned s' cs bs rs') m → History (owned s cs bs rs) m
 
 -- ---- what a list of another stamp is refused with
 

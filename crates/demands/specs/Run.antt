@@ -23,6 +23,7 @@ use Rattle.rings.specs.declared.Ring.{Ring}
 use Rattle.rings.specs.declared.Removed.the-variants.{Stock}
 use Rattle.rings.specs.Store.{ringsOf}
 use Rattle.rings.specs.Remove.{removeRing, Removes}
+use Rattle.rings.specs.Tests.{ringTests}
 use Rattle.moves.specs.declared.Moved.the-variants as move
 use Rattle.moves.specs.Move.{moveOf, MovesKept}
 use Rattle.demands.specs.Tool.{Cutter, cutterPreview}
@@ -79,7 +80,7 @@ pub record Store : Type 0 where
 -- From one store to another by rings qs. Each was handed to `remove_ring`, which answered the stock with m rings at generation h and left ys in the lent numbers, by its promise `Removes`.
 pub data RanRings (spec : TurnStockSpec) (edition : ℕ) : Store → List Ring → Store → Type 0 where
   done : {s : Store} → RanRings spec edition s [] s
-  ring : {q : Ring} {qs : List Ring} {xs ys : List Float} {n g m h : ℕ} {s : Store} → Removes (stockFrom spec edition n g) xs (removeRing spec xs n g q) (Stock (stockFrom spec edition m h)) ys → RanRings spec edition (record { numbers = ys; count = m; generation = h }) qs s
+  ring : {q : Ring} {qs : List Ring} {xs ys : List Float} {n g m h t : ℕ} {s : Store} → Removes (stockFrom spec edition n g) xs (removeRing spec xs n g q) (ringTests spec xs n q) (Stock (stockFrom spec edition m h) t) ys → RanRings spec edition (record { numbers = ys; count = m; generation = h }) qs s
       → RanRings spec edition (record { numbers = xs; count = n; generation = g }) (q ∷ qs) s
 
 -- a stock in lent memory: its cells, and its rings

@@ -163,7 +163,7 @@ unlisted l is xs e = rw e (record { indices = refl; numbers = refl })
 -- ---- a ring
 
 -- what an answer says of the rule
-ring-none : (k : TurnStock) (p : Paper RingStore) (d : Removed) (n : Reason) (rs rs' : List Float) → removedPaper d ≡ refuses n → Removes k rs p d rs' → (p ≡ refuses n) × (rs' ≡ rs)
+ring-none : (k : TurnStock) (p : Paper RingStore) {t : ℕ} (d : Removed) (n : Reason) (rs rs' : List Float) → removedPaper d ≡ refuses n → Removes k rs p t d rs' → (p ≡ refuses n) × (rs' ≡ rs)
 unfolding countsOf ringsAfter onward
 ring-none k (answers s) d n rs rs' e w = absurd (no-answer n _ (sym e ∙ w .answer))
 ring-none k (refuses m) d n rs rs' e w = (ap refuses (sym (same-number {A = TurnStock} (sym e ∙ w .answer))), w .store)
@@ -175,22 +175,22 @@ pub record Left (k : TurnStock) (p : Paper RingStore) (a : TurnStock) (rs rs' : 
   pub stock : a ≡ stockWith k (length (store .rings)) (store .generation)
   pub lent : rs' ≡ storeAs rs (store .rings)
 
-ring-left : (k : TurnStock) (p : Paper RingStore) (a : TurnStock) (rs rs' : List Float) → Removes k rs p (removed.Stock a) rs' → Left k p a rs rs'
+ring-left : (k : TurnStock) (p : Paper RingStore) {t u : ℕ} (a : TurnStock) (rs rs' : List Float) → Removes k rs p t (removed.Stock a u) rs' → Left k p a rs rs'
 unfolding countsOf ringsAfter onward
 ring-left k (answers s) a rs rs' w = record { store = s; rule = refl; stock = same-answer (w .answer); lent = w .store }
 ring-left k (refuses m) a rs rs' w = absurd (no-answer m a (sym (w .answer)))
 
-module _ (j : Job) (q : Ring) (rs rs' : List Float) (d : Removed) (w : Removes (j .stock) rs (removeRing (j .stock .spec) rs (j .stock .rings) (j .stock .stamp .generation) q) d rs') where
+module _ (j : Job) (q : Ring) (rs rs' : List Float) (t : ℕ) (d : Removed) (w : Removes (j .stock) rs (removeRing (j .stock .spec) rs (j .stock .rings) (j .stock .stamp .generation) q) t d rs') where
   pub ring-refused : (r : Refusal) (n : Reason) → numberOf r ≡ n .number → removedPaper d ≡ refuses n → CarriesRings (removingLine j q) (carried.Refused r) rs rs'
   unfolding removingLine
   ring-refused r n t e cs =
       let k = ring-none _ _ d n rs rs' e w in
       rw (k .1) (refused-as _ r n cs rs t (simp (papers, k .0)))
 
-  pub ring-went : (a : TurnStock) → d ≡ removed.Stock a → CarriesRings (removingLine j q) (carried.Onward (record { stock = a; cells = j .cells })) rs rs'
+  pub ring-went : (a : TurnStock) (u : ℕ) → d ≡ removed.Stock a u → CarriesRings (removingLine j q) (carried.Onward (record { stock = a; cells = j .cells })) rs rs'
   unfolding removingLine
-  ring-went a e cs =
-      let k = ring-left _ _ a rs rs' (subst (λ (x : Removed). Removes (j .stock) rs (removeRing (j .stock .spec) rs (j .stock .rings) (j .stock .stamp .generation) q) x rs') e w) in
+  ring-went a u e cs =
+      let k = ring-left _ _ a rs rs' (subst (λ (x : Removed). Removes (j .stock) rs (removeRing (j .stock .spec) rs (j .stock .rings) (j .stock .stamp .generation) q) t x rs') e w) in
       rw (k .lent) (went _ _ cs cs rs _ (onward-is _ _ _ (k .rule) ∙ ap (λ (x : TurnStock). answers (stand (record { stock = x; cells = j .cells }) cs (storeAs rs (k .store .rings)))) (sym (k .stock))))
 
 -- ---- a line by its kind

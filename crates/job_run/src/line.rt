@@ -163,7 +163,7 @@ fn take_ring(job: Job, rings: &mut [f64], ring: Ring) -> Carried
     match removed {
         Removed::Refused(r) => Carried::Refused(r),
         Removed::RefusedAt(r, _) => Carried::Refused(r),
-        Removed::Stock(stock) => Carried::Onward(Job {
+        Removed::Stock(stock, _) => Carried::Onward(Job {
             stock,
             cells: job.cells,
         }),

@@ -5,5 +5,6 @@ pub mod Once
 pub mod Cells
 pub mod Accepted
 pub mod FromParts
+pub mod Told
 pub mod Kept
 pub mod Parting

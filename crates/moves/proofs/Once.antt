@@ -19,7 +19,7 @@ use Rattle.moves.specs.declared.Moved.{Moved}
 use Rattle.moves.specs.declared.Moved.the-variants as moved
 use Rattle.moves.specs.declared.Rebuilt.{Rebuilt}
 use Rattle.moves.specs.declared.Rebuilt.the-variants as rebuilt
-use Rattle.moves.specs.Move.{Left, movedPaper, MovesKept, rebuiltPaper, Rebuilds}
+use Rattle.moves.specs.Move.{Left, movedPaper, MovesKept, MovesTold, rebuiltPaper, Rebuilds, RebuildsTold}
 
 -- ---- a move
 pub same-moved : (r r' : Moved) → movedPaper r ≡ movedPaper r' → r ≡ r'
@@ -40,6 +40,13 @@ same-moved (moved.RefusedAt c k) (moved.RefusedAt c' k') h =
 pub moved-once : (k : TurnStock) (p : Paper Left) (r r' : Moved) (cs cs₁ cs₂ bs bs₁ bs₂ xs xs₁ xs₂ : List Float) → MovesKept k p r cs cs₁ bs bs₁ xs xs₁ → MovesKept k p r' cs cs₂ bs bs₂ xs xs₂ → (r ≡ r') × (cs₁ ≡ cs₂) × (bs₁ ≡ bs₂) × (xs₁ ≡ xs₂)
 moved-once k p r r' cs cs₁ cs₂ bs bs₁ bs₂ xs xs₁ xs₂ a b =
     (same-moved r r' (a .left .answer ∙ sym (b .left .answer)), a .left .cells ∙ sym (b .left .cells), a .kept ∙ sym (b .kept), a .left .rings ∙ sym (b .left .rings))
+
+-- the same, and the tests
+pub moved-told-once : (k : TurnStock) (p : Paper Left) (removed : List Float) (r r' : Moved) (cs cs₁ cs₂ bs bs₁ bs₂ xs xs₁ xs₂ : List Float) (ts ts₁ ts₂ : List ℕ) → MovesTold k p removed r cs cs₁ bs bs₁ xs xs₁ ts ts₁ → MovesTold k p removed r' cs cs₂ bs bs₂ xs xs₂ ts ts₂
+    → (r ≡ r') × (cs₁ ≡ cs₂) × (bs₁ ≡ bs₂) × (xs₁ ≡ xs₂) × (ts₁ ≡ ts₂)
+moved-told-once k p removed r r' cs cs₁ cs₂ bs bs₁ bs₂ xs xs₁ xs₂ ts ts₁ ts₂ a b =
+    let o = moved-once k p r r' cs cs₁ cs₂ bs bs₁ bs₂ xs xs₁ xs₂ (a .moves) (b .moves) in
+    (o .0, o .1, o .2, o .3, a .tests ∙ sym (b .tests))
 
 -- ---- a list of rings stored
 same-stored : (r r' : StoredAs) → storedPaper r ≡ storedPaper r' → r ≡ r'
@@ -79,3 +86,10 @@ same-rebuilt (rebuilt.RefusedAt c k) (rebuilt.RefusedAt c' k') h =
 pub rebuilt-once : (spec : TurnStockSpec) (edition : ℕ) (cs : List Float) (p : Paper (List Ring)) (r r' : Rebuilt) (bs bs₁ bs₂ xs xs₁ xs₂ : List Float) → Rebuilds spec edition cs p r bs bs₁ xs xs₁ → Rebuilds spec edition cs p r' bs bs₂ xs xs₂
     → (r ≡ r') × (bs₁ ≡ bs₂) × (xs₁ ≡ xs₂)
 rebuilt-once spec edition cs p r r' bs bs₁ bs₂ xs xs₁ xs₂ a b = (same-rebuilt r r' (a .answer ∙ sym (b .answer)), a .kept ∙ sym (b .kept), a .store ∙ sym (b .store))
+
+-- the same, and the tests
+pub rebuilt-told-once : (spec : TurnStockSpec) (edition : ℕ) (cs : List Float) (p : Paper (List Ring)) (given : List Float) (r r' : Rebuilt) (bs bs₁ bs₂ xs xs₁ xs₂ : List Float) (ts ts₁ ts₂ : List ℕ) → RebuildsTold spec edition cs p given r bs bs₁ xs xs₁ ts ts₁
+    → RebuildsTold spec edition cs p given r' bs bs₂ xs xs₂ ts ts₂ → (r ≡ r') × (bs₁ ≡ bs₂) × (xs₁ ≡ xs₂) × (ts₁ ≡ ts₂)
+rebuilt-told-once spec edition cs p given r r' bs bs₁ bs₂ xs xs₁ xs₂ ts ts₁ ts₂ a b =
+    let o = rebuilt-once spec edition cs p r r' bs bs₁ bs₂ xs xs₁ xs₂ (a .rebuilds) (b .rebuilds) in
+    (o .0, o .1, o .2, a .tests ∙ sym (b .tests))

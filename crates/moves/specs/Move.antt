@@ -27,6 +27,7 @@ use Rattle.rings.specs.Store.{barRing, ringsOf, storeAs, countFits, badRing, ra
 use Rattle.rings.specs.declared.Counts.{Counts}
 use Rattle.rings.specs.declared.Counts.the-variants as counts
 use Rattle.rings.specs.Remove.{RingCount, countsPaper, countOf, storeAfter, stockAfter, removeRings}
+use Rattle.rings.specs.Tests.{listTests}
 use Rattle.changes.specs.Commit.{passAll, putAll, numbersKept}
 use Rattle.moves.specs.declared.Moved.{Moved}
 use Rattle.moves.specs.declared.Moved.the-variants as moved
@@ -124,9 +125,20 @@ pub record MovesKept (k : TurnStock) (p : Paper Left) (r : Moved) (cs cs' bs bs'
   pub left : Moves k p r cs cs' xs xs'
   pub kept : bs' ≡ movedKept k p bs
 
--- of lent cells, kept numbers and rings, at both moments
-abbrev pub MovesLent : TurnStock → Paper Left → Moved → Lent Float → Lent Float → Lent Float → Type 0
-MovesLent k p r cells blocks rings = MovesKept k p r (now (cells .entry)) (now (cells .exit)) (now (blocks .entry)) (now (blocks .exit)) (now (rings .entry)) (now (rings .exit))
+-- the new numbers where a rule answers; a refusal leaves the old
+abbrev pub toldTests : {A : Type 0} → Paper A → List ℕ → List ℕ → List ℕ
+toldTests (answers a) new old = new
+toldTests (refuses n) new old = old
+
+-- the same, with the tests of each ring of the list `removed` at the front of a lent list
+pub record MovesTold (k : TurnStock) (p : Paper Left) (removed : List Float) (r : Moved) (cs cs' bs bs' xs xs' : List Float) (ts ts' : List ℕ) : Type 0 where
+  pub moves : MovesKept k p r cs cs' bs bs' xs xs'
+  pub tests : ts' ≡ toldTests p (listTests (k .spec) xs (k .rings) removed ts) ts
+
+-- of lent cells, kept numbers, rings and tests, at both moments
+abbrev pub MovesLent : TurnStock → Paper Left → List Float → Moved → Lent Float → Lent Float → Lent Float → Lent ℕ → Type 0
+MovesLent k p removed r cells blocks rings tests =
+    MovesTold k p removed r (now (cells .entry)) (now (cells .exit)) (now (blocks .entry)) (now (blocks .exit)) (now (rings .entry)) (now (rings .exit)) (now (tests .entry)) (now (tests .exit))
 
 -- ---- the rings of a move alone
 
@@ -182,6 +194,12 @@ pub record Rebuilds (spec : TurnStockSpec) (edition : ℕ) (cs : List Float) (p 
   pub kept : bs' ≡ rebuiltKept spec cs p bs
   pub store : ys ≡ storeAfter xs p
 
--- of lent numbers and rings, at both moments
-abbrev pub RebuildsLent : TurnStockSpec → ℕ → List Float → Paper (List Ring) → Rebuilt → Lent Float → Lent Float → Type 0
-RebuildsLent spec edition cs p r blocks rings = Rebuilds spec edition cs p r (now (blocks .entry)) (now (blocks .exit)) (now (rings .entry)) (now (rings .exit))
+-- the same, with the tests of each ring given at the front of a lent list
+pub record RebuildsTold (spec : TurnStockSpec) (edition : ℕ) (cs : List Float) (p : Paper (List Ring)) (given : List Float) (r : Rebuilt) (bs bs' xs ys : List Float) (ts ts' : List ℕ) : Type 0 where
+  pub rebuilds : Rebuilds spec edition cs p r bs bs' xs ys
+  pub tests : ts' ≡ toldTests p (listTests spec xs 0 given ts) ts
+
+-- of lent numbers, rings and tests, at both moments
+abbrev pub RebuildsLent : TurnStockSpec → ℕ → List Float → Paper (List Ring) → List Float → Rebuilt → Lent Float → Lent Float → Lent ℕ → Type 0
+RebuildsLent spec edition cs p given r blocks rings tests =
+    RebuildsTold spec edition cs p given r (now (blocks .entry)) (now (blocks .exit)) (now (rings .entry)) (now (rings .exit)) (now (tests .entry)) (now (tests .exit))

@@ -1,6 +1,7 @@
 -- Proved to come to `MovesKept` and to `Rebuilds` (proofs/Kept); need not be believed.
 -- A move and a rebuild step by step: what is left where only the blocks of the changed bins are worked out. Assumes nothing.
 use mathlib.Core.Path.{_≡_}
+use mathlib.Core.Bool.{Bool, true, false}
 use mathlib.Core.List.{List}
 use Prim.Native.Nat.{ℕ, _/_}
 use lib.ListN.{length}
@@ -44,3 +45,9 @@ abbrev pub storedKept : StoredAs → TurnStockSpec → List Float → List Float
 storedKept (stored.Rings n) spec cs bs = renewedAll (cleanSpec spec) (length cs / 4) cs bs
 storedKept (stored.Refused c) spec cs bs = bs
 storedKept (stored.RefusedAt c k) spec cs bs = bs
+
+-- an answer that is no refusal
+abbrev pub isStored : StoredAs → Bool
+isStored (stored.Rings n) = true
+isStored (stored.Refused c) = false
+isStored (stored.RefusedAt c k) = false

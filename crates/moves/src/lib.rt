@@ -9,11 +9,13 @@
 ghost use mathlib.Core.Path.{_≡_};
 ghost use Prim.Native.Nat.{_≤_};
 ghost use lib.ListN.{length};
+ghost use Rattle.floats.specs.Pick.{pick};
 ghost use Rattle.changes.specs.Change.{roomOf, changesFrom};
 ghost use Rattle.changes.specs.Commit.{passingPaper};
 ghost use Rattle.rings.specs.Remove.{storedPaper, countsPaper, StoresAs, stockAfter};
+ghost use Rattle.rings.specs.Tests.{listTests};
 ghost use Rattle.moves.specs.Move.{movableOf, ringsMoved, takenOf, TakesRings, isMoved, moveIn, moveOf, movedPaper, MovesLent, givenOf, partsOf, stockStored, rebuiltPaper, RebuildsLent};
-ghost use Rattle.moves.specs.Then.{ShiftsThen, ShiftsLent, storedKept};
+ghost use Rattle.moves.specs.Then.{ShiftsThen, ShiftsLent, storedKept, isStored};
 use changes::ChangeList;
 use changes::Passing;
 use refusals::LAST_GENERATION;
@@ -206,9 +208,28 @@ pub fn with_counts(stock: TurnStock, counts: Counts) -> Moved
     }
 }
 
-// Commit a change list and take the rings `removed`: the stock afterwards; 1, 2, 3, 6 where the lists
-// hold fewer changes, 4, 19 where the list's stamp is not the stock's, 20 where the kept numbers do not
-// match the cells, 10, 7, then change by change 8, 21, 22, 23, then 12, 11.
+// The tests of each ring of the list `removed`, where it is taken: `rings` are those afterwards, of which
+// the first `count` were stored before it.
+pub fn tell_tests(
+    taken: bool,
+    spec: TurnStockSpec,
+    rings: &[f64],
+    count: usize,
+    removed: &[f64],
+    tests: &mut [usize],
+)
+    ensures { λ _. ⌜ now (tests .exit) ≡ pick taken (listTests spec (now (rings .entry)) count (now (removed .entry)) (now (tests .entry))) (now (tests .entry)) ⌝ }
+{
+    if !taken {
+        return;
+    }
+    rings::list_tests(spec, rings, count, removed, tests);
+}
+
+// Commit a change list and take the rings `removed`: the stock afterwards, and in `tests`, as far as it
+// reaches, the tests that each ring took; 1, 2, 3, 6 where the lists hold fewer changes, 4, 19 where the
+// list's stamp is not the stock's, 20 where the kept numbers do not match the cells, 10, 7, then change
+// by change 8, 21, 22, 23, then 12, 11.
 pub fn apply_move(
     stock: TurnStock,
     cells: &mut [f64],
@@ -218,12 +239,15 @@ pub fn apply_move(
     indices: &[usize],
     records: &[f64],
     removed: &[f64],
+    tests: &mut [usize],
 ) -> Moved
     ensures { λ r. ⌜ MovesLent stock
         (moveOf stock (now (cells .entry)) (now (blocks .entry)) (now (rings .entry)) list (now (indices .entry)) (now (records .entry)) (now (removed .entry)))
-        r cells blocks rings ⌝ }
+        (now (removed .entry)) r cells blocks rings tests ⌝ }
 {
     let counts = move_from(stock, cells, blocks, rings, list, indices, records, removed);
+    let spec = stock.spec;
+    tell_tests(is_moved(counts), spec, rings, stock.rings, removed, tests);
     with_counts(stock, counts)
 }
 
@@ -292,9 +316,21 @@ fn renew_stored(stored: StoredAs, spec: TurnStockSpec, cells: &[f64], blocks: &m
     }
 }
 
+// The rings are stored, and the numbers may be written.
+fn is_stored(stored: StoredAs) -> bool
+    ensures { λ r. ⌜ r ≡ isStored stored ⌝ }
+{
+    match stored {
+        StoredAs::Rings(_) => true,
+        StoredAs::Refused(_) => false,
+        StoredAs::RefusedAt(_, _) => false,
+    }
+}
+
 // A stock of an edition, which is the caller's, from its cells and the rings `given`, which are stored
-// in `rings`; its generation is 0, and its kept numbers are worked out of the cells; 1, 2, 3, 20 where
-// they are not two for each block, 10, 11.
+// in `rings`; its generation is 0, its kept numbers are worked out of the cells, and the tests that each
+// ring took are in `tests`, as far as it reaches; 1, 2, 3, 20 where the kept numbers are not two for each
+// block, 10, 11.
 pub fn from_parts(
     spec: TurnStockSpec,
     edition: u32,
@@ -302,12 +338,14 @@ pub fn from_parts(
     blocks: &mut [f64],
     given: &[f64],
     rings: &mut [f64],
+    tests: &mut [usize],
 ) -> Rebuilt
     ensures { λ r. ⌜ RebuildsLent spec edition (now (cells .entry))
         (partsOf spec (now (cells .entry)) (length (now (blocks .entry))) (now (given .entry)) (now (rings .entry)))
-        r blocks rings ⌝ }
+        (now (given .entry)) r blocks rings tests ⌝ }
 {
     let stored = store_parts(spec, cells, blocks.len(), given, rings);
     renew_stored(stored, spec, cells, blocks);
+    tell_tests(is_stored(stored), spec, rings, 0, given, tests);
     with_rings(spec, edition, stored)
 }

@@ -3,7 +3,7 @@ use mathlib.Core.Path.{_≡_, refl}
 use mathlib.Core.Bool.{Bool, true, false, _&&_}
 use mathlib.Core.List.{List}
 use mathlib.Core.Option.{Option, none, some}
-use Prim.Native.Nat.{ℕ, zero, suc, _≤_, _<_}
+use Prim.Native.Nat.{ℕ, zero, suc, _+_, _*_, _≤_, _<_}
 use native.Mathlib.Nat.{le-refl}
 use native.Mathlib.Omega.{arith}
 use lib.Dec.{T, lit<, lit≤}
@@ -26,7 +26,7 @@ use Rattle.stock.specs.declared.ZRange.{ZRange}
 use Rattle.stock.specs.Spec.{cleanSpec}
 use Rattle.stock.specs.Bin.{binOf}
 use Rattle.stock.proofs.Count.{Checked}
-use Rattle.stock.proofs.Bins.{Sized, HeldSpec, HeldList, BinSized, bin-within}
+use Rattle.stock.proofs.Bins.{Sized, HeldSpec, HeldList, BinSized, bin-within, binBits}
 use Rattle.reach.specs.Low.{Found, lowerOf, upperOf}
 use Rattle.nose.specs.declared.Point.{Point}
 use Rattle.nose.specs.declared.Segment.{Segment}
@@ -53,30 +53,37 @@ of-two P true a b u v = u
 of-two P false a b u v = v
 
 -- ---- a capsule of at most 2 ^ 21, about points of at most 2 ^ 20
--- the circle about an end, on a line of at most 2 ^ 34
-end-within : (p : Point) (rn c : Float) → PointWithin p → W 21 rn → W 34 c → SomeOf (W 37) (endAt p rn c)
+-- how far a line of a bin is from a point, and what a capsule reaches on it, are at most 2 ^ 37 and 2 ^ 39 in size
+abbrev apartBits : ℕ
+apartBits = binBits + 1
+
+abbrev pub reachBits : ℕ
+reachBits = binBits + 3
+
+-- the circle about an end, on a line of a bin
+end-within : (p : Point) (rn c : Float) → PointWithin p → W 21 rn → W binBits c → SomeOf (W reachBits) (endAt p rn c)
 unfolding endAt ofBits
 end-within p rn c w R C =
     let dz = p .z -₆₄ c in
-    let D : W 35 dz = within-sub (w .z) C (lit< tt) in
+    let D : W apartBits dz = within-sub (w .z) C (lit< tt) in
     let g = greatestOf (rn *₆₄ rn -₆₄ dz *₆₄ dz) zero+ in
-    let G : W 71 g = gap-within (within-weaken (lit≤ tt) R) D (lit< tt) in
-    if-some (W 37) (le (sizeOf dz) rn) (lessRoot (p .r) (rootOf g)) (λ t. less (p .r) g (w .r) G (rootOf g) refl)
+    let G : W (2 * apartBits + 1) g = gap-within (within-weaken (lit≤ tt) R) D (lit< tt) in
+    if-some (W reachBits) (le (sizeOf dz) rn) (lessRoot (p .r) (rootOf g)) (λ t. less (p .r) g (w .r) G (rootOf g) refl)
   where
-    less : (r g : Float) → W 20 r → W 71 g → (q : Paper Float) → rootOf g ≡ q → SomeOf (W 37) (lessRoot r q)
+    less : (r g : Float) → W 20 r → W (2 * apartBits + 1) g → (q : Paper Float) → rootOf g ≡ q → SomeOf (W reachBits) (lessRoot r q)
     less r g R G (refuses n) e = tt
-    less r g R G (answers x) e = within-weaken (lit≤ tt) (within-sub R (root-bounded 36 g x (unfold fits in tt) (within-weaken (lit≤ tt) G) e) (lit< tt))
+    less r g R G (answers x) e = within-weaken (lit≤ tt) (within-sub R (root-bounded (binBits + 2) g x (unfold fits in tt) (within-weaken (lit≤ tt) G) e) (lit< tt))
 
--- the line between two points, the ends of which are at most 2 ^ 35
-line-within : (p q : Point) (c : Float) → W 35 (p .r) → W 35 (q .r) → SomeOf (W 37) (lineAt p q c)
+-- the line between two points, the ends of which are at most 2 ^ 37
+line-within : (p q : Point) (c : Float) → W apartBits (p .r) → W apartBits (q .r) → SomeOf (W reachBits) (lineAt p q c)
 unfolding lineAt ofBits
 line-within p q c P Q =
     let t = (c -₆₄ p .z) /₆₄ (q .z -₆₄ p .z) in
-    some-pick (W 37) (ne (q .z) (p .z))
+    some-pick (W reachBits) (ne (q .z) (p .z))
     (pick (le zero64 t && le t one64) (some (p .r +₆₄ t *₆₄ (q .r -₆₄ p .r))) none)
     (pick (le (sizeOf (p .z -₆₄ c)) onLine) (some (leastOf (p .r) (q .r))) none)
-    (if-some (W 37) (le zero64 t && le t one64) (some (p .r +₆₄ t *₆₄ (q .r -₆₄ p .r))) (λ h. part-within (record { held = div-fits binary64 (c -₆₄ p .z) (q .z -₆₄ p .z); low = and-l (le zero64 t) (le t one64) h; high = and-r (le zero64 t) (le t one64) h }) P Q (lit< tt)))
-    (if-some (W 37) (le (sizeOf (p .z -₆₄ c)) onLine) (some (leastOf (p .r) (q .r))) (λ h. within-weaken (lit≤ tt) (within-least P Q)))
+    (if-some (W reachBits) (le zero64 t && le t one64) (some (p .r +₆₄ t *₆₄ (q .r -₆₄ p .r))) (λ h. part-within (record { held = div-fits binary64 (c -₆₄ p .z) (q .z -₆₄ p .z); low = and-l (le zero64 t) (le t one64) h; high = and-r (le zero64 t) (le t one64) h }) P Q (lit< tt)))
+    (if-some (W reachBits) (le (sizeOf (p .z -₆₄ c)) onLine) (some (leastOf (p .r) (q .r))) (λ h. within-weaken (lit≤ tt) (within-least P Q)))
 
 -- the radial part of a normal, where there is one
 abbrev NormalWithin : Option Point → Type 0
@@ -105,22 +112,22 @@ normal-within a b wa wb =
     go dr dz X Y (answers l) e = if-long (lt zero64 l) (facing (pt (dz /₆₄ l) (neg dr /₆₄ l))) (λ h. facing-within (pt (dz /₆₄ l) (neg dr /₆₄ l)) (second-over (finite-within X) (finite-within Y) e h))
 
 -- a point moved along a normal
-shift-within : (p : Point) (rn : Float) (n : Point) → PointWithin p → W 21 rn → W 0 (n .r) → W 35 (shifted p rn n .r)
+shift-within : (p : Point) (rn : Float) (n : Point) → PointWithin p → W 21 rn → W 0 (n .r) → W apartBits (shifted p rn n .r)
 unfolding shifted
 shift-within p rn n w R N = within-weaken (lit≤ tt) (within-add (w .r) (within-mul R N (lit≤ tt)) (lit≤ tt))
 
 -- the straight side
-side-within : (a b : Point) (rn c : Float) (n : Option Point) → PointWithin a → PointWithin b → W 21 rn → NormalWithin n → SomeOf (W 37) (sideAt a b rn c n)
+side-within : (a b : Point) (rn c : Float) (n : Option Point) → PointWithin a → PointWithin b → W 21 rn → NormalWithin n → SomeOf (W reachBits) (sideAt a b rn c n)
 unfolding sideAt
 side-within a b rn c none wa wb R N = tt
 side-within a b rn c (some n) wa wb R N = line-within (shifted a rn n) (shifted b rn n) c (shift-within a rn n wa R N) (shift-within b rn n wb R N)
 
--- its least radius on a line is at most 2 ^ 37
-pub capsule-within : (a b : Point) (rn c : Float) → PointWithin a → PointWithin b → W 21 rn → W 34 c → SomeOf (W 37) (capsuleMinR a b rn c)
+-- its least radius on a line is at most 2 ^ 39
+pub capsule-within : (a b : Point) (rn c : Float) → PointWithin a → PointWithin b → W 21 rn → W binBits c → SomeOf (W reachBits) (capsuleMinR a b rn c)
 unfolding capsuleMinR
 capsule-within a b rn c wa wb R C =
-    lower-keeps (W 37) (lowerOf (endAt a rn c) (endAt b rn c)) (sideAt a b rn c (normalOf a b))
-    (lower-keeps (W 37) (endAt a rn c) (endAt b rn c) (end-within a rn c wa R C) (end-within b rn c wb R C))
+    lower-keeps (W reachBits) (lowerOf (endAt a rn c) (endAt b rn c)) (sideAt a b rn c (normalOf a b))
+    (lower-keeps (W reachBits) (endAt a rn c) (endAt b rn c) (end-within a rn c wa R C) (end-within b rn c wb R C))
     (side-within a b rn c (normalOf a b) wa wb R (normal-within a b wa wb))
 
 -- the lowest point
@@ -132,12 +139,12 @@ lowest-within a b rn wa wb R =
 -- ---- a bin
 -- low and high, where they are there
 pub record FoundWithin (found : Found) : Type 0 where
-  pub low : SomeOf (W 37) (found .low)
-  pub high : SomeOf (W 37) (found .high)
+  pub low : SomeOf (W reachBits) (found .low)
+  pub high : SomeOf (W reachBits) (found .high)
 
 module _ (bin : ZRange) (B : BinSized bin) (rn : Float) (R : W 20 rn) (s : Segment) (w : SegmentWithin s) where
   -- the low with a segment more
-  low-within : (l : Option Float) → SomeOf (W 37) l → SomeOf (W 37) (lowWith l s (rn +₆₄ s .sag) bin)
+  low-within : (l : Option Float) → SomeOf (W reachBits) l → SomeOf (W reachBits) (lowWith l s (rn +₆₄ s .sag) bin)
   unfolding lowWith inBin
   low-within l u =
       let grown = rn +₆₄ s .sag in
@@ -147,23 +154,23 @@ module _ (bin : ZRange) (B : BinSized bin) (rn : Float) (R : W 20 rn) (s : Segme
       let x = pick t (some (p .r)) none in
       let y = capsuleMinR (s .a) (s .b) grown (bin .za) in
       let z = capsuleMinR (s .a) (s .b) grown (bin .zb) in
-      lower-keeps (W 37) (lowerOf (lowerOf l x) y) z
-      (lower-keeps (W 37) (lowerOf l x) y
-      (lower-keeps (W 37) l x u (if-some (W 37) t (some (p .r)) (λ h. within-weaken (lit≤ tt) (lowest-within (s .a) (s .b) grown (w .a) (w .b) G))))
+      lower-keeps (W reachBits) (lowerOf (lowerOf l x) y) z
+      (lower-keeps (W reachBits) (lowerOf l x) y
+      (lower-keeps (W reachBits) l x u (if-some (W reachBits) t (some (p .r)) (λ h. within-weaken (lit≤ tt) (lowest-within (s .a) (s .b) grown (w .a) (w .b) G))))
       (capsule-within (s .a) (s .b) grown (bin .za) (w .a) (w .b) G (B .za .within)))
       (capsule-within (s .a) (s .b) grown (bin .zb) (w .a) (w .b) G (B .zb .within))
 
   -- the high with a segment more
-  high-within : (h : Option Float) → SomeOf (W 37) h → SomeOf (W 37) (highWith h s rn bin)
+  high-within : (h : Option Float) → SomeOf (W reachBits) h → SomeOf (W reachBits) (highWith h s rn bin)
   unfolding highWith
   high-within h u =
       let shrunk = rn -₆₄ s .sag in
       let G : W 21 shrunk = within-sub R (w .sag) (lit< tt) in
       let y = capsuleMinR (s .a) (s .b) shrunk (bin .za) in
       let z = capsuleMinR (s .a) (s .b) shrunk (bin .zb) in
-      some-pick (W 37) _ h _ u
-      (lower-keeps (W 37) h (upperOf y z) u
-      (upper-keeps (W 37) y z (capsule-within (s .a) (s .b) shrunk (bin .za) (w .a) (w .b) G (B .za .within)) (capsule-within (s .a) (s .b) shrunk (bin .zb) (w .a) (w .b) G (B .zb .within))))
+      some-pick (W reachBits) _ h _ u
+      (lower-keeps (W reachBits) h (upperOf y z) u
+      (upper-keeps (W reachBits) y z (capsule-within (s .a) (s .b) shrunk (bin .za) (w .a) (w .b) G (B .za .within)) (capsule-within (s .a) (s .b) shrunk (bin .zb) (w .a) (w .b) G (B .zb .within))))
 
   -- both with a segment more
   segment-within : (acc : Found) → FoundWithin acc → FoundWithin (withSegment acc s rn bin)
@@ -183,15 +190,15 @@ nose-within side rn xs bin R B ws (suc k) h = segment-within bin B rn R (segment
 
 -- ---- a nose that is not refused, on a stock that is not refused
 module _ {spec : TurnStockSpec} {n : ℕ} (held : HeldSpec spec) (ok : Checked spec n) (rn : Float) (xs : List Float) (held-rn : T (fits binary64 rn)) (held-xs : HeldList xs) (good : segmentsGood rn xs ≡ true) (side : TurnSide) (i : ℕ) (below : i < n) where
-  -- the numbers that it reaches in a bin are finite, at most 2 ^ 37 in size, and not -0.0
-  pub nose-sized : ReachOf (Sized 37) (noseAct (cleanSpec spec) side rn xs .at i)
+  -- the numbers that it reaches in a bin are finite, at most 2 ^ 39 in size, and not -0.0
+  pub nose-sized : ReachOf (Sized reachBits) (noseAct (cleanSpec spec) side rn xs .at i)
   unfolding noseAct noseReach
   nose-sized =
       let a = accepted rn xs held-rn held-xs good in
       let bin = binOf (cleanSpec spec) i in
       let f = noseTo side (cleanOf rn) xs bin (segmentCount xs) in
       let w = nose-within side (cleanOf rn) xs bin (a .radius .within) (bin-within held ok i below) (λ k l. a .segments k l side) (segmentCount xs) (le-refl (segmentCount xs)) in
-      reach-sized side 37 (f .low) (f .high) (w .low) (w .high)
+      reach-sized side reachBits (f .low) (f .high) (w .low) (w .high)
 
   -- no NaN and no -0.0
   pub nose-plain : ReachOf (Plain binary64) (noseAct (cleanSpec spec) side rn xs .at i)

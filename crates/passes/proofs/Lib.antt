@@ -1,5 +1,6 @@
 pub mod Loops
 pub mod Decoded
+pub mod Roomy
 pub mod Made
 pub mod InTurn
 pub mod Verdicts

@@ -2,7 +2,7 @@
 use mathlib.Core.Path.{_≡_, refl, sym, ap, _∙_, subst}
 use mathlib.Core.Bool.{Bool, not}
 use mathlib.Core.List.{List}
-use Prim.Native.Nat.{ℕ, _/_}
+use Prim.Native.Nat.{ℕ, _*_, _/_, _≤_, min}
 use native.Mathlib.Omega.{arith}
 use lib.Dec.{leb}
 use lib.ListN.{length}
@@ -37,6 +37,8 @@ use Rattle.cuts.specs.declared.Tool.{Tool}
 use Rattle.cuts.specs.declared.Tool.the-variants.{Single, Nose, Polygon}
 use Rattle.cuts.specs.Tool.{previewTool}
 use Rattle.passes.specs.Cuts.{passOf, standing, passTurned}
+use Rattle.passes.specs.Steps.{RoomForAll}
+use Rattle.passes.proofs.Roomy.{room-same}
 
 -- ---- a preview that answered asked the stock, and there was room for its changes
 record Settles (spec : TurnStockSpec) (cs : List Float) (room : ℕ) (l : List TurnChange) : Type 0 where
@@ -86,9 +88,9 @@ module _ (k : TurnStock) (cs : List Float) (t : Tool) (ys : List Float) where
   rule : ℕ → Paper (List TurnChange)
   rule room = previewTool (k .spec) cs t ys room
 
-  turned-is : (room : ℕ) → room ≡ cellLimit → passTurned (k .spec) (passOf t ys) (standing k cs) ≡ onward (rule room) own
+  turned-is : (room : ℕ) → min (length cs) (4 * cellLimit) ≤ 4 * room → passTurned (k .spec) (passOf t ys) (standing k cs) ≡ onward (rule room) own
   unfolding passTurned own rule
-  turned-is room e = ap (λ (m : ℕ). onward (rule m) own) (sym e)
+  turned-is room h = ap (λ (p : Paper (List TurnChange)). onward p own) (sym (room-same (k .spec) cs room h t ys))
 
   held : (room : ℕ) (is is' : List ℕ) (xs xs' : List Float) → room ≡ roomOf (length is) (length xs) → (list : ChangeList) → Proposed (k .stamp) (rule room) (Listed list) is is' xs xs'
       → onward (rule room) own ≡ commitHeld (cleanSpec (k .spec)) (length cs / 4) cs (k .stamp .generation) is' xs' (list .count)
@@ -106,7 +108,7 @@ module _ (k : TurnStock) (cs : List Float) (t : Tool) (ys : List Float) where
       ∙ ap (λ (m : ℕ). commitIn (cleanSpec (k .spec)) m cs (k .stamp .generation) l) bins
       ∙ sym (held-is (k .stamp) list l is is' xs xs' (same-listing (k .stamp) (settled (roomOf (length is) (length xs)) l) (rule room) (Listed list) is is' xs xs' fits p) (cleanSpec (k .spec)) (length cs / 4) cs (k .stamp .generation))
 
-  pub made-none : (previewed : Previewed) (r : Refusal) (is is' : List ℕ) (xs xs' : List Float) → roomOf (length is) (length xs) ≡ cellLimit
+  pub made-none : (previewed : Previewed) (r : Refusal) (is is' : List ℕ) (xs xs' : List Float) → RoomForAll cs is xs
       → Proposed (k .stamp) (previewTool (k .spec) cs t ys (roomOf (length is) (length xs))) previewed is is' xs xs'
       → previewed ≡ Refused r → Applies k (passTurned (k .spec) (passOf t ys) (standing k cs)) (applied.Refused r) cs cs
   unfolding rule
@@ -115,7 +117,7 @@ module _ (k : TurnStock) (cs : List Float) (t : Tool) (ys : List Float) where
       let w = subst (λ (d : Previewed). Proposed (k .stamp) (rule room) d is is' xs xs') e p in
       left k _ r cs (turned-is room full ∙ ap (λ (q : Paper (List TurnChange)). onward q own) (counted-none (k .stamp) _ _ (w .answer)) ∙ onward-refuses (reasonOf r) own)
 
-  pub made-all : (previewed : Previewed) (list : ChangeList) (is is' : List ℕ) (xs xs' : List Float) (r : Applied) (cs' : List Float) → roomOf (length is) (length xs) ≡ cellLimit
+  pub made-all : (previewed : Previewed) (list : ChangeList) (is is' : List ℕ) (xs xs' : List Float) (r : Applied) (cs' : List Float) → RoomForAll cs is xs
       → Proposed (k .stamp) (previewTool (k .spec) cs t ys (roomOf (length is) (length xs))) previewed is is' xs xs'
       → previewed ≡ Listed list → Applies k (commitHeld (cleanSpec (k .spec)) (length cs / 4) cs (k .stamp .generation) is' xs' (list .count)) r cs cs' → Applies k (passTurned (k .spec) (passOf t ys) (standing k cs)) r cs cs'
   unfolding rule

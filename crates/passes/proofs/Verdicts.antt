@@ -12,14 +12,13 @@ use lib.Ieee.{Float}
 use Rattle.refusals.specs.declared.Refusal.{Refusal}
 use Rattle.refusals.specs.Number.{numberOf, reasonOf}
 use Rattle.refusals.specs.Paper.{Paper, Reason, answers, refuses, only, demand, onward, placeOr, demand-true, demand-false, onward-answers, onward-refuses}
-use Rattle.refusals.specs.Limits.{cellLimit}
 use Rattle.floats.specs.Pick.{pick-true}
 use Rattle.stock.specs.declared.TurnStockSpec.{TurnStockSpec}
 use Rattle.stock.specs.declared.TurnStock.{TurnStock}
 use Rattle.stock.specs.Spec.{cleanSpec}
 use Rattle.stock.specs.Cell.{stockOf}
 use Rattle.stock.specs.Stock.{stockWith}
-use Rattle.stock.proofs.Count.{no-answer, same-answer, demanded, and-both, checked, stocked, stock-length}
+use Rattle.stock.proofs.Count.{no-answer, same-answer, demanded, and-both, stock-length}
 use Rattle.blocks.specs.Block.{blocksIn, blocksOf, matchTo, matchesOf}
 use Rattle.blocks.specs.Renew.{renewedAll}
 use Rattle.changes.specs.declared.Applied.{Applied}
@@ -114,12 +113,9 @@ module _ (spec : TurnStockSpec) (cs bs ts : List Float) (kinds : List ℕ) (room
     unfolding checkableOf
     asks = ap (λ (p : Paper ℕ). onward p rest) e ∙ onward-answers n rest
 
-    -- as many cells as there are numbers, and so few
+    -- as many cells as there are numbers
     pub cells-long : length cs ≡ 4 * n
     cells-long = stock-length spec cs n e
-
-    pub cells-few : n ≤ cellLimit
-    cells-few = checked spec n (stocked spec cs n e .count) .few
 
     pub asks-room : (room ≡ length cs → ⊥) → said ≡ refuses (only 3)
     asks-room h = asks ∙ demand-false _ _ _ (ne-eqb room (4 * n) (λ q. h (q ∙ sym cells-long)))

@@ -3,11 +3,14 @@
 use mathlib.Core.Path.{_≡_}
 use mathlib.Core.List.{List}
 use mathlib.Core.Option.{Option, none, some}
-use Prim.Native.Nat.{ℕ, zero, suc, _≤_, _<_}
+use Prim.Native.Nat.{ℕ, zero, suc, _*_, _≤_, _<_, min}
+use lib.ListN.{length}
 use lib.Ieee.{Float, nan}
 use Rattle.refusals.specs.Paper.{Paper, answers}
+use Rattle.refusals.specs.Limits.{cellLimit}
 use Rattle.stock.specs.declared.TurnStock.{TurnStock}
 use Rattle.changes.specs.declared.Applied.{Applied}
+use Rattle.changes.specs.Change.{roomOf}
 use Rattle.changes.specs.Commit.{Committed, generationOf, stockAt, appliedPaper, numbersKept}
 use Rattle.passes.specs.Check.{firstMiss, Verdict, Said, saysYes, saysBin, checkedPaper, saidBy, cellsBy}
 use Rattle.passes.specs.declared.Checked.{Checked}
@@ -21,6 +24,10 @@ sixOf a b c d e f (suc (suc (suc zero))) = d
 sixOf a b c d e f (suc (suc (suc (suc zero)))) = e
 sixOf a b c d e f (suc (suc (suc (suc (suc zero))))) = f
 sixOf a b c d e f (suc (suc (suc (suc (suc (suc j)))))) = nan
+
+-- lent lists have room for a change in every cell, as far as a stock has cells
+abbrev pub RoomForAll : List Float → List ℕ → List Float → Type 0
+RoomForAll cs is xs = min (length cs) (4 * cellLimit) ≤ 4 * roomOf (length is) (length xs)
 
 -- cuts made in turn: the answer, and where none is refused the cells
 pub record Turns (k : TurnStock) (p : Paper Committed) (r : Applied) (cs' : List Float) : Type 0 where

@@ -13,7 +13,7 @@ ghost use Rattle.changes.specs.Change.{roomOf};
 ghost use Rattle.changes.specs.Commit.{Applies};
 ghost use Rattle.passes.specs.Cuts.{passLimit, cutsOf, standing, passOf, passAt, passTurned, turnedTo};
 ghost use Rattle.passes.specs.Check.{firstMiss, verdictOf, checkableOf, checkOf, ChecksLent};
-ghost use Rattle.passes.specs.Steps.{Turns, Judged, Decided, DecidedKept};
+ghost use Rattle.passes.specs.Steps.{RoomForAll, Turns, Judged, Decided, DecidedKept};
 use changes::Applied;
 use changes::Previewed;
 use cuts::Tool;
@@ -28,7 +28,12 @@ pub mod propose;
 mod targets;
 
 // Eight numbers for each of as many changes as a stock has cells.
-const RECORD_LIMIT: usize = 32768;
+const RECORD_LIMIT: usize = 8 * CELL_LIMIT;
+
+// A stock of so many cells has shorter lists.
+const MANY_CELLS: usize = 4096;
+
+const MANY_NUMBERS: usize = 32768;
 
 // What a check finds.
 pub enum Checked {
@@ -52,7 +57,7 @@ fn make(
     indices: &mut [usize],
     records: &mut [f64],
 ) -> Applied
-    requires { ⌜ roomOf (length (now indices)) (length (now records)) ≡ cellLimit ⌝ }
+    requires { ⌜ RoomForAll (now after) (now indices) (now records) ⌝ }
     ensures { λ r. ⌜ Applies stock (passTurned (stock .spec) (passOf tool (now (beside .entry))) (standing stock (now (after .entry)))) r
         (now (after .entry)) (now (after .exit)) ⌝ }
 {
@@ -78,7 +83,7 @@ fn make_at(
     indices: &mut [usize],
     records: &mut [f64],
 ) -> Applied
-    requires { ⌜ (k < length (now kinds)) × (k < passLimit) × (roomOf (length (now indices)) (length (now records)) ≡ cellLimit) ⌝ }
+    requires { ⌜ (k < length (now kinds)) × (k < passLimit) × RoomForAll (now after) (now indices) (now records) ⌝ }
     ensures { λ r. ⌜ Applies stock
         (passTurned (stock .spec) (passAt (cutsOf (now (kinds .entry)) (now (numbers .entry)) (now (parts .entry)) (now (lists .entry))) k) (standing stock (now (after .entry)))) r
         (now (after .entry)) (now (after .exit)) ⌝ }
@@ -88,8 +93,67 @@ fn make_at(
     make(stock, after, tool, beside, indices, records)
 }
 
-// Every cut of the lists in turn; a refusal is at the place of its cut, and leaves cells part of the way.
-fn make_all(
+// Every cut of the lists in turn, with room for a change in every cell; a refusal is at the place of its
+// cut, and leaves cells part of the way.
+fn make_each(
+    stock: TurnStock,
+    after: &mut [f64],
+    kinds: &[u32],
+    numbers: &[f64],
+    parts: &[usize],
+    lists: &[f64],
+    indices: &mut [usize],
+    records: &mut [f64],
+) -> Applied
+    requires { ⌜ (length (now kinds) ≤ passLimit) × RoomForAll (now after) (now indices) (now records) ⌝ }
+    ensures { λ r. ⌜ Turns stock
+        (turnedTo (stock .spec) (cutsOf (now (kinds .entry)) (now (numbers .entry)) (now (parts .entry)) (now (lists .entry))) (standing stock (now (after .entry))) (length (now (kinds .entry)))) r
+        (now (after .exit)) ⌝ }
+{
+    let mut s = stock;
+    let mut k: usize = 0;
+    while k < kinds.len() {
+        let applied = make_at(s, after, kinds, numbers, parts, lists, k, indices, records);
+        match applied {
+            Applied::Refused(r) => return Applied::RefusedAt(r, k),
+            Applied::RefusedAt(r, _) => return Applied::RefusedAt(r, k),
+            Applied::Stock(next) => s = next,
+        }
+        k += 1;
+    }
+    Applied::Stock(s)
+}
+
+// The same with lists of its own, for many cells.
+fn make_many(
+    stock: TurnStock,
+    after: &mut [f64],
+    kinds: &[u32],
+    numbers: &[f64],
+    parts: &[usize],
+    lists: &[f64],
+) -> Applied
+    requires { ⌜ (length (now kinds) ≤ passLimit) × (length (now after) ≤ 4 * 4096) ⌝ }
+    ensures { λ r. ⌜ Turns stock
+        (turnedTo (stock .spec) (cutsOf (now (kinds .entry)) (now (numbers .entry)) (now (parts .entry)) (now (lists .entry))) (standing stock (now (after .entry))) (length (now (kinds .entry)))) r
+        (now (after .exit)) ⌝ }
+{
+    let mut indices = [0usize; MANY_CELLS];
+    let mut records = [0.0f64; MANY_NUMBERS];
+    make_each(
+        stock,
+        after,
+        kinds,
+        numbers,
+        parts,
+        lists,
+        &mut indices,
+        &mut records,
+    )
+}
+
+// For the most cells.
+fn make_most(
     stock: TurnStock,
     after: &mut [f64],
     kinds: &[u32],
@@ -104,28 +168,36 @@ fn make_all(
 {
     let mut indices = [0usize; CELL_LIMIT];
     let mut records = [0.0f64; RECORD_LIMIT];
-    let mut s = stock;
-    let mut k: usize = 0;
-    while k < kinds.len() {
-        let applied = make_at(
-            s,
-            after,
-            kinds,
-            numbers,
-            parts,
-            lists,
-            k,
-            &mut indices,
-            &mut records,
-        );
-        match applied {
-            Applied::Refused(r) => return Applied::RefusedAt(r, k),
-            Applied::RefusedAt(r, _) => return Applied::RefusedAt(r, k),
-            Applied::Stock(next) => s = next,
-        }
-        k += 1;
+    make_each(
+        stock,
+        after,
+        kinds,
+        numbers,
+        parts,
+        lists,
+        &mut indices,
+        &mut records,
+    )
+}
+
+// Every cut in turn. Lists are cleared for each check, so a stock of fewer cells has shorter ones.
+fn make_all(
+    stock: TurnStock,
+    after: &mut [f64],
+    kinds: &[u32],
+    numbers: &[f64],
+    parts: &[usize],
+    lists: &[f64],
+) -> Applied
+    requires { ⌜ length (now kinds) ≤ passLimit ⌝ }
+    ensures { λ r. ⌜ Turns stock
+        (turnedTo (stock .spec) (cutsOf (now (kinds .entry)) (now (numbers .entry)) (now (parts .entry)) (now (lists .entry))) (standing stock (now (after .entry))) (length (now (kinds .entry)))) r
+        (now (after .exit)) ⌝ }
+{
+    if after.len() <= 4 * MANY_CELLS {
+        return make_many(stock, after, kinds, numbers, parts, lists);
     }
-    Applied::Stock(s)
+    make_most(stock, after, kinds, numbers, parts, lists)
 }
 
 // The numbers of one list, written over those of another.

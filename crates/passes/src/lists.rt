@@ -15,7 +15,7 @@ use cuts::Tool;
 use stock::TurnSide;
 
 // The most cuts.
-const PASS_LIMIT: usize = 128;
+pub const PASS_LIMIT: usize = 128;
 
 // An inside cut.
 fn is_inside(kind: u32) -> bool

@@ -8,14 +8,12 @@ ghost use Prim.Native.Nat.{_+_, _*_, _≤_, _<_, min};
 ghost use lib.ListN.{length};
 ghost use lib.Seq.{sets};
 ghost use Rattle.floats.specs.Pick.{pick};
-ghost use Rattle.passes.specs.Check.{lowerAt, upperAt, targetGood, targetsTo, targetsGood};
 ghost use Rattle.passes.specs.Propose.{aimOf, insetOf, passStart, passEnd, levelOver, sameTarget, lastOfRun, standsOver, openTo, passRoom, levelRoom, proposeOf, sixOf, ProposesLent, PutsLevel, ListsLevel, ListsTo};
+use crate::lists::PASS_LIMIT;
+use crate::targets;
 use refusals::Refusal;
 use stock::Counted;
 use stock::TurnStockSpec;
-
-// The most passes.
-const PASS_LIMIT: usize = 128;
 
 // A level pass: the nose's radius, the radius of its centre, and from which z to which.
 pub struct Level {
@@ -31,62 +29,6 @@ pub enum Proposal {
     Refused(Refusal),
 }
 
-// ---- targets
-
-// The lower radius of bin i's target.
-fn lower_at(targets: &[f64], i: usize) -> f64
-    requires { ⌜ 2 * i + 2 ≤ length (now targets) ⌝ }
-    ensures { λ r. ⌜ r ≡ lowerAt (now (targets .entry)) i ⌝ }
-{
-    floats::clean(targets[2 * i])
-}
-
-// And the upper one.
-fn upper_at(targets: &[f64], i: usize) -> f64
-    requires { ⌜ 2 * i + 2 ≤ length (now targets) ⌝ }
-    ensures { λ r. ⌜ r ≡ upperAt (now (targets .entry)) i ⌝ }
-{
-    floats::clean(targets[2 * i + 1])
-}
-
-// Both are usable, in their order.
-fn target_good(targets: &[f64], i: usize) -> bool
-    requires { ⌜ 2 * i + 2 ≤ length (now targets) ⌝ }
-    ensures { λ r. ⌜ r ≡ targetGood (now (targets .entry)) i ⌝ }
-{
-    let lower = lower_at(targets, i);
-    let upper = upper_at(targets, i);
-    floats::is_usable(lower) & floats::is_usable(upper) & (lower <= upper)
-}
-
-// Those of the first n bins are.
-fn targets_to(targets: &[f64], n: usize) -> bool
-    requires { ⌜ 2 * n ≤ length (now targets) ⌝ }
-    ensures { λ r. ⌜ r ≡ targetsTo (now (targets .entry)) n ⌝ }
-{
-    let mut ok = true;
-    let mut i: usize = 0;
-    while i < n {
-        ok = ok & target_good(targets, i);
-        i += 1;
-    }
-    ok
-}
-
-// There are two for each of n bins, all good.
-fn targets_good(targets: &[f64], n: usize) -> bool
-    ensures { λ r. ⌜ r ≡ targetsGood (now (targets .entry)) n ⌝ }
-{
-    let pairs = targets.len() / 2;
-    if pairs != n {
-        return false;
-    }
-    if targets.len() != 2 * pairs {
-        return false;
-    }
-    targets_to(targets, pairs)
-}
-
 // ---- one run of bins
 
 // Midway between the two radii of bin i's target.
@@ -94,7 +36,7 @@ fn aim(targets: &[f64], i: usize) -> f64
     requires { ⌜ 2 * i + 2 ≤ length (now targets) ⌝ }
     ensures { λ r. ⌜ r ≡ aimOf (now (targets .entry)) i ⌝ }
 {
-    (lower_at(targets, i) + upper_at(targets, i)) / 2.0
+    (targets::lower_at(targets, i) + targets::upper_at(targets, i)) / 2.0
 }
 
 // How far a pass stays away from a step up.
@@ -113,7 +55,7 @@ fn pass_start(s: TurnStockSpec, targets: &[f64], rn: f64, i: usize) -> f64
     if i == 0 {
         return bin.za - rn;
     }
-    if aim(targets, i) < lower_at(targets, i - 1) {
+    if aim(targets, i) < targets::lower_at(targets, i - 1) {
         return bin.za + inset(s.cell_mm, rn);
     }
     bin.za
@@ -128,7 +70,7 @@ fn pass_end(s: TurnStockSpec, n: usize, targets: &[f64], rn: f64, i: usize) -> f
     if i + 1 == n {
         return bin.zb + rn;
     }
-    if aim(targets, i) < lower_at(targets, i + 1) {
+    if aim(targets, i) < targets::lower_at(targets, i + 1) {
         return bin.zb - inset(s.cell_mm, rn);
     }
     bin.zb
@@ -160,8 +102,8 @@ fn same_target(targets: &[f64], i: usize) -> bool
     ensures { λ r. ⌜ r ≡ sameTarget (now (targets .entry)) i ⌝ }
 {
     let next = i + 1;
-    (lower_at(targets, i) == lower_at(targets, next))
-        & (upper_at(targets, i) == upper_at(targets, next))
+    (targets::lower_at(targets, i) == targets::lower_at(targets, next))
+        & (targets::upper_at(targets, i) == targets::upper_at(targets, next))
 }
 
 // Bin i of n is the last of its run.
@@ -181,7 +123,7 @@ fn stands_over(targets: &[f64], cells: &[f64], i: usize) -> bool
     ensures { λ r. ⌜ r ≡ standsOver (now (targets .entry)) (now (cells .entry)) i ⌝ }
 {
     let cell = stock::cell_at(cells, i);
-    upper_at(targets, i) < cell.outer.upper_mm
+    targets::upper_at(targets, i) < cell.outer.upper_mm
 }
 
 // ---- writing
@@ -304,7 +246,7 @@ pub fn propose(
     match counted {
         Counted::Refused(r) => Proposal::Refused(r),
         Counted::Cells(n) => {
-            if !targets_good(targets, n) {
+            if !targets::are_good(targets, n) {
                 return Proposal::Refused(Refusal::PassesOutside);
             }
             let nose = floats::clean(rn);

@@ -1,39 +1,66 @@
 // Targets: a lower and an upper radius for each bin, lent flat, two numbers a bin.
 ghost use mathlib.Core.Path.{_≡_};
 ghost use mathlib.Core.Bool.{_&&_};
-ghost use Prim.Native.Nat.{_*_, _≤_};
+ghost use Prim.Native.Nat.{_+_, _*_, _≤_};
 ghost use lib.Ieee.{le};
 ghost use lib.ListN.{length};
-ghost use Rattle.refusals.specs.Limits.{cellLimit};
-ghost use Rattle.floats.specs.Numbers.{cleanOf, usable};
-ghost use Rattle.passes.specs.Check.{targetsGood};
+ghost use Rattle.floats.specs.Numbers.{cleanOf};
+ghost use Rattle.passes.specs.Check.{lowerAt, upperAt, targetGood, targetsTo, targetsGood};
 ghost use Rattle.passes.specs.Steps.{MissedFirst};
 use stock::TurnCell;
 
-// Both numbers are in range, and the lower is not above the upper; -0.0 is read as +0.0.
-fn is_good(lower: f64, upper: f64) -> bool
-    ensures { λ r. ⌜ r ≡ (usable (cleanOf lower) && usable (cleanOf upper) && le (cleanOf lower) (cleanOf upper)) ⌝ }
+// The lower radius of bin i's target.
+pub fn lower_at(targets: &[f64], i: usize) -> f64
+    requires { ⌜ 2 * i + 2 ≤ length (now targets) ⌝ }
+    ensures { λ r. ⌜ r ≡ lowerAt (now (targets .entry)) i ⌝ }
 {
-    let low = floats::clean(lower);
-    let high = floats::clean(upper);
-    floats::is_usable(low) & floats::is_usable(high) & (low <= high)
+    floats::clean(targets[2 * i])
+}
+
+// And the upper one.
+pub fn upper_at(targets: &[f64], i: usize) -> f64
+    requires { ⌜ 2 * i + 2 ≤ length (now targets) ⌝ }
+    ensures { λ r. ⌜ r ≡ upperAt (now (targets .entry)) i ⌝ }
+{
+    floats::clean(targets[2 * i + 1])
+}
+
+// Both are usable, in their order.
+fn target_good(targets: &[f64], i: usize) -> bool
+    requires { ⌜ 2 * i + 2 ≤ length (now targets) ⌝ }
+    ensures { λ r. ⌜ r ≡ targetGood (now (targets .entry)) i ⌝ }
+{
+    let lower = lower_at(targets, i);
+    let upper = upper_at(targets, i);
+    floats::is_usable(lower) & floats::is_usable(upper) & (lower <= upper)
+}
+
+// Those of the first n bins are.
+fn targets_to(targets: &[f64], n: usize) -> bool
+    requires { ⌜ 2 * n ≤ length (now targets) ⌝ }
+    ensures { λ r. ⌜ r ≡ targetsTo (now (targets .entry)) n ⌝ }
+{
+    let mut ok = true;
+    let mut i: usize = 0;
+    while i < n {
+        ok = ok & target_good(targets, i);
+        i += 1;
+    }
+    ok
 }
 
 // There are two for each of n bins, all good.
 pub fn are_good(targets: &[f64], n: usize) -> bool
-    requires { ⌜ n ≤ cellLimit ⌝ }
     ensures { λ r. ⌜ r ≡ targetsGood (now (targets .entry)) n ⌝ }
 {
-    if targets.len() != 2 * n {
+    let pairs = targets.len() / 2;
+    if pairs != n {
         return false;
     }
-    let mut ok = true;
-    let mut i: usize = 0;
-    while i < n {
-        ok = ok & is_good(targets[2 * i], targets[2 * i + 1]);
-        i += 1;
+    if targets.len() != 2 * pairs {
+        return false;
     }
-    ok
+    targets_to(targets, pairs)
 }
 
 // The outer bounds of a cell are within a target.

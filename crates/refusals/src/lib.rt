@@ -10,7 +10,7 @@ ghost use Rattle.refusals.specs.Number.{numberOf};
 pub enum Refusal {
     // 1: a spec value outside the rules
     SpecOutside,
-    // 2: the number of cells is 0, infinite, over max_cells or over 4,096
+    // 2: the number of cells is 0, infinite, over max_cells or over 16,384
     CellCount,
     // 3: the lent cells are not n, or one does not fit
     CellsDoNotFit,
@@ -90,8 +90,8 @@ pub fn number(r: Refusal) -> u32
     }
 }
 
-// The limits of 01 and of Req 07 of 02, at which a refusal begins.
-pub const CELL_LIMIT: usize = 4096;
+// The limits of 01, and of Req 07 and Req 14 of 02, at which a refusal begins.
+pub const CELL_LIMIT: usize = 16384;
 
 pub const SEGMENT_LIMIT: usize = 4096;
 

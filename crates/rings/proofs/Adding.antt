@@ -16,6 +16,7 @@ use Rattle.refusals.specs.Number.{reasonOf}
 use Rattle.refusals.specs.Paper.{Paper, Reason, answers, refuses, only, demand, onward, demand-true, demand-false}
 use Rattle.floats.specs.Pick.{pick, pick-true, pick-false}
 use Rattle.rings.specs.declared.Ring.{Ring}
+use Rattle.rings.specs.declared.Added.{Added}
 use Rattle.rings.specs.declared.StoredAs.{StoredAs}
 use Rattle.rings.specs.declared.StoredAs.the-variants.{Rings, Refused}
 use Rattle.rings.specs.declared.Left.the-variants as pieces
@@ -23,6 +24,7 @@ use Rattle.rings.specs.Ring.{filled, apart, kept, subtract, subtractAll,
 use Rattle.rings.specs.Store.{ringAt, ringsOf, storeAs, write, apartAll}
 use Rattle.rings.specs.Hand.{Subtracted}
 use Rattle.rings.specs.Remove.{roomFor, added, addedAll, countOf, storedPaper, storeAfter, StoresAs, leaves, LeavesOf}
+use Rattle.rings.specs.Counted.{storedBy, Adds}
 use Rattle.rings.proofs.Flat.{rings-next, length-rings, rings-stored, stored-same, length-stored, write-behind, rings-copied}
 use Rattle.rings.proofs.Prefix.{apart-turns}
 use Rattle.rings.proofs.InHand.{kept-few, subtract-apart, in-hand-few, in-hand-more}
@@ -110,16 +112,16 @@ added-room room ks c l e = go (roomFor room ks c) refl
         let z : _≡_ {A = ℕ} 0 1 = cc in
         absurd (omega arith)
 
-kept-yes : (c : Ring) → filled c ≡ true → kept c ≡ c ∷ []
+pub kept-yes : (c : Ring) → filled c ≡ true → kept c ≡ c ∷ []
 unfolding kept
 kept-yes c e = pick-true (filled c) (c ∷ []) [] e
 
-kept-no : (c : Ring) → filled c ≡ false → kept c ≡ []
+pub kept-no : (c : Ring) → filled c ≡ false → kept c ≡ []
 unfolding kept
 kept-no c e = pick-false (filled c) (c ∷ []) [] e
 
 -- no piece, nothing left
-nothing-left : (ks : List Ring) → (subtractAll [] ks ≡ []) × (inHand 256 [] ks ≡ true)
+pub nothing-left : (ks : List Ring) → (subtractAll [] ks ≡ []) × (inHand 256 [] ks ≡ true)
 unfolding subtractAll inHand subtract
 nothing-left [] = (refl, refl)
 nothing-left (k ∷ ks) = nothing-left ks
@@ -197,7 +199,7 @@ module _ (room count few : ℕ) (c : Ring) (xs hand : List Float) (r : ℕ) (cut
   unfolding left
   counted t g = cut .count ∙ ap (λ (b : Bool). pick b (length (subtractAll (kept c) (ringsOf count xs))) (few + 1)) g
 
-  in-hand : r ≤ few → inHand few (kept c) (ringsOf count xs) ≡ true
+  pub in-hand : r ≤ few → inHand few (kept c) (ringsOf count xs) ≡ true
   unfolding pick
   in-hand l = go (inHand few (kept c) (ringsOf count xs)) refl
     where
@@ -269,6 +271,13 @@ stores-pieces xs hand ys room count n h y =
 pub stores-as : {xs ys : List Float} {r : StoredAs} {p q : Paper (List Ring)} → p ≡ q → StoresAs xs p r ys → StoresAs xs q r ys
 stores-as {xs} {ys} {r} e s = subst (λ (v : Paper (List Ring)). StoresAs xs v r ys) e s
 
+pub adds-as : {xs ys : List Float} {r : Added} {p q : Paper (List Ring)} {m k : ℕ} → p ≡ q → m ≡ k → Adds xs p m r ys → Adds xs q k r ys
+adds-as {xs} {ys} {r} {p} {q} {m} {k} e f s = subst (λ (v : Paper (List Ring)). Adds xs v k r ys) e (subst (λ (j : ℕ). Adds xs p j r ys) f s)
+
+-- the answer without the tests
+pub stores-by : {xs ys : List Float} {a : Added} {p : Paper (List Ring)} {m : ℕ} (r : StoredAs) → r ≡ storedBy a → Adds xs p m a ys → StoresAs xs p r ys
+stores-by {xs} {ys} {a} {p} r e s = subst (λ (v : StoredAs). StoresAs xs p v ys) (sym e) (s .stores)
+
 -- ---- a list of rings
 addedAll-append : (e : Ring) (room : ℕ) (ks s t : List Ring) → addedAll e room ks (s ++ t) ≡ onward (addedAll e room ks s) (λ l. addedAll e room l t)
 unfolding addedAll onward
@@ -299,7 +308,7 @@ unfolding addedAll ringsOf
 added-one e room ks news c f = ap (added room ks) f ∙ sym (added-next e room ks news 0 ks refl)
 
 -- once refused it stays so
-refused-more : (e : Ring) (room : ℕ) (ks : List Ring) (news : List Float) (x : Reason) (i c : ℕ) → i ≤ c → addedAll e room ks (ringsOf i news) ≡ refuses x → addedAll e room ks (ringsOf c news) ≡ refuses x
+pub refused-more : (e : Ring) (room : ℕ) (ks : List Ring) (news : List Float) (x : Reason) (i c : ℕ) → i ≤ c → addedAll e room ks (ringsOf i news) ≡ refuses x → addedAll e room ks (ringsOf c news) ≡ refuses x
 unfolding ringsOf onward
 refused-more e room ks news x i c h f = go c h
   where

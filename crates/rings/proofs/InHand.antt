@@ -12,7 +12,8 @@ use Rattle.floats.specs.Pick.{pick, pick-true, pick-false}
 use Rattle.rings.specs.declared.Ring.{Ring}
 use Rattle.rings.specs.Ring.{filled, apart, common, kept, before, behind, inside, outside, around, split, subtract, subtractAll, inHand}
 use Rattle.rings.specs.Store.{ringAt, ringsOf, storeAs, write, apartAll}
-use Rattle.rings.specs.Hand.{Holds, Grows, Subtracted}
+use Rattle.rings.specs.declared.hand.Cut.{Cut}
+use Rattle.rings.specs.Hand.{Holds, Grows, Subtracted, CutsAll}
 use Rattle.rings.proofs.Flat.{rings-next, length-snoc, length-rings, rings-written, length-stored, rings-copied}
 use Rattle.rings.proofs.Prefix.{stays-false}
 
@@ -235,5 +236,5 @@ module _ (room : ℕ) (h : 1 ≤ room) (c : Ring) (hand : List Float) (n : ℕ) 
   pub one-few : n ≤ room
   one-few = let f = i .count in let g = kept-few c in omega arith
 
-  pub one-cut : (ks : List Ring) (ys : List Float) (r : ℕ) → Subtracted room (ringsOf n hand) ks ys r → Subtracted room (kept c) ks ys r
-  one-cut ks ys r s = subst (λ (l : List Ring). Subtracted room l ks ys r) (i .same one-few) s
+  pub one-cut : (ks : List Ring) (ys : List Float) (r : Cut) → CutsAll room (ringsOf n hand) ks ys r → CutsAll room (kept c) ks ys r
+  one-cut ks ys r s = subst (λ (l : List Ring). CutsAll room l ks ys r) (i .same one-few) s

@@ -3,9 +3,11 @@ pub mod Prefix
 pub mod Bad
 pub mod InHand
 pub mod Adding
+pub mod Tested
 pub mod Removing
 pub mod Cover
 pub mod Fitting
 pub mod Boxes
 pub mod Covering
 pub mod Taken
+pub mod Listed

@@ -19,15 +19,20 @@ use Rattle.stock.specs.declared.TurnStock.{TurnStock}
 use Rattle.stock.specs.declared.Counted.{Counted}
 use Rattle.stock.specs.declared.Counted.the-variants as counted
 use Rattle.stock.specs.Spec.{cleanSpec, cellsOf, countedPaper}
+use Rattle.stock.proofs.Count.{no-answer}
 use Rattle.rings.specs.declared.Ring.{Ring}
 use Rattle.rings.specs.declared.Counts.{Counts}
 use Rattle.rings.specs.declared.Counts.the-variants as counts
 use Rattle.rings.specs.declared.Removed.{Removed}
+use Rattle.rings.specs.declared.Took.{Took}
+use Rattle.rings.specs.declared.Took.the-variants as took
 use Rattle.rings.specs.declared.StoredAs.{StoredAs}
 use Rattle.rings.specs.declared.StoredAs.the-variants as stored
 use Rattle.rings.specs.Ring.{filled, clip}
 use Rattle.rings.specs.Store.{barRing, ringAt, ringsOf, ringRoom, storeAs, storeFits, countFits, finiteRing}
 use Rattle.rings.specs.Remove.{added, addedAll, storedPaper, StoresAs, removeAllIn, removeRings, RingStore, storedNext, removeIn, removeRing, countsPaper, countsOf, ringsAfter, Takes, stockAfter, removedPaper, Removes}
+use Rattle.rings.specs.Tests.{ringTests}
+use Rattle.rings.specs.Counted.{countsBy, testsBy, TakenTests, TakesFrom, StockTaken}
 use Rattle.rings.proofs.Flat.{length-rings, stored-same}
 use Rattle.rings.proofs.Adding.{stores-none, stores-refused, stores-rings, stores-as, accepted, refused, added-one}
 
@@ -173,9 +178,24 @@ module _ (spec : TurnStockSpec) (xs : List Float) (n g : ℕ) (q : Ring) where
       ap (λ (b : Ring). removeIn b xs n g q) v ∙ sym (ap (λ (p : Paper ℕ). onward p (λ _. removeIn (barRing (cleanSpec spec)) xs n g q)) (sym f ∙ ap countedPaper h)) in
       subst (λ (b : Paper RingStore). Takes xs b a ys) p s
 
+-- the tests, where the ring is taken
+told : (t : Took) (p : Paper RingStore) (m : ℕ) → countsPaper (countsBy t) ≡ countsOf p → TakenTests t m → testsBy t ≡ onward p (λ _. answers m)
+unfolding countsOf onward
+told (took.Stored n g t) (answers s) m a e = ap answers e
+told (took.Stored n g t) (refuses x) m a e = absurd (no-answer x _ (sym a))
+told (took.Refused c) (answers s) m a e = absurd (no-answer (reasonOf c) _ a)
+told (took.Refused c) (refuses x) m a e = let h : reasonOf c ≡ x = cc in ap refuses h
+told (took.RefusedAt c k) (answers s) m a e = absurd (no-answer (reasonAt c k) _ a)
+told (took.RefusedAt c k) (refuses x) m a e = let h : reasonAt c k ≡ x = cc in ap refuses h
+
 -- from counts to the stock that has them
-pub removes-from : {k : TurnStock} {xs ys : List Float} {p : Paper RingStore} {t : Counts} {r : Removed} → removedPaper r ≡ stockAfter k (countsPaper t) → Takes xs p t ys → Removes k xs p r ys
-removes-from {k} e s = record { answer = e ∙ ap (stockAfter k) (s .answer); store = s .store }
+pub removes-from : {k : TurnStock} {xs ys : List Float} {n g : ℕ} {q : Ring} {t : Took} {r : Removed} → StockTaken k t r → TakesFrom (k .spec) xs n g q t ys → Removes k xs (removeRing (k .spec) xs n g q) (ringTests (k .spec) xs n q) r ys
+removes-from {k} {xs} {ys} {n} {g} {q} {t} e s =
+    record {
+      answer = e .answer ∙ ap (stockAfter k) (s .takes .answer);
+      store = s .takes .store;
+      tests = e .tests ∙ told t (removeRing (k .spec) xs n g q) (ringTests (k .spec) xs n q) (s .takes .answer) (s .tests);
+    }
 
 -- a list of rings, in a stock
 pub all-of : (spec : TurnStockSpec) (e : Ring) (xs : List Float) (n : ℕ) (news : List Float) {r : StoredAs} {ys : List Float} → e ≡ barRing (cleanSpec spec)

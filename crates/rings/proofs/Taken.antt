@@ -188,7 +188,7 @@ unfolding ringsGood
 lent-finite news f = good-finite (ringsOf (length news / 4) news) (and-r (eqb (length news % 4) 0) (allGood (ringsOf (length news / 4) news)) (so f))
 
 -- no more rings than the room
-all-room : (e : Ring) (room : ℕ) (ks qs l : List Ring) → length ks ≤ room → addedAll e room ks qs ≡ answers l → length l ≤ room
+pub all-room : (e : Ring) (room : ℕ) (ks qs l : List Ring) → length ks ≤ room → addedAll e room ks qs ≡ answers l → length l ≤ room
 unfolding addedAll onward
 all-room e room ks [] l h a = let b : ks ≡ l = same-answer a in subst (λ (m : List Ring). length m ≤ room) b h
 all-room e room ks (q ∷ qs) l h a = go (added room ks (clip e q)) refl a (λ m. all-room e room m qs l)

@@ -120,14 +120,21 @@ stockAfter k (answers c) = answers (stockWith k (c .rings) (c .generation))
 stockAfter k (refuses r) = refuses r
 
 abbrev pub removedPaper : Removed → Paper TurnStock
-removedPaper (removed.Stock k) = answers k
+removedPaper (removed.Stock k t) = answers k
 removedPaper (removed.Refused c) = refuses (reasonOf c)
 removedPaper (removed.RefusedAt c k) = refuses (reasonAt c k)
 
--- the stock and the lent rings after one ring of the stock k
-pub record Removes (k : TurnStock) (xs : List Float) (p : Paper RingStore) (r : Removed) (ys : List Float) : Type 0 where
+-- the tests of a piece against a stored ring that an answer tells
+abbrev pub removedTests : Removed → Paper ℕ
+removedTests (removed.Stock k t) = answers t
+removedTests (removed.Refused c) = refuses (reasonOf c)
+removedTests (removed.RefusedAt c k) = refuses (reasonAt c k)
+
+-- the stock, the lent rings and the tests m after one ring of the stock k
+pub record Removes (k : TurnStock) (xs : List Float) (p : Paper RingStore) (m : ℕ) (r : Removed) (ys : List Float) : Type 0 where
   pub answer : removedPaper r ≡ stockAfter k (countsOf p)
   pub store : ys ≡ ringsAfter xs p
+  pub tests : removedTests r ≡ onward p (λ _. answers m)
 
 -- ---- a ring taken as it stands
 

@@ -6,10 +6,19 @@ ghost use Prim.Native.Nat.{_*_, _≤_};
 ghost use lib.ListN.{length};
 ghost use Rattle.rings.specs.Ring.{kept, split, subtract};
 ghost use Rattle.rings.specs.Store.{ringsOf};
-ghost use Rattle.rings.specs.Hand.{Holds, Grows, Subtracted};
+ghost use Rattle.rings.specs.Hand.{Holds, Grows, CutsAll};
 use crate::Ring;
 use crate::lent;
 use crate::shape;
+
+// No more tests are counted: as many as 256 rings make with 256 pieces in hand.
+const TEST_LIMIT: usize = 65536;
+
+// The pieces left in hand, and how many tests of a piece against a ring were made.
+pub struct Cut {
+    pub left: usize,
+    pub tests: usize,
+}
 
 // One more piece in hand, if there is room for it.
 fn push(hand: &mut [f64], n: usize, q: Ring) -> usize
@@ -113,7 +122,8 @@ fn cut_by(hand: &mut [f64], room: usize, n: usize, k: Ring, next: &mut [f64]) ->
     m
 }
 
-// What the first `count` stored rings leave of the n pieces in hand, in hand.
+// What the first `count` stored rings leave of the n pieces in hand, in hand. Each is tested against the
+// pieces in hand before it.
 fn subtract_all(
     rings: &[f64],
     count: usize,
@@ -121,20 +131,22 @@ fn subtract_all(
     room: usize,
     n: usize,
     next: &mut [f64],
-) -> usize
+) -> Cut
     requires { ⌜ (4 * count ≤ length (now rings)) × (n ≤ room) × (length (now hand) ≡ 4 * room) × (length (now next) ≡ 4 * room) ⌝ }
-    ensures { λ r. ⌜ Subtracted room (ringsOf n (now (hand .entry))) (ringsOf count (now (rings .entry))) (now (hand .exit)) r ⌝ }
+    ensures { λ r. ⌜ CutsAll room (ringsOf n (now (hand .entry))) (ringsOf count (now (rings .entry))) (now (hand .exit)) r ⌝ }
 {
     let mut m = n;
+    let mut tests: usize = 0;
     let mut j: usize = 0;
     while j < count {
+        tests = numbers::lesser(tests + m, TEST_LIMIT);
         m = cut_by(hand, room, m, lent::ring_at(rings, j), next);
         if room < m {
-            return m;
+            return Cut { left: m, tests };
         }
         j += 1;
     }
-    m
+    Cut { left: m, tests }
 }
 
 // What the first `count` stored rings leave of the ring c, in hand.
@@ -145,9 +157,9 @@ pub fn cut_ring(
     hand: &mut [f64],
     room: usize,
     next: &mut [f64],
-) -> usize
+) -> Cut
     requires { ⌜ (4 * count ≤ length (now rings)) × (1 ≤ room) × (length (now hand) ≡ 4 * room) × (length (now next) ≡ 4 * room) ⌝ }
-    ensures { λ r. ⌜ Subtracted room (kept c) (ringsOf count (now (rings .entry))) (now (hand .exit)) r ⌝ }
+    ensures { λ r. ⌜ CutsAll room (kept c) (ringsOf count (now (rings .entry))) (now (hand .exit)) r ⌝ }
 {
     let n = put(hand, 0, c);
     subtract_all(rings, count, hand, room, n, next)

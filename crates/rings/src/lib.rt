@@ -12,7 +12,9 @@ ghost use Rattle.refusals.specs.Paper.{placeOr};
 ghost use Rattle.floats.specs.Pick.{pick};
 ghost use Rattle.stock.specs.Spec.{cleanSpec};
 ghost use Rattle.rings.specs.Store.{barRing, ringsOf, countFits, badFrom, badRing, judgedPlace, allGood, raisedBy};
-ghost use Rattle.rings.specs.Remove.{StoresAs, removeAllIn, removeRings, removeIn, removeRing, countsPaper, Takes, stockAfter, removedPaper, Removes, leftOf, LeavesOf};
+ghost use Rattle.rings.specs.Remove.{StoresAs, removeAllIn, removeRings, removeRing, Removes, leftOf, LeavesOf};
+ghost use Rattle.rings.specs.Tests.{ringTests, listTestsIn, listTests};
+ghost use Rattle.rings.specs.Counted.{TakesOne, TakesFrom, StockTaken, storedBy};
 use refusals::LAST_GENERATION;
 use refusals::PIECE_LIMIT;
 use refusals::Refusal;
@@ -42,12 +44,26 @@ pub enum Counts {
     RefusedAt(Refusal, usize),
 }
 
-// One ring taken: the stock afterwards.
+// One ring taken: the stock afterwards, and the tests of a piece against a stored ring that it took.
 pub enum Removed {
-    Stock(TurnStock),
+    Stock(TurnStock, usize),
     Refused(Refusal),
     // at the place of the ring in its list, which is 0
     RefusedAt(Refusal, usize),
+}
+
+// One ring taken: the count of rings and the generation afterwards, and the tests that it took.
+enum Took {
+    Stored(usize, u64, usize),
+    Refused(Refusal),
+    // at the place of the ring in its list, which is 0
+    RefusedAt(Refusal, usize),
+}
+
+// A clipped ring stored: how many rings there are then, and the tests that it took.
+enum Added {
+    Rings(usize, usize),
+    Refused(Refusal),
 }
 
 // Rings stored: how many there are then.
@@ -91,27 +107,26 @@ pub fn rings_fit(spec: TurnStockSpec, rings: &[f64], count: usize) -> bool
 }
 
 // A ring within the extent e; 4, 10, 12, 11.
-fn remove_in(e: Ring, rings: &mut [f64], count: usize, generation: u64, ring: Ring) -> Counts
-    ensures { λ r. ⌜ Takes (now (rings .entry)) (removeIn e (now (rings .entry)) count generation ring) r (now (rings .exit)) ⌝ }
+fn remove_in(e: Ring, rings: &mut [f64], count: usize, generation: u64, ring: Ring) -> Took
+    ensures { λ r. ⌜ TakesOne e (now (rings .entry)) count generation ring r (now (rings .exit)) ⌝ }
 {
     if !fit::count_fits(e, rings, count) {
-        return Counts::Refused(Refusal::StoredRings);
+        return Took::Refused(Refusal::StoredRings);
     }
     if !shape::is_finite_ring(ring) {
-        return Counts::RefusedAt(Refusal::RingOutside, 0);
+        return Took::RefusedAt(Refusal::RingOutside, 0);
     }
     let c = shape::clipped(e, ring);
     if !shape::is_filled(c) {
-        return Counts::Stored(count, generation);
+        return Took::Stored(count, generation, 0);
     }
     if LAST_GENERATION <= generation {
-        return Counts::Refused(Refusal::GenerationsSpent);
+        return Took::Refused(Refusal::GenerationsSpent);
     }
     let added = store::add_ring(rings, lent::room_of(rings.len()), count, c);
     match added {
-        StoredAs::Refused(r) => Counts::Refused(r),
-        StoredAs::RefusedAt(r, k) => Counts::RefusedAt(r, k),
-        StoredAs::Rings(n) => Counts::Stored(n, generation + 1),
+        Added::Refused(r) => Took::Refused(r),
+        Added::Rings(n, tests) => Took::Stored(n, generation + 1, tests),
     }
 }
 
@@ -122,35 +137,49 @@ fn remove_from(
     count: usize,
     generation: u64,
     ring: Ring,
-) -> Counts
-    ensures { λ r. ⌜ Takes (now (rings .entry)) (removeRing spec (now (rings .entry)) count generation ring) r (now (rings .exit)) ⌝ }
+) -> Took
+    ensures { λ r. ⌜ TakesFrom spec (now (rings .entry)) count generation ring r (now (rings .exit)) ⌝ }
 {
     let counted = stock::validate(spec);
     match counted {
-        Counted::Refused(r) => Counts::Refused(r),
+        Counted::Refused(r) => Took::Refused(r),
         Counted::Cells(_) => remove_in(extent(spec), rings, count, generation, ring),
     }
 }
 
 // The stock with the rings and the generation that it has then.
-fn with_counts(stock: TurnStock, counts: Counts) -> Removed
-    ensures { λ r. ⌜ removedPaper r ≡ stockAfter stock (countsPaper counts) ⌝ }
+fn with_counts(stock: TurnStock, took: Took) -> Removed
+    ensures { λ r. ⌜ StockTaken stock took r ⌝ }
 {
-    match counts {
-        Counts::Refused(r) => Removed::Refused(r),
-        Counts::RefusedAt(r, k) => Removed::RefusedAt(r, k),
-        Counts::Stored(n, generation) => { Removed::Stock(stock::stock_with(stock, n, generation)) }
+    match took {
+        Took::Refused(r) => Removed::Refused(r),
+        Took::RefusedAt(r, k) => Removed::RefusedAt(r, k),
+        Took::Stored(n, generation, tests) => {
+            Removed::Stock(stock::stock_with(stock, n, generation), tests)
+        }
     }
 }
 
-// A ring certainly removed inside the material: the stock afterwards; 1, 2, 4, 10, 12, 11.
+// A ring certainly removed inside the material: the stock afterwards, and the tests that it took; 1, 2,
+// 4, 10, 12, 11.
 pub fn remove_ring(stock: TurnStock, rings: &mut [f64], ring: Ring) -> Removed
     ensures { λ r. ⌜ Removes stock (now (rings .entry))
-        (removeRing (stock .spec) (now (rings .entry)) (stock .rings) (stock .stamp .generation) ring) r (now (rings .exit)) ⌝ }
+        (removeRing (stock .spec) (now (rings .entry)) (stock .rings) (stock .stamp .generation) ring)
+        (ringTests (stock .spec) (now (rings .entry)) (stock .rings) ring) r (now (rings .exit)) ⌝ }
 {
     let spec = stock.spec;
-    let counts = remove_from(spec, rings, stock.rings, stock.stamp.generation, ring);
-    with_counts(stock, counts)
+    let took = remove_from(spec, rings, stock.rings, stock.stamp.generation, ring);
+    with_counts(stock, took)
+}
+
+// The answer without the tests.
+fn stored_by(added: Added) -> StoredAs
+    ensures { λ r. ⌜ r ≡ storedBy added ⌝ }
+{
+    match added {
+        Added::Refused(r) => StoredAs::Refused(r),
+        Added::Rings(n, _) => StoredAs::Rings(n),
+    }
 }
 
 // All within the extent e, one after the other, decided before anything is written; 4, 11.
@@ -166,12 +195,8 @@ fn remove_all_in(e: Ring, rings: &mut [f64], count: usize, removed: &[f64]) -> S
         return StoredAs::Rings(count);
     }
     if k == 1 {
-        return store::add_ring(
-            rings,
-            room,
-            count,
-            shape::clipped(e, lent::ring_at(removed, 0)),
-        );
+        let c = shape::clipped(e, lent::ring_at(removed, 0));
+        return stored_by(store::add_ring(rings, room, count, c));
     }
     let mut work = [0.0f64; 1024];
     lent::copy_rings(rings, count, &mut work, 0);
@@ -181,9 +206,8 @@ fn remove_all_in(e: Ring, rings: &mut [f64], count: usize, removed: &[f64]) -> S
         let c = shape::clipped(e, lent::ring_at(removed, i));
         let one = store::add_ring(&mut work, room, n, c);
         match one {
-            StoredAs::Rings(m) => n = m,
-            StoredAs::Refused(x) => return StoredAs::Refused(x),
-            StoredAs::RefusedAt(x, at) => return StoredAs::RefusedAt(x, at),
+            Added::Rings(m, _) => n = m,
+            Added::Refused(x) => return StoredAs::Refused(x),
         }
         i += 1;
     }
@@ -202,6 +226,60 @@ pub fn remove_rings(
     ensures { λ r. ⌜ StoresAs (now (rings .entry)) (removeRings spec (now (rings .entry)) count (now (removed .entry))) r (now (rings .exit)) ⌝ }
 {
     remove_all_in(extent(spec), rings, count, removed)
+}
+
+// The tests of each ring within the extent e, the first `count` of `rings` stored before them, at the
+// front of `tests` as far as it reaches.
+fn list_tests_in(
+    e: Ring,
+    rings: &[f64],
+    room: usize,
+    count: usize,
+    removed: &[f64],
+    tests: &mut [usize],
+)
+    requires { ⌜ (count ≤ room) × (4 * room ≤ length (now rings)) × (room ≤ 256) ⌝ }
+    ensures { λ _. ⌜ now (tests .exit) ≡ listTestsIn e room (ringsOf count (now (rings .entry))) (now (removed .entry)) (now (tests .entry)) ⌝ }
+{
+    let k = numbers::lesser(removed.len() / 4, tests.len());
+    let mut work = [0.0f64; 1024];
+    lent::copy_rings(rings, count, &mut work, 0);
+    let mut n = count;
+    let mut i: usize = 0;
+    while i < k {
+        let c = shape::clipped(e, lent::ring_at(removed, i));
+        let one = store::add_ring(&mut work, room, n, c);
+        match one {
+            Added::Refused(_) => return,
+            Added::Rings(m, t) => {
+                tests[i] = t;
+                n = m;
+            }
+        }
+        i += 1;
+    }
+}
+
+// The tests that each ring of the list `removed` takes, at the front of `tests` as far as it reaches: the
+// first `count` lent rings are stored before them, and of the list those before it. The spec is checked
+// already. Nothing is written from a ring on that is refused, nor where the count is over the room.
+pub fn list_tests(
+    spec: TurnStockSpec,
+    rings: &[f64],
+    count: usize,
+    removed: &[f64],
+    tests: &mut [usize],
+)
+    ensures { λ _. ⌜ now (tests .exit) ≡ listTests spec (now (rings .entry)) count (now (removed .entry)) (now (tests .entry)) ⌝ }
+{
+    if tests.len() == 0 {
+        return;
+    }
+    let room = lent::room_of(rings.len());
+    if room < count {
+        return;
+    }
+    list_tests_in(extent(spec), rings, room, count, removed, tests);
 }
 
 // The first n rings are finite and not empty. This pass has no branch; which ring is not is asked only
@@ -280,7 +358,7 @@ pub fn left_of(rings: &[f64], count: usize, ring: Ring, pieces: &mut [f64; 1024]
     let n = numbers::lesser(count, rings.len() / 4);
     let mut hand = [0.0f64; 1024];
     let mut next = [0.0f64; 1024];
-    let left = hand::cut_ring(rings, n, ring, &mut hand, PIECE_LIMIT, &mut next);
+    let left = hand::cut_ring(rings, n, ring, &mut hand, PIECE_LIMIT, &mut next).left;
     if PIECE_LIMIT < left {
         return Left::Refused(Refusal::RingsOverRoom);
     }

@@ -31,7 +31,7 @@ fn bar(z_max: f64) -> TurnStockSpec {
         outer_radius_mm: 10.0,
         bore_radius_mm: 0.0,
         cell_mm: 1.0,
-        max_cells: 5000,
+        max_cells: 20000,
     }
 }
 
@@ -241,7 +241,7 @@ fn kept_over_commit() {
 fn with_ring(stock: TurnStock, store: &mut [f64], ring: Ring) -> TurnStock {
     let removed = rings::remove_ring(stock, store, ring);
     match removed {
-        Removed::Stock(after) => after,
+        Removed::Stock(after, _) => after,
         Removed::Refused(_) => stock,
         Removed::RefusedAt(_, _) => stock,
     }
@@ -294,7 +294,16 @@ fn kept_over_rebuild(edition: u32) {
     new_bar(2, &mut lent, &mut kept);
     io::write_all(1, b"rebuild: ");
     let previewed = thread_on(bar_of(2), &lent, &mut indices, &mut records);
-    let rebuilt = moves::from_parts(bar(4.0), edition, &lent, &mut kept, &[], &mut store);
+    let mut tests = [0usize; 4];
+    let rebuilt = moves::from_parts(
+        bar(4.0),
+        edition,
+        &lent,
+        &mut kept,
+        &[],
+        &mut store,
+        &mut tests,
+    );
     commit_rebuilt(rebuilt, &mut lent, &mut kept, previewed, &indices, &records);
 }
 
@@ -353,9 +362,9 @@ fn ranges() {
 
 fn main() {
     root_of_2();
-    cells(4095.0);
-    cells(4096.0);
-    cells(4097.0);
+    cells(16383.0);
+    cells(16384.0);
+    cells(16385.0);
     nose_along(&[1.0f64; 20480]);
     nose_along(&[1.0f64; 20485]);
     records_for(&mut [0usize; 2]);

@@ -16,12 +16,12 @@ use Rattle.stock.specs.declared.TurnChange.{TurnChange}
 use Rattle.stock.specs.Cell.{cellAt, sameCell}
 use Rattle.changes.specs.Change.{changeAt, changesTo}
 use Rattle.changes.specs.Difference.{otherCell}
-use Rattle.text.specs.Digits.{digits}
 use Rattle.text.specs.Lines.{fourFields}
 use Rattle.text.specs.Wrote.{Wrote}
-use Rattle.text.proofs.Spelling.{four-long, digits-length}
+use Rattle.text.proofs.Spelling.{four-long}
 use Rattle.text.proofs.Sets.{and-then, retext}
-use Rattle.stock_lines.specs.Form.{formOf, keptCellLine, fieldsText}
+use Rattle.stock_lines.specs.Form.{writtenForm, cellPrefix, keptCellLine, fieldsText}
+use Rattle.stock_lines.proofs.Steps.{cell-short}
 use Rattle.lines.specs.File.{joined}
 use Rattle.side_by_side.specs.Compared.{cellText, binText, binTexts}
 
@@ -35,41 +35,41 @@ pub joined-one : (x : List ℕ) → joined (x ∷ []) ≡ x
 unfolding joined
 joined-one x = append-nil x
 
-pub bins-next : (cs ds : List Float) (n : ℕ) → joined (binTexts cs ds (suc n)) ≡ joined (binTexts cs ds n) ++ binText cs ds n
+pub bins-next : (all : ℕ) (cs ds : List Float) (n : ℕ) → joined (binTexts all cs ds (suc n)) ≡ joined (binTexts all cs ds n) ++ binText all cs ds n
 unfolding binTexts
-bins-next cs ds n = joined-append (binTexts cs ds n) (binText cs ds n ∷ []) ∙ ap (λ (x : List ℕ). joined (binTexts cs ds n) ++ x) (joined-one (binText cs ds n))
+bins-next all cs ds n = joined-append (binTexts all cs ds n) (binText all cs ds n ∷ []) ∙ ap (λ (x : List ℕ). joined (binTexts all cs ds n) ++ x) (joined-one (binText all cs ds n))
 
 -- ---- the changes
 
 -- each change: the cell before it and the cell after it
-unfoldable pub changeTexts : List TurnChange → List ℕ
-changeTexts [] = []
-changeTexts (c ∷ l) = (cellText (c .index) (c .before) ++ cellText (c .index) (c .after)) ++ changeTexts l
+unfoldable pub changeTexts : ℕ → List TurnChange → List ℕ
+changeTexts all [] = []
+changeTexts all (c ∷ l) = (cellText all (c .index) (c .before) ++ cellText all (c .index) (c .after)) ++ changeTexts all l
 
-changes-append : (l m : List TurnChange) → changeTexts (l ++ m) ≡ changeTexts l ++ changeTexts m
+changes-append : (all : ℕ) (l m : List TurnChange) → changeTexts all (l ++ m) ≡ changeTexts all l ++ changeTexts all m
 unfolding changeTexts
-changes-append [] m = refl
-changes-append (c ∷ l) m =
-    ap (λ (y : List ℕ). (cellText (c .index) (c .before) ++ cellText (c .index) (c .after)) ++ y) (changes-append l m)
-    ∙ sym (append-assoc (cellText (c .index) (c .before) ++ cellText (c .index) (c .after)) (changeTexts l) (changeTexts m))
+changes-append all [] m = refl
+changes-append all (c ∷ l) m =
+    ap (λ (y : List ℕ). (cellText all (c .index) (c .before) ++ cellText all (c .index) (c .after)) ++ y) (changes-append all l m)
+    ∙ sym (append-assoc (cellText all (c .index) (c .before) ++ cellText all (c .index) (c .after)) (changeTexts all l) (changeTexts all m))
 
-bin-change : (cs ds : List Float) (i : ℕ) → binText cs ds i ≡ changeTexts (changeAt (otherCell ds) cs i)
+bin-change : (all : ℕ) (cs ds : List Float) (i : ℕ) → binText all cs ds i ≡ changeTexts all (changeAt (otherCell ds) cs i)
 unfolding binText changeAt changeTexts pick
-bin-change cs ds i = go (sameCell (cellAt cs i) (cellAt ds i))
+bin-change all cs ds i = go (sameCell (cellAt cs i) (cellAt ds i))
   where
     c : TurnChange
     c = record { index = i; before = cellAt cs i; after = cellAt ds i }
 
-    go : (t : Bool) → pick t [] (cellText i (cellAt cs i) ++ cellText i (cellAt ds i)) ≡ changeTexts (pick t [] (c ∷ []))
+    go : (t : Bool) → pick t [] (cellText all i (cellAt cs i) ++ cellText all i (cellAt ds i)) ≡ changeTexts all (pick t [] (c ∷ []))
     go true = refl
-    go false = sym (append-nil (cellText i (cellAt cs i) ++ cellText i (cellAt ds i)))
+    go false = sym (append-nil (cellText all i (cellAt cs i) ++ cellText all i (cellAt ds i)))
 
 -- the lines of the bins below n are those of the changes to the second's cells
-pub bins-changes : (cs ds : List Float) (n : ℕ) → joined (binTexts cs ds n) ≡ changeTexts (changesTo (otherCell ds) cs n)
+pub bins-changes : (all : ℕ) (cs ds : List Float) (n : ℕ) → joined (binTexts all cs ds n) ≡ changeTexts all (changesTo (otherCell ds) cs n)
 unfolding binTexts changesTo joined changeTexts
-bins-changes cs ds zero = refl
-bins-changes cs ds (suc n) =
-    bins-next cs ds n ∙ ap₂ _++_ (bins-changes cs ds n) (bin-change cs ds n) ∙ sym (changes-append (changesTo (otherCell ds) cs n) (changeAt (otherCell ds) cs n))
+bins-changes all cs ds zero = refl
+bins-changes all cs ds (suc n) =
+    bins-next all cs ds n ∙ ap₂ _++_ (bins-changes all cs ds n) (bin-change all cs ds n) ∙ sym (changes-append all (changesTo (otherCell ds) cs n) (changeAt (otherCell ds) cs n))
 
 -- ---- no line
 
@@ -77,34 +77,34 @@ pub no-append : (s t : List ℕ) → s ++ t ≡ [] → (s ≡ []) × (t ≡ [])
 no-append [] t e = (refl, e)
 no-append (x ∷ s) t e = let z : _≡_ {A = ℕ} 0 1 = cc in absurd (omega arith)
 
-pub bin-silent : (cs ds : List Float) (i : ℕ) → sameCell (cellAt cs i) (cellAt ds i) ≡ true → binText cs ds i ≡ []
+pub bin-silent : (all : ℕ) (cs ds : List Float) (i : ℕ) → sameCell (cellAt cs i) (cellAt ds i) ≡ true → binText all cs ds i ≡ []
 unfolding binText
-bin-silent cs ds i e = pick-true _ _ _ e
+bin-silent all cs ds i e = pick-true _ _ _ e
 
-pub silent-bin : (cs ds : List Float) (i : ℕ) → binText cs ds i ≡ [] → sameCell (cellAt cs i) (cellAt ds i) ≡ true
-unfolding binText keptCellLine formOf
-silent-bin cs ds i e = go (sameCell (cellAt cs i) (cellAt ds i)) refl
+pub silent-bin : (all : ℕ) (cs ds : List Float) (i : ℕ) → binText all cs ds i ≡ [] → sameCell (cellAt cs i) (cellAt ds i) ≡ true
+unfolding binText keptCellLine
+silent-bin all cs ds i e = go (sameCell (cellAt cs i) (cellAt ds i)) refl
   where
     go : (t : Bool) → sameCell (cellAt cs i) (cellAt ds i) ≡ t → sameCell (cellAt cs i) (cellAt ds i) ≡ true
     go true h = h
     go false h =
-        let f : cellText i (cellAt cs i) ++ cellText i (cellAt ds i) ≡ [] = sym (pick-false (sameCell (cellAt cs i) (cellAt ds i)) [] (cellText i (cellAt cs i) ++ cellText i (cellAt ds i)) h) ∙ e in
-        let g : cellText i (cellAt cs i) ≡ [] = no-append (cellText i (cellAt cs i)) (cellText i (cellAt ds i)) f .0 in
+        let f : cellText all i (cellAt cs i) ++ cellText all i (cellAt ds i) ≡ [] = sym (pick-false (sameCell (cellAt cs i) (cellAt ds i)) [] (cellText all i (cellAt cs i) ++ cellText all i (cellAt ds i)) h) ∙ e in
+        let g : cellText all i (cellAt cs i) ≡ [] = no-append (cellText all i (cellAt cs i)) (cellText all i (cellAt ds i)) f .0 in
         let z : _≡_ {A = ℕ} 0 1 = cc in
         absurd (omega arith)
 
-pub bins-silent : (cs ds : List Float) (n : ℕ) → ((i : ℕ) → i < n → sameCell (cellAt cs i) (cellAt ds i) ≡ true) → joined (binTexts cs ds n) ≡ []
+pub bins-silent : (all : ℕ) (cs ds : List Float) (n : ℕ) → ((i : ℕ) → i < n → sameCell (cellAt cs i) (cellAt ds i) ≡ true) → joined (binTexts all cs ds n) ≡ []
 unfolding binTexts joined
-bins-silent cs ds zero h = refl
-bins-silent cs ds (suc n) h = bins-next cs ds n ∙ ap₂ _++_ (bins-silent cs ds n (λ i k. h i (omega arith))) (bin-silent cs ds n (h n (omega arith)))
+bins-silent all cs ds zero h = refl
+bins-silent all cs ds (suc n) h = bins-next all cs ds n ∙ ap₂ _++_ (bins-silent all cs ds n (λ i k. h i (omega arith))) (bin-silent all cs ds n (h n (omega arith)))
 
-pub silent-bins : (cs ds : List Float) (n : ℕ) → joined (binTexts cs ds n) ≡ [] → (i : ℕ) → i < n → sameCell (cellAt cs i) (cellAt ds i) ≡ true
-silent-bins cs ds zero e i k = absurd (omega arith)
-silent-bins cs ds (suc n) e i k =
-    let h = no-append (joined (binTexts cs ds n)) (binText cs ds n) (sym (bins-next cs ds n) ∙ e) in
+pub silent-bins : (all : ℕ) (cs ds : List Float) (n : ℕ) → joined (binTexts all cs ds n) ≡ [] → (i : ℕ) → i < n → sameCell (cellAt cs i) (cellAt ds i) ≡ true
+silent-bins all cs ds zero e i k = absurd (omega arith)
+silent-bins all cs ds (suc n) e i k =
+    let h = no-append (joined (binTexts all cs ds n)) (binText all cs ds n) (sym (bins-next all cs ds n) ∙ e) in
     elim (eq-or-lt-of-le (let l : i ≤ n = omega arith in l)) [
-      | inl p ↦ subst (λ (j : ℕ). sameCell (cellAt cs j) (cellAt ds j) ≡ true) (sym p) (silent-bin cs ds n (h .1))
-      | inr p ↦ silent-bins cs ds n (h .0) i p
+      | inl p ↦ subst (λ (j : ℕ). sameCell (cellAt cs j) (cellAt ds j) ≡ true) (sym p) (silent-bin all cs ds n (h .1))
+      | inr p ↦ silent-bins all cs ds n (h .0) i p
     ]
 
 -- ---- turned about
@@ -159,32 +159,32 @@ same-turned a b =
     (eq-turned (a .inner .«upper_mm») (b .inner .«upper_mm»))
 
 -- a bin's lines with the stocks exchanged: the same two, the second's first
-pub bin-turned : (cs ds : List Float) (i : ℕ) → binText ds cs i ≡ pick (sameCell (cellAt cs i) (cellAt ds i)) [] (cellText i (cellAt ds i) ++ cellText i (cellAt cs i))
+pub bin-turned : (all : ℕ) (cs ds : List Float) (i : ℕ) → binText all ds cs i ≡ pick (sameCell (cellAt cs i) (cellAt ds i)) [] (cellText all i (cellAt ds i) ++ cellText all i (cellAt cs i))
 unfolding binText
-bin-turned cs ds i = ap (λ (t : Bool). pick t [] (cellText i (cellAt ds i) ++ cellText i (cellAt cs i))) (same-turned (cellAt ds i) (cellAt cs i))
+bin-turned all cs ds i = ap (λ (t : Bool). pick t [] (cellText all i (cellAt ds i) ++ cellText all i (cellAt cs i))) (same-turned (cellAt ds i) (cellAt cs i))
 
 -- ---- as they are put
 
--- a cell's line is of 78 bytes
-pub cell-long : (i : ℕ) (c : TurnCell) → length (cellText i c) ≡ 78
-unfolding keptCellLine fieldsText formOf
-cell-long i c =
+-- a cell's line is of 79 bytes at most
+pub cell-long : (all i : ℕ) (c : TurnCell) → length (cellText all i c) ≤ 79
+unfolding keptCellLine fieldsText
+cell-long all i c =
     omega
-    (arith, length-append (99 ∷ 101 ∷ 108 ∷ 108 ∷ 9 ∷ digits 10 4 i) (fourFields (c .outer .«lower_mm») (c .outer .«upper_mm») (c .inner .«lower_mm») (c .inner .«upper_mm»)), digits-length 10 4 i, four-long (c .outer .«lower_mm») (c .outer .«upper_mm») (c .inner .«lower_mm») (c .inner .«upper_mm»))
+    (arith, length-append (cellPrefix (writtenForm all) i) (fourFields (c .outer .«lower_mm») (c .outer .«upper_mm») (c .inner .«lower_mm») (c .inner .«upper_mm»)), cell-short (writtenForm all) i, four-long (c .outer .«lower_mm») (c .outer .«upper_mm») (c .inner .«lower_mm») (c .inner .«upper_mm»))
 
-pub bin-first : (l m : List ℕ) (j i : ℕ) (c : TurnCell) → Wrote l 0 (cellText i c) m j → j ≤ 128
-bin-first l m j i c w = omega (arith, w .end, cell-long i c)
+pub bin-first : (all : ℕ) (l m : List ℕ) (j i : ℕ) (c : TurnCell) → Wrote l 0 (cellText all i c) m j → j ≤ 128
+bin-first all l m j i c w = omega (arith, w .end, cell-long all i c)
 
-module _ (cs ds : List Float) (i : ℕ) {a b : TurnCell} {t : Bool} (first : a ≡ cellAt cs i) (second : b ≡ cellAt ds i) (test : t ≡ sameCell a b) where
+module _ (all : ℕ) (cs ds : List Float) (i : ℕ) {a b : TurnCell} {t : Bool} (first : a ≡ cellAt cs i) (second : b ≡ cellAt ds i) (test : t ≡ sameCell a b) where
   same : sameCell a b ≡ sameCell (cellAt cs i) (cellAt ds i)
   same = ap₂ (λ (x y : TurnCell). sameCell x y) first second
 
-  pub bin-equal : {l : List ℕ} → t ≡ true → Wrote l 0 (binText cs ds i) l 0
-  bin-equal {l} e = subst (λ (x : List ℕ). Wrote l 0 x l 0) (sym (bin-silent cs ds i (sym same ∙ sym test ∙ e))) (record { text = refl; end = refl })
+  pub bin-equal : {l : List ℕ} → t ≡ true → Wrote l 0 (binText all cs ds i) l 0
+  bin-equal {l} e = subst (λ (x : List ℕ). Wrote l 0 x l 0) (sym (bin-silent all cs ds i (sym same ∙ sym test ∙ e))) (record { text = refl; end = refl })
 
-  pub bin-put : {l m o : List ℕ} {j k : ℕ} → t ≡ false → Wrote l 0 (cellText i a) m j → Wrote m j (cellText i b) o k → Wrote l 0 (binText cs ds i) o k
+  pub bin-put : {l m o : List ℕ} {j k : ℕ} → t ≡ false → Wrote l 0 (cellText all i a) m j → Wrote m j (cellText all i b) o k → Wrote l 0 (binText all cs ds i) o k
   unfolding binText
   bin-put {l} {m} {o} {j} {k} e u v =
       retext
-      (ap₂ (λ (x y : TurnCell). cellText i x ++ cellText i y) first second ∙ sym (pick-false (sameCell (cellAt cs i) (cellAt ds i)) [] (cellText i (cellAt cs i) ++ cellText i (cellAt ds i)) (sym same ∙ sym test ∙ e)))
+      (ap₂ (λ (x y : TurnCell). cellText all i x ++ cellText all i y) first second ∙ sym (pick-false (sameCell (cellAt cs i) (cellAt ds i)) [] (cellText all i (cellAt cs i) ++ cellText all i (cellAt ds i)) (sym same ∙ sym test ∙ e)))
       (and-then u v)

@@ -93,18 +93,18 @@ each-next ks xs i q s t e h f =
 
 -- ---- the chunks by number
 
-length-bins : (cs ds : List Float) (n : ℕ) → length (binTexts cs ds n) ≡ n
+length-bins : (all : ℕ) (cs ds : List Float) (n : ℕ) → length (binTexts all cs ds n) ≡ n
 unfolding binTexts
-length-bins cs ds zero = refl
-length-bins cs ds (suc n) = omega (arith, length-append (binTexts cs ds n) (binText cs ds n ∷ []), length-bins cs ds n)
+length-bins all cs ds zero = refl
+length-bins all cs ds (suc n) = omega (arith, length-append (binTexts all cs ds n) (binText all cs ds n ∷ []), length-bins all cs ds n)
 
-bin-text : (cs ds : List Float) (n c : ℕ) → c < n → getD (binTexts cs ds n) c [] ≡ binText cs ds c
+bin-text : (all : ℕ) (cs ds : List Float) (n c : ℕ) → c < n → getD (binTexts all cs ds n) c [] ≡ binText all cs ds c
 unfolding binTexts
-bin-text cs ds zero c h = absurd (omega arith)
-bin-text cs ds (suc n) c h =
+bin-text all cs ds zero c h = absurd (omega arith)
+bin-text all cs ds (suc n) c h =
     elim (eq-or-lt-of-le (let k : c ≤ n = omega arith in k)) [
-      | inl e ↦ ap (λ (k : ℕ). getD (binTexts cs ds n ++ (binText cs ds n ∷ [])) k []) (e ∙ sym (length-bins cs ds n)) ∙ getD-append-seam (binTexts cs ds n) (binText cs ds n) [] [] ∙ ap (binText cs ds) (sym e)
-      | inr k ↦ List·getD-append (binTexts cs ds n) (binText cs ds n ∷ []) [] c (let f : c < length (binTexts cs ds n) = omega (arith, length-bins cs ds n) in f) ∙ bin-text cs ds n c k
+      | inl e ↦ ap (λ (k : ℕ). getD (binTexts all cs ds n ++ (binText all cs ds n ∷ [])) k []) (e ∙ sym (length-bins all cs ds n)) ∙ getD-append-seam (binTexts all cs ds n) (binText all cs ds n) [] [] ∙ ap (binText all cs ds) (sym e)
+      | inr k ↦ List·getD-append (binTexts all cs ds n) (binText all cs ds n ∷ []) [] c (let f : c < length (binTexts all cs ds n) = omega (arith, length-bins all cs ds n) in f) ∙ bin-text all cs ds n c k
     ]
 
 length-left : (ks qs : List Ring) → length (leftTexts ks qs) ≡ length qs
@@ -158,20 +158,20 @@ module _ (cs ds : List Float) (xs ys : List Float) (m k : ℕ) where
   pub chunk-count : length (chunksOf one two) ≡ binCount cs ds + (min m (length xs / 4) + min k (length ys / 4))
   unfolding chunksOf
   chunk-count =
-      omega (arith, length-append (binTexts cs ds (binCount cs ds)) (firsts ++ seconds), length-append firsts seconds, length-bins cs ds (binCount cs ds), length-firsts, length-seconds)
+      omega (arith, length-append (binTexts (binCount cs ds) cs ds (binCount cs ds)) (firsts ++ seconds), length-append firsts seconds, length-bins (binCount cs ds) cs ds (binCount cs ds), length-firsts, length-seconds)
 
   -- a bin's
-  pub chunk-bin : (c : ℕ) → c < binCount cs ds → binText cs ds c ≡ chunkOf one two c
+  pub chunk-bin : (c : ℕ) → c < binCount cs ds → binText (binCount cs ds) cs ds c ≡ chunkOf one two c
   unfolding chunksOf
   chunk-bin c h =
-      sym (List·getD-append (binTexts cs ds (binCount cs ds)) (firsts ++ seconds) [] c (let f : c < length (binTexts cs ds (binCount cs ds)) = omega (arith, length-bins cs ds (binCount cs ds)) in f) ∙ bin-text cs ds (binCount cs ds) c h)
+      sym (List·getD-append (binTexts (binCount cs ds) cs ds (binCount cs ds)) (firsts ++ seconds) [] c (let f : c < length (binTexts (binCount cs ds) cs ds (binCount cs ds)) = omega (arith, length-bins (binCount cs ds) cs ds (binCount cs ds)) in f) ∙ bin-text (binCount cs ds) cs ds (binCount cs ds) c h)
 
   -- behind the bins
   behind : (c j : ℕ) → c ≡ binCount cs ds + j → chunkOf one two c ≡ getD (firsts ++ seconds) j []
   unfolding chunksOf
   behind c j e =
-      let f : c ≡ length (binTexts cs ds (binCount cs ds)) + j = omega (arith, length-bins cs ds (binCount cs ds)) in
-      ap (λ (x : ℕ). getD (binTexts cs ds (binCount cs ds) ++ (firsts ++ seconds)) x []) f ∙ getD-append-add (binTexts cs ds (binCount cs ds)) (firsts ++ seconds) j []
+      let f : c ≡ length (binTexts (binCount cs ds) cs ds (binCount cs ds)) + j = omega (arith, length-bins (binCount cs ds) cs ds (binCount cs ds)) in
+      ap (λ (x : ℕ). getD (binTexts (binCount cs ds) cs ds (binCount cs ds) ++ (firsts ++ seconds)) x []) f ∙ getD-append-add (binTexts (binCount cs ds) cs ds (binCount cs ds)) (firsts ++ seconds) j []
 
   -- a ring's of the first
   pub chunk-first : (c j : ℕ) → c ≡ binCount cs ds + j → j < min m (length xs / 4) → piecesText (leaves (lentRings ys k) (ringAt xs j)) ≡ chunkOf one two c
@@ -190,8 +190,8 @@ module _ (cs ds : List Float) (xs ys : List Float) (m k : ℕ) where
 
   -- ---- the same by what the code found: n bins, then p rings of the first and o of the second
   module _ (n p o c : ℕ) (bins : n ≡ binCount cs ds) where
-    pub by-bin : c < n → binText cs ds c ≡ chunkOf one two c
-    by-bin h = chunk-bin c (subst (λ (x : ℕ). c < x) bins h)
+    pub by-bin : c < n → binText n cs ds c ≡ chunkOf one two c
+    by-bin h = ap (λ (x : ℕ). binText x cs ds c) bins ∙ chunk-bin c (subst (λ (x : ℕ). c < x) bins h)
 
     pub by-first : p ≡ min m (length xs / 4) → n ≤ c → c - n < p → (q : Ring) → q ≡ ringAt xs (c - n) → piecesText (leaves (lentRings ys k) q) ≡ chunkOf one two c
     by-first e l h q r =

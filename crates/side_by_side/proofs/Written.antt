@@ -22,7 +22,7 @@ unfolding ringTexts
 no-rings = refl
 
 abbrev pub binsOf : Side → Side → List (List ℕ)
-binsOf a b = binTexts (a .cells) (b .cells) (binCount (a .cells) (b .cells))
+binsOf a b = binTexts (binCount (a .cells) (b .cells)) (a .cells) (b .cells) (binCount (a .cells) (b .cells))
 
 -- all that is written: the lines of cells, the rings left of the first's, those left of the second's
 pub written : (a b : Side) → bothInHand a b ≡ true
@@ -66,13 +66,13 @@ module _ (a b : Side) (f : Each Full (a .rings)) (g : Each Full (b .rings)) (d :
   silent h s p =
       let n = same-none p in
       written a b h
-      ∙ ap₂ _++_ (bins-silent (a .cells) (b .cells) (binCount (a .cells) (b .cells)) s) (ap₂ _++_ (ap ringTexts (n .0) ∙ no-rings) (ap ringTexts (n .1) ∙ no-rings))
+      ∙ ap₂ _++_ (bins-silent (binCount (a .cells) (b .cells)) (a .cells) (b .cells) (binCount (a .cells) (b .cells)) s) (ap₂ _++_ (ap ringTexts (n .0) ∙ no-rings) (ap ringTexts (n .1) ∙ no-rings))
 
   pub silence : bothInHand a b ≡ true → joined (chunksOf a b) ≡ [] → SameCells a b × SamePoints a b
   silence h o =
       let k = no-append (joined (binsOf a b)) (ringTexts (leftAll (b .rings) (a .rings)) ++ ringTexts (leftAll (a .rings) (b .rings))) (sym (written a b h) ∙ o) in
       let l = no-append (ringTexts (leftAll (b .rings) (a .rings))) (ringTexts (leftAll (a .rings) (b .rings))) (k .1) in
-      (silent-bins (a .cells) (b .cells) (binCount (a .cells) (b .cells)) (k .0), none-same (no-lines (leftAll (b .rings) (a .rings)) (l .0)) (no-lines (leftAll (a .rings) (b .rings)) (l .1)))
+      (silent-bins (binCount (a .cells) (b .cells)) (a .cells) (b .cells) (binCount (a .cells) (b .cells)) (k .0), none-same (no-lines (leftAll (b .rings) (a .rings)) (l .0)) (no-lines (leftAll (a .rings) (b .rings)) (l .1)))
 
 -- ---- exchanged
 and-turned : (s t : Bool) → (s && t) ≡ (t && s)

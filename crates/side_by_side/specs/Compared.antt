@@ -31,18 +31,18 @@ side cs rs m = record { cells = cs; rings = lentRings rs m }
 
 -- ---- cells
 
--- the line of bin i's cell
-abbrev pub cellText : ℕ → TurnCell → List ℕ
-cellText i c = keptCellLine writtenForm i (c .outer .«lower_mm») (c .outer .«upper_mm») (c .inner .«lower_mm») (c .inner .«upper_mm»)
+-- the line of bin i's cell, of as many bins as there are in all: it has the digits of their file
+abbrev pub cellText : ℕ → ℕ → TurnCell → List ℕ
+cellText all i c = keptCellLine (writtenForm all) i (c .outer .«lower_mm») (c .outer .«upper_mm») (c .inner .«lower_mm») (c .inner .«upper_mm»)
 
 -- bin i: where its cells are unequal as numbers, the first's line and then the second's
-unfoldable pub binText : List Float → List Float → ℕ → List ℕ
-binText cs ds i = pick (sameCell (cellAt cs i) (cellAt ds i)) [] (cellText i (cellAt cs i) ++ cellText i (cellAt ds i))
+unfoldable pub binText : ℕ → List Float → List Float → ℕ → List ℕ
+binText all cs ds i = pick (sameCell (cellAt cs i) (cellAt ds i)) [] (cellText all i (cellAt cs i) ++ cellText all i (cellAt ds i))
 
 -- the bins below n
-unfoldable pub binTexts : List Float → List Float → ℕ → List (List ℕ)
-binTexts cs ds zero = []
-binTexts cs ds (suc i) = binTexts cs ds i ++ (binText cs ds i ∷ [])
+unfoldable pub binTexts : ℕ → List Float → List Float → ℕ → List (List ℕ)
+binTexts all cs ds zero = []
+binTexts all cs ds (suc i) = binTexts all cs ds i ++ (binText all cs ds i ∷ [])
 
 -- as many bins as either stock has
 abbrev pub binCount : List Float → List Float → ℕ
@@ -85,7 +85,7 @@ sameBar s t =
 
 -- all chunks: one a bin, one a ring of the first, one a ring of the second
 unfoldable pub chunksOf : Side → Side → List (List ℕ)
-chunksOf a b = binTexts (a .cells) (b .cells) (binCount (a .cells) (b .cells)) ++ (leftTexts (b .rings) (a .rings) ++ leftTexts (a .rings) (b .rings))
+chunksOf a b = binTexts (binCount (a .cells) (b .cells)) (a .cells) (b .cells) (binCount (a .cells) (b .cells)) ++ (leftTexts (b .rings) (a .rings) ++ leftTexts (a .rings) (b .rings))
 
 -- chunk c, and nothing behind the last
 abbrev pub chunkOf : Side → Side → ℕ → List ℕ

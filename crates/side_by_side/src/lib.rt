@@ -2,7 +2,8 @@
 //
 // For each bin whose cells are unequal, the first stock's cell and then the second's; then what the
 // second's rings leave of each ring of the first, and what the first's leave of each of the second, by
-// the subtraction of crate `rings`. Rings cut differently over the same points leave nothing. All is
+// the subtraction of crate `rings`. Rings cut differently over the same points leave nothing. An index
+// has the digits that it has in the stocks' files. All is
 // decided first (`compare`); the text then comes in chunks that are asked by number (`chunk`), so that
 // no buffer holds it all. `spelled` puts the lines of a chunk one behind the other, and
 // `refused` has the one line of a comparison that is refused.
@@ -141,7 +142,7 @@ pub fn chunk(
 {
     let n = bin_count(cells1, cells2);
     if c < n {
-        return spelled::put_bin(out, cells1, cells2, c);
+        return spelled::put_bin(out, n, cells1, cells2, c);
     }
     let k = c - n;
     let m = lent_of(rings1, count1);

@@ -65,14 +65,15 @@ pub fn put_rings(out: &mut [u8; CHUNK_ROOM], rings: &[f64], n: usize) -> usize
     e
 }
 
-// Puts the line of bin i's cell.
-fn put_cell(out: &mut [u8; CHUNK_ROOM], at: usize, i: usize, c: TurnCell) -> usize
+// Puts the line of bin i's cell, of so many bins in all.
+fn put_cell(out: &mut [u8; CHUNK_ROOM], at: usize, all: usize, i: usize, c: TurnCell) -> usize
     requires { ⌜ at ≤ 128 ⌝ }
-    ensures { λ r. ⌜ Wrote (now (out .entry)) at (cellText i c) (now (out .exit)) r ⌝ }
+    ensures { λ r. ⌜ Wrote (now (out .entry)) at (cellText all i c) (now (out .exit)) r ⌝ }
 {
     let mut line = [0; LINE_ROOM];
     let n = stock_lines::kept_cell_line(
         &mut line,
+        all,
         i as u64,
         c.outer.lower_mm,
         c.outer.upper_mm,
@@ -82,15 +83,21 @@ fn put_cell(out: &mut [u8; CHUNK_ROOM], at: usize, i: usize, c: TurnCell) -> usi
     put_bytes(out, at, text::front(&line, n))
 }
 
-// Puts both lines of bin i where its cells are unequal.
-pub fn put_bin(out: &mut [u8; CHUNK_ROOM], first: &[f64], second: &[f64], i: usize) -> usize
-    ensures { λ r. ⌜ Wrote (now (out .entry)) 0 (binText (now (first .entry)) (now (second .entry)) i) (now (out .exit)) r ⌝ }
+// Puts both lines of bin i, of so many bins in all, where its cells are unequal.
+pub fn put_bin(
+    out: &mut [u8; CHUNK_ROOM],
+    all: usize,
+    first: &[f64],
+    second: &[f64],
+    i: usize,
+) -> usize
+    ensures { λ r. ⌜ Wrote (now (out .entry)) 0 (binText all (now (first .entry)) (now (second .entry)) i) (now (out .exit)) r ⌝ }
 {
     let a = stock::cell_at(first, i);
     let b = stock::cell_at(second, i);
     if stock::same_cell(a, b) {
         return 0;
     }
-    let e = put_cell(out, 0, i, a);
-    put_cell(out, e, i, b)
+    let e = put_cell(out, 0, all, i, a);
+    put_cell(out, e, all, i, b)
 }

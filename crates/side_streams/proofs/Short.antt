@@ -39,21 +39,21 @@ both-short (t ∷ l) a b = one-more t (a .few 0) (both-short l (record { few = �
 
 -- ---- bins
 
-bin-short : (cs ds : List Float) (i : ℕ) → length (binText cs ds i) ≤ 18688
+bin-short : (all : ℕ) (cs ds : List Float) (i : ℕ) → length (binText all cs ds i) ≤ 18688
 unfolding binText
-bin-short cs ds i = go (sameCell (cellAt cs i) (cellAt ds i))
+bin-short all cs ds i = go (sameCell (cellAt cs i) (cellAt ds i))
   where
-    short : (c : TurnCell) → length (cellText i c) ≤ 128
-    short c = cell-short writtenForm i _ _ _ _
+    short : (c : TurnCell) → length (cellText all i c) ≤ 128
+    short c = cell-short (writtenForm all) i _ _ _ _
 
-    go : (t : Bool) → length (pick t [] (cellText i (cellAt cs i) ++ cellText i (cellAt ds i))) ≤ 18688
+    go : (t : Bool) → length (pick t [] (cellText all i (cellAt cs i) ++ cellText all i (cellAt ds i))) ≤ 18688
     go true = simp yes (omega arith)
-    go false = simp no (omega (arith, length-append (cellText i (cellAt cs i)) (cellText i (cellAt ds i)), short (cellAt cs i), short (cellAt ds i)))
+    go false = simp no (omega (arith, length-append (cellText all i (cellAt cs i)) (cellText all i (cellAt ds i)), short (cellAt cs i), short (cellAt ds i)))
 
-bins-short : (cs ds : List Float) (n : ℕ) → Short (binTexts cs ds n)
+bins-short : (all : ℕ) (cs ds : List Float) (n : ℕ) → Short (binTexts all cs ds n)
 unfolding binTexts
-bins-short cs ds zero = none-short
-bins-short cs ds (suc i) = both-short (binTexts cs ds i) (bins-short cs ds i) (one-more (binText cs ds i) (bin-short cs ds i) none-short)
+bins-short all cs ds zero = none-short
+bins-short all cs ds (suc i) = both-short (binTexts all cs ds i) (bins-short all cs ds i) (one-more (binText all cs ds i) (bin-short all cs ds i) none-short)
 
 -- ---- rings
 
@@ -81,5 +81,5 @@ left-short ks (q ∷ qs) = one-more (piecesText (leaves ks q)) (pieces-short ks 
 pub chunk-short : (a b : Side) (c : ℕ) → length (chunkOf a b c) ≤ 18688
 unfolding chunksOf
 chunk-short a b c =
-    (both-short (binTexts (a .cells) (b .cells) (binCount (a .cells) (b .cells))) (bins-short (a .cells) (b .cells) _)
+    (both-short (binTexts (binCount (a .cells) (b .cells)) (a .cells) (b .cells) (binCount (a .cells) (b .cells))) (bins-short _ (a .cells) (b .cells) _)
     (both-short (leftTexts (b .rings) (a .rings)) (left-short (b .rings) (a .rings)) (left-short (a .rings) (b .rings)))) .few c

@@ -11,7 +11,7 @@ use Rattle.stock_file.specs.Read.{Stocked}
 use Rattle.stock_streams.specs.Write.{AllPut}
 use Rattle.side_by_side.specs.Files.{Told, secondText, filesText, toldOf}
 
--- some bytes, and the room that they are read in, of 4,096 cells and 256 rings
+-- some bytes, and the room that they are read in, of as many cells and rings as a stock has at most
 pub record SomeFile : Type 0 where
   pub bytes : List ℕ
   pub cells : List Float

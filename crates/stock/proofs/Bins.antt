@@ -133,10 +133,17 @@ bar-good spec held t =
     }
 
 -- ---- the bins
--- the ends of a bin are at most 2 ^ 34 in size, and neither a NaN nor -0.0
+-- the limit of cells is at most 2 ^ 14; so the ends of a bin are at most 2 ^ 36 in size
+abbrev pub limitBits : ℕ
+limitBits = 14
+
+abbrev pub binBits : ℕ
+binBits = limitBits + 22
+
+-- the ends of a bin are at most 2 ^ 36 in size, and neither a NaN nor -0.0
 pub record BinSized (z : ZRange) : Type 0 where
-  pub za : Sized 34 (z .za)
-  pub zb : Sized 34 (z .zb)
+  pub za : Sized binBits (z .za)
+  pub zb : Sized binBits (z .zb)
 
 -- the second starts and ends no lower than the first
 pub record Rises (x y : ZRange) : Type 0 where
@@ -144,16 +151,16 @@ pub record Rises (x y : ZRange) : Type 0 where
   pub zb : T (le (x .zb) (y .zb))
 
 -- where a bin starts
-start-sized : (s : TurnStockSpec) → Bar s → (i : ℕ) → i ≤ cellLimit → Sized 33 (startOf s i)
+start-sized : (s : TurnStockSpec) → Bar s → (i : ℕ) → i ≤ cellLimit → Sized (limitBits + 21) (startOf s i)
 start-sized s w i h =
-    let m = within-mul (within-int {k = 12} i h (lit≤ tt)) (w .cell .within) (lit≤ tt) in
+    let m = within-mul (within-int {k = limitBits} i h (lit≤ tt)) (w .cell .within) (lit≤ tt) in
     record {
       plain = add-plain (w .z-min .plain) (finite-within (w .z-min .within)) (finite-within m);
       within = within-add (w .z-min .within) m (lit≤ tt);
     }
 
 -- where it ends, before that is cut to z_max
-stop-sized : (s : TurnStockSpec) → Bar s → (i : ℕ) → i ≤ cellLimit → Sized 34 (startOf s i +₆₄ s .«cell_mm»)
+stop-sized : (s : TurnStockSpec) → Bar s → (i : ℕ) → i ≤ cellLimit → Sized binBits (startOf s i +₆₄ s .«cell_mm»)
 stop-sized s w i h =
     let a = start-sized s w i h in
     record {
@@ -175,8 +182,8 @@ bar-sized s w i h =
 -- a later bin starts no lower
 start-rises : (s : TurnStockSpec) → Bar s → (i j : ℕ) → i ≤ j → j ≤ cellLimit → T (le (startOf s i) (startOf s j))
 start-rises s w i j l m =
-    let I = within-int {k = 12} i (Nat.le-trans l m) (lit≤ tt) in
-    let J = within-int {k = 12} j m (lit≤ tt) in
+    let I = within-int {k = limitBits} i (Nat.le-trans l m) (lit≤ tt) in
+    let J = within-int {k = limitBits} j m (lit≤ tt) in
     let z = finite-within (w .z-min .within) in
     let c = finite-within (w .cell .within) in
     let up = lt→le number-zero (number-finite c) (w .wide) in
@@ -206,7 +213,7 @@ module _ {spec : TurnStockSpec} {n : ℕ} (held : HeldSpec spec) (ok : Checked s
   under : (i : ℕ) → i < n → i ≤ cellLimit
   under i h = let l = ok .few in omega arith
 
-  -- the ends of a bin are at most 2 ^ 34 in size, and neither a NaN nor -0.0
+  -- the ends of a bin are at most 2 ^ 36 in size, and neither a NaN nor -0.0
   pub bin-within : (i : ℕ) → i < n → BinSized (binOf (cleanSpec spec) i)
   bin-within i h = bar-sized (cleanSpec spec) bar-of i (under i h)
 

@@ -17,7 +17,7 @@ use Rattle.stock_lines.specs.Reading.{State, state, onLine}
 use Rattle.stock_file.specs.Read.{freshReading, stopped, onLong, onEnd, fileIn}
 use Rattle.stock_file.specs.Write.{Opening}
 use Rattle.stock_file.proofs.Newlines.{end-free}
-use Rattle.stock_file.proofs.LineSteps.{line-taken, reading, end-step}
+use Rattle.stock_file.proofs.LineSteps.{line-taken, least, reading, end-step}
 use Rattle.stock_file.proofs.Cut.{long-stops}
 
 -- what the bytes p leave, before the end is told
@@ -38,11 +38,11 @@ begins-none cs rs p t e =
     let q : after cs rs (p ++ t) ≡ after cs rs p = behind cs rs p t ∙ stopped-takes stopped onLine onLong t (after cs rs p .job) (after cs rs p .held) e in
     whole cs rs (p ++ t) ∙ ap (λ (j : Hand State). file.ended stopped onLong onEnd (j .job) (j .held)) q ∙ pick-true _ _ _ e
 
--- BYTES THAT BEGIN SOME FILE: whole lines behind the first, none of them refused, go on with their `end`
-pub begins-some : (cs rs : List Float) (p : List ℕ) (b : Opening) (n m l : ℕ) (cs' rs' : List Float) → l + 1 < 2 ^ 64
+-- BYTES THAT BEGIN SOME FILE: whole lines behind the first, none of them refused and enough of them cells', go on with their `end`. Where cell lines are missing, those go on first (`Exactly`).
+pub begins-some : (cs rs : List Float) (p : List ℕ) (b : Opening) (n m l : ℕ) (cs' rs' : List Float) → l + 1 < 2 ^ 64 → least b ≤ n
     → after cs rs p ≡ hand (state (reading b 1 n m l) cs' rs') [] → fileIn cs rs (p ++ endLine l) ≡ state (reading b 2 n m (l + 1)) cs' rs'
 unfolding file.ended endLine
-begins-some cs rs p b n m l cs' rs' few e =
+begins-some cs rs p b n m l cs' rs' few enough e =
     let st : State = state (reading b 1 n m l) cs' rs' in
     let h = decimal-short l in
     let long : length (endText l) ≤ 127 = omega arith in
@@ -50,7 +50,7 @@ begins-some cs rs p b n m l cs' rs' few e =
     behind cs rs p (endLine l)
     ∙ ap (λ (j : Hand State). takes stopped onLine onLong j (endLine l)) e
     ∙ line-taken (endText l) (endLine l) st (end-free l) refl long refl
-    ∙ ap (λ (x : State). hand x []) (end-step b n m l cs' rs' (endText l) few refl (λ v. omega arith) (λ v. omega arith)) in
+    ∙ ap (λ (x : State). hand x []) (end-step b n m l cs' rs' (endText l) few enough refl (λ v. omega arith) (λ v. omega arith)) in
     whole cs rs (p ++ endLine l)
     ∙ ap (λ (j : Hand State). file.ended stopped onLong onEnd (j .job) (j .held)) q
     ∙ pick-false _ _ _ refl

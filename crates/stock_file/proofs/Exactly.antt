@@ -1,14 +1,14 @@
 -- A file is refused at a line exactly when the lines before it begin some file of the form, and with it, or with the end in its place, they begin none. Assumes nothing.
-use Prim.Native.Nat.{ℕ, zero, suc, _+_, _%_, _^_, _≤_, _<_}
+use Prim.Native.Nat.{ℕ, zero, suc, _+_, _-_, _%_, _^_, _≤_, _<_}
 use native.Mathlib.Omega.{arith}
 use mathlib.Core.Path.{_≡_, refl, sym, ap, _∙_, subst}
 use mathlib.Core.Bool.{Bool, true, false, not, true≢false, false≢true}
 use mathlib.Core.Option.{Option, none, some}
 use mathlib.Core.List.{List, [], _∷_, _++_, append-assoc, append-nil}
-use lib.Dec.{T, eqb, ltb}
-use lib.ListN.{length, take, drop}
+use lib.Dec.{T, eqb, leb, ltb}
+use lib.ListN.{length, take, drop, length-append}
 use lib.Ieee.{Float, binary64, fits, toBits, ofBits, ofFields, odd}
-use borrow.Author.Tests.{eqb-true, eqb-false, ne-eqb, lt-ltb, ltb-true, ltb-false}
+use borrow.Author.Tests.{eqb-true, eqb-false, ne-eqb, lt-ltb, ltb-true, ltb-false, leb-true, leb-false}
 use Rattle.refusals.specs.Paper.{Paper, answers, refuses, at, placeOr, demand, onward, demandAt-true}
 use Rattle.floats.specs.Numbers.{zero64, minusZero}
 use Rattle.floats.specs.Pick.{pick, pick-true, pick-false}
@@ -24,21 +24,23 @@ use Rattle.text.proofs.Parting as parting
 use Rattle.text.proofs.Spelling.{decimal-short}
 use Rattle.lines.specs.File.{piecesOf, ended, lineOn, overPieces}
 use Rattle.stock_lines.specs.declared.Reading.{Reading}
+use Rattle.stock_lines.specs.declared.form.Four.the-variants.{Numbers}
 use Rattle.stock_lines.specs.declared.form.First.{First}
 use Rattle.stock_lines.specs.declared.form.First.the-variants.{Says, NoFirst}
 use Rattle.stock_lines.specs.declared.room.Took.{Took}
 use Rattle.stock_lines.specs.declared.room.Took.the-variants.{Cell, Ring, End, NoLine}
-use Rattle.stock_lines.specs.Form.{barNumbers, endText, endLine}
+use Rattle.stock_lines.specs.Form.{fieldsText, barNumbers, cellPrefix, endText, keptCellLine, endLine}
 use Rattle.stock_lines.specs.First.{firstOf, two}
-use Rattle.stock_lines.specs.Room.{tookOf}
+use Rattle.stock_lines.specs.Room.{stored, tookOf}
 use Rattle.stock_lines.specs.Reading.{State, state, next, refusing, begun, onwardTo, went, onBody, onLine}
 use Rattle.stock_lines.proofs.Forms as forms
+use Rattle.stock_lines.proofs.Steps.{counts-few, least-most, few-least, cell-short}
 use Rattle.stock_lines.proofs.Readings.{line-first, line-body, line-behind}
 use Rattle.stock_file.specs.Read.{freshReading, stopped, onLong, onEnd, specOf, frontOf, Stocked, stockIn, toldAs, fileIn, readOf}
 use Rattle.stock_file.specs.Write.{Opening, opening, fileOf}
 use Rattle.stock_file.specs.Exactly.{OfForm, Begins, endedLines, firstLines, RefusedBehind}
-use Rattle.stock_file.proofs.Newlines.{Free, none, more, end-free}
-use Rattle.stock_file.proofs.LineSteps.{reading, end-step}
+use Rattle.stock_file.proofs.Newlines.{Free, none, more, cell-free, end-free}
+use Rattle.stock_file.proofs.LineSteps.{most, least, reading, cell-on, end-step}
 use Rattle.stock_file.proofs.Spelt.{walk, stopped-walk, went-on}
 use Rattle.stock_file.proofs.WriteAfter as kinds
 use Rattle.stock_file.proofs.Ends.{told-line}
@@ -148,20 +150,25 @@ end-next st l g h = by (eqb (length l) 0) refl (ltb (st .reading .stage) 2) refl
 
 -- ---- what is reached by j lines of which none is refused
 
+-- before there are enough cell lines there is no other line
+record Early (b : Opening) (n m k : ℕ) : Type 0 where
+  alone : n < least b → m ≡ 0
+  lines : n < least b → k ≡ n + 1
+
 data Reached (cs rs : List Float) : ℕ → State → Type 0 where
   first : Reached cs rs 0 (state freshReading cs rs)
-  body : {b : Opening} {n m k : ℕ} {cs' rs' : List Float} → Reached cs rs k (state (reading b 1 n m k) cs' rs')
+  body : {b : Opening} {n m k : ℕ} {cs' rs' : List Float} → Early b n m k → Reached cs rs k (state (reading b 1 n m k) cs' rs')
   done : {b : Opening} {n m k : ℕ} {cs' rs' : List Float} → Reached cs rs k (state (reading b 2 n m k) cs' rs')
 
 module _ (cs rs : List Float) where
   reached-goes : {j : ℕ} {st : State} → Reached cs rs j st → stopped st ≡ false
   reached-goes first = refl
-  reached-goes body = refl
+  reached-goes (body e) = refl
   reached-goes done = refl
 
   reached-next : {j : ℕ} {st : State} → Reached cs rs j st → j + 1 < 2 ^ 64 → next (st .reading) ≡ j + 1
   reached-next first h = omega arith
-  reached-next body h = omega arith
+  reached-next (body e) h = omega arith
   reached-next done h = omega arith
 
   taken : (st : State) (l : List ℕ) → stopped st ≡ false → stopped (step st l) ≡ false → step st l ≡ onLine st l
@@ -177,19 +184,19 @@ module _ (cs rs : List Float) where
   first-on NoFirst h = absurd (true≢false h)
   first-on (Says form edition b) h =
       let one : 1 ≡ next freshReading = omega arith in
-      subst (λ (k : ℕ). Reached cs rs 1 (state (reading (opening form edition b) 1 0 0 k) cs rs)) one body
+      subst (λ (k : ℕ). Reached cs rs 1 (state (reading (opening form edition b) 1 0 0 k) cs rs)) one (body (record { alone = λ z. refl; lines = λ z. sym one }))
 
   line-on : {j : ℕ} {st : State} (l : List ℕ) → Reached cs rs j st → j + 1 < 2 ^ 64 → stopped (onLine st l) ≡ false → Reached cs rs (j + 1) (onLine st l)
   unfolding refusing
   line-on l first h g =
       let e = line-first (state freshReading cs rs) l refl in
       subst (Reached cs rs 1) (sym e) (first-on (firstOf l) (ap stopped (sym e) ∙ g))
-  line-on l (body {b} {n} {m} {k} {cs'} {rs'}) h g = by (kinds.kind b n m k cs' rs' l h g)
+  line-on l (body {b} {n} {m} {k} {cs'} {rs'} early) h g = by (kinds.kind b n m k cs' rs' l h g)
     where
       by : kinds.Kind b n m k cs' rs' l → Reached cs rs (k + 1) (onLine (state (reading b 1 n m k) cs' rs') l)
-      by (kinds.cell x y z w em lt q e) = subst (Reached cs rs (k + 1)) (sym e) body
-      by (kinds.ring x y z w q e) = subst (Reached cs rs (k + 1)) (sym e) body
-      by (kinds.end q e) = subst (Reached cs rs (k + 1)) (sym e) done
+      by (kinds.cell x y z w em lt q e) = subst (Reached cs rs (k + 1)) (sym e) (body (record { alone = λ v. em; lines = λ v. omega (arith, early .lines (omega arith)) }))
+      by (kinds.ring x y z w enough q e) = subst (Reached cs rs (k + 1)) (sym e) (body (record { alone = λ v. absurd (omega arith); lines = λ v. absurd (omega arith) }))
+      by (kinds.end enough q e) = subst (Reached cs rs (k + 1)) (sym e) done
   line-on l (done {b} {n} {m} {k} {cs'} {rs'}) h g =
       absurd (true≢false (ap stopped (sym (line-behind (state (reading b 2 n m k) cs' rs') l (λ z. omega arith) (λ z. omega arith))) ∙ g))
 
@@ -198,7 +205,12 @@ module _ (cs rs : List Float) where
       let e = taken st l (reached-goes r) g in
       subst (Reached cs rs (j + 1)) (sym e) (line-on l r h (ap stopped (sym e) ∙ g))
 
-  -- they begin some file of the form: a whole one, one that ends there, or itself
+  -- a cell's line of zeros
+  line-is : (form n : ℕ) → (cellPrefix form n ++ fieldsText (zero64 ∷ zero64 ∷ zero64 ∷ zero64 ∷ []) []) ++ newline ≡ keptCellLine form n zero64 zero64 zero64 zero64
+  unfolding keptCellLine
+  line-is form n = back.with-newline (cellPrefix form n) (zero64 ∷ zero64 ∷ zero64 ∷ zero64 ∷ [])
+
+  -- they begin some file of the form: a whole one, one that goes on with the cell lines that are missing and its end, or itself
   whole-file : List ℕ
   whole-file = fileOf (opening 2 0 (freshReading .bar)) [] 0 [] 0
 
@@ -213,18 +225,56 @@ module _ (cs rs : List Float) where
   zeros : forms.Keeps (barNumbers (freshReading .bar))
   zeros = forms.more zero-fits zero-plus (forms.more zero-fits zero-plus (forms.more zero-fits zero-plus (forms.more zero-fits zero-plus (forms.more zero-fits zero-plus forms.none))))
 
-  goes-on : {j : ℕ} {st : State} → Reached cs rs j st → j + 1 < 2 ^ 64 → (t : List ℕ) × (stopped (walk st (piecesOf t)) ≡ false)
-  unfolding overPieces ended lineOn endLine refusing whole-file
-  goes-on first h =
-      (whole-file, ap stopped (back.reads-back (opening 2 0 (freshReading .bar)) [] 0 [] 0 (record { says = two (omega arith); bar = zeros; cells = λ i z. absurd (omega arith); rings = λ i z. absurd (omega arith); few-cells = omega arith; few-rings = omega arith }) cs rs (omega arith) (omega arith)))
-  goes-on (body {b} {n} {m} {k} {cs'} {rs'}) h =
+  kept-nothings : forms.Keeps (zero64 ∷ zero64 ∷ zero64 ∷ zero64 ∷ [])
+  kept-nothings = forms.more zero-fits zero-plus (forms.more zero-fits zero-plus (forms.more zero-fits zero-plus (forms.more zero-fits zero-plus forms.none)))
+
+  -- so many cells of zeros, and the end
+  unfoldable rest-of : ℕ → ℕ → ℕ → ℕ → List ℕ
+  rest-of form n zero k = endLine k
+  rest-of form n (suc d) k = keptCellLine form n zero64 zero64 zero64 zero64 ++ rest-of form (n + 1) d (k + 1)
+
+  abbrev nothings : List Float
+  nothings = zero64 ∷ zero64 ∷ zero64 ∷ zero64 ∷ []
+
+  made-up : (b : Opening) (d n m k : ℕ) (cs' rs' : List Float) → (0 < d → m ≡ 0) → least b ≤ n + d → (0 < d → n + d ≤ most b) → k + d + 1 < 2 ^ 64 → stopped (walk (state (reading b 1 n m k) cs' rs') (piecesOf (rest-of (b .form) n d k))) ≡ false
+  unfolding overPieces ended lineOn endLine refusing rest-of
+  made-up b zero n m k cs' rs' alone enough within few =
       let st : State = state (reading b 1 n m k) cs' rs' in
       let d = decimal-short k in
       let w : length (endText k) < 128 = omega arith in
       let e : walk st (piecesOf (endLine k)) ≡ walk (state (reading b 2 n m (k + 1)) cs' rs') ([] ∷ []) =
       ap (walk st) (line-parted (endText k) [] (end-free k) ∙ ap (λ (x : List (List ℕ)). endText k ∷ x) (parting.parted-end 10))
-      ∙ ap (λ (x : State). walk x ([] ∷ [])) (pick-false _ _ _ refl ∙ pick-true _ _ _ (lt-ltb _ _ w) ∙ end-step b n m k cs' rs' (endText k) h refl (λ v. omega arith) (λ v. omega arith)) in
-      (endLine k, ap stopped (e ∙ pick-false _ _ _ refl ∙ pick-true _ _ _ refl ∙ pick-false _ _ _ refl))
+      ∙ ap (λ (x : State). walk x ([] ∷ [])) (pick-false _ _ _ refl ∙ pick-true _ _ _ (lt-ltb _ _ w) ∙ end-step b n m k cs' rs' (endText k) (omega arith) (omega arith) refl (λ v. omega arith) (λ v. omega arith)) in
+      ap stopped (e ∙ pick-false _ _ _ refl ∙ pick-true _ _ _ refl ∙ pick-false _ _ _ refl)
+  made-up b (suc d) n m k cs' rs' alone enough within few =
+      let st : State = state (reading b 1 n m k) cs' rs' in
+      let t : List ℕ = rest-of (b .form) (n + 1) d (k + 1) in
+      let l : List ℕ = cellPrefix (b .form) n ++ fieldsText nothings [] in
+      let u : l ++ newline ≡ keptCellLine (b .form) n zero64 zero64 zero64 zero64 = line-is (b .form) n in
+      let w : length l < 128 = omega (arith, length-append (cellPrefix (b .form) n) (fieldsText nothings []), cell-short (b .form) n, forms.fields-text-long nothings) in
+      let lots : n < most b = omega (arith, within (omega arith)) in
+      let cells : List Float = stored (most b) cs' n (Numbers zero64 zero64 zero64 zero64) in
+      let s : step st l ≡ state (reading b 1 (n + 1) m (k + 1)) cells rs' =
+      pick-false _ _ _ refl ∙ pick-true _ _ _ (lt-ltb _ _ w) ∙ cell-on b n m k cs' rs' l (omega arith) zero64 zero64 zero64 zero64 (alone (omega arith)) lots kept-nothings u in
+      ap (λ (x : List ℕ). stopped (walk st (piecesOf x))) (ap (λ (x : List ℕ). x ++ t) (sym u) ∙ append-assoc l newline t)
+      ∙ ap (λ (x : List (List ℕ)). stopped (walk st x)) (line-parted l t (cell-free (b .form) n nothings))
+      ∙ ap stopped (walk-next l (piecesOf t) st (parting.some 10 t))
+      ∙ ap (λ (x : State). stopped (walk x (piecesOf t))) s
+      ∙ made-up b d (n + 1) m (k + 1) cells rs' (λ z. alone (omega arith)) (omega arith) (λ z. omega (arith, within (omega arith))) (omega arith)
+
+  goes-on : {j : ℕ} {st : State} → Reached cs rs j st → j + 1 < 2 ^ 64 → (t : List ℕ) × (stopped (walk st (piecesOf t)) ≡ false)
+  unfolding overPieces ended lineOn refusing whole-file
+  goes-on first h =
+      (whole-file, ap stopped (back.reads-back (opening 2 0 (freshReading .bar)) [] 0 [] 0 (record { says = two (omega arith); bar = zeros; cells = λ i z. absurd (omega arith); rings = λ i z. absurd (omega arith); counts = counts-few 2 0 (omega arith) (omega arith); few-rings = omega arith }) cs rs (omega arith) (omega arith)))
+  goes-on (body {b} {n} {m} {k} {cs'} {rs'} early) h = by (leb (least b) n) refl
+    where
+      by : (t : Bool) → leb (least b) n ≡ t → (t : List ℕ) × (stopped (walk (state (reading b 1 n m k) cs' rs') (piecesOf t)) ≡ false)
+      by true e = let u : least b ≤ n = leb-true _ _ e in (rest-of (b .form) n 0 k, made-up b 0 n m k cs' rs' (λ z. absurd (omega arith)) (omega arith) (λ z. absurd (omega arith)) (omega arith))
+      by false e =
+          let u : n < least b = leb-false _ _ e in
+          let d : ℕ = least b - n in
+          let few : k + d + 1 < 2 ^ 64 = omega (arith, early .lines u, few-least (b .form)) in
+          (rest-of (b .form) n d k, made-up b d n m k cs' rs' (λ z. early .alone u) (omega arith) (λ z. omega (arith, least-most (b .form))) few)
   goes-on (done {b} {n} {m} {k} {cs'} {rs'}) h =
       ([], ap stopped (ap (walk (state (reading b 2 n m k) cs' rs')) (parting.parted-end 10) ∙ pick-false _ _ _ refl ∙ pick-true _ _ _ refl ∙ pick-false _ _ _ refl))
 

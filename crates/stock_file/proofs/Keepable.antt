@@ -28,8 +28,9 @@ use Rattle.rings.proofs.Fitting.{Fits, fits-of}
 use Rattle.floats.proofs.Bounding.{clean-unsigned}
 use Rattle.text.proofs.Reading.{plus-bits}
 use Rattle.stock_lines.proofs.Forms.{Keeps, none, more}
+use Rattle.stock_lines.specs.Form.{Counts, writtenForm}
 use Rattle.stock_lines.specs.First.{CanSay}
-use Rattle.stock_lines.proofs.Steps.{each-cell}
+use Rattle.stock_lines.proofs.Steps.{written-says, each-cell}
 use Rattle.stock_file.specs.Read.{specOf, stockedOf, readOf}
 use Rattle.stock_file.specs.Write.{barOf, opening, fileOf}
 use Rattle.stock_file.proofs.Lined.{rings-few}
@@ -101,9 +102,9 @@ pub record Lent64 (spec : TurnStockSpec) (cs rs : List Float) : Type 0 where
   pub cells : (k : ℕ) → T (fits binary64 (getD cs k nan))
   pub rings : (k : ℕ) → T (fits binary64 (getD rs k nan))
 
-pub stock-kept : (form edition : ℕ) (spec : TurnStockSpec) (cs rs : List Float) (n m : ℕ) → CanSay form edition → stockOf spec cs ≡ answers n → countFits (barRing (cleanSpec spec)) rs m ≡ true → Lent64 spec cs rs → Kept (opening form edition (barOf spec)) cs n rs m
+pub stock-kept : (form edition : ℕ) (spec : TurnStockSpec) (cs rs : List Float) (n m : ℕ) → CanSay form edition → Counts form n → stockOf spec cs ≡ answers n → countFits (barRing (cleanSpec spec)) rs m ≡ true → Lent64 spec cs rs → Kept (opening form edition (barOf spec)) cs n rs m
 unfolding cleanSpec cellsFit countFits
-stock-kept form edition spec cs rs n m says e f g =
+stock-kept form edition spec cs rs n m says counts e f g =
     let s = stocked spec cs n e in
     let c = and-both (eqb (length cs) (4 * n)) (fitTo (cleanSpec spec) cs n) (s .fit) .1 in
     let r = and-both (leb m (ringRoom (length rs))) (storeFits (barRing (cleanSpec spec)) (ringsOf m rs)) f .1 in
@@ -112,12 +113,19 @@ stock-kept form edition spec cs rs n m says e f g =
       bar = more (clean-fits _ (g .z-min)) (clean-plus _ (g .z-min)) (more (clean-fits _ (g .z-max)) (clean-plus _ (g .z-max)) (more (clean-fits _ (g .outer)) (clean-plus _ (g .outer)) (more (clean-fits _ (g .bore)) (clean-plus _ (g .bore)) (more (clean-fits _ (g .cell)) (clean-plus _ (g .cell)) none))));
       cells = λ i h. cell-keeps (cleanSpec spec) cs i (g .cells) (fit-below (cleanSpec spec) cs n c i h);
       rings = λ i h. ring-keeps (barRing (cleanSpec spec)) rs i (g .rings) (ring-below (barRing (cleanSpec spec)) rs m r i h);
-      few-cells = omega (arith, checked spec n (s .count) .few, each-cell form);
+      counts = counts;
       few-rings = rings-few (barRing (cleanSpec spec)) rs m f;
     }
 
--- READ AFTER WRITE: the file of a stock that 1 to 4 accept, in each form that can say its edition, tells that stock at generation 0, to a reader with room and limit for it
-pub stock-back : (form edition : ℕ) (spec : TurnStockSpec) (cs rs : List Float) (n m most : ℕ) → CanSay form edition → stockOf spec cs ≡ answers n → countFits (barRing (cleanSpec spec)) rs m ≡ true → Lent64 spec cs rs → n ≤ most
+-- READ AFTER WRITE: the file of a stock that 1 to 4 accept, in each form that can say its edition and has so many cell lines, tells that stock at generation 0, to a reader with room and limit for it
+pub stock-back : (form edition : ℕ) (spec : TurnStockSpec) (cs rs : List Float) (n m most : ℕ) → CanSay form edition → Counts form n → stockOf spec cs ≡ answers n → countFits (barRing (cleanSpec spec)) rs m ≡ true → Lent64 spec cs rs → n ≤ most
     → (room space : List Float) → 4 * n ≤ length room → 4 * m ≤ length space
     → readOf most room space (fileOf (opening form edition (barOf spec)) cs n rs m) ≡ answers (stockedOf (specOf (barOf spec) most) edition n m)
-stock-back form edition spec cs rs n m most says e f g h room space wide deep = accepted-back form edition spec cs rs n m most e f h (stock-kept form edition spec cs rs n m says e f g) room space wide deep
+stock-back form edition spec cs rs n m most says counts e f g h room space wide deep = accepted-back form edition spec cs rs n m most e f h (stock-kept form edition spec cs rs n m says counts e f g) room space wide deep
+
+-- and so the file that is written, of any edition
+pub written-back : (edition : ℕ) (spec : TurnStockSpec) (cs rs : List Float) (n m most : ℕ) → edition < 4294967296 → stockOf spec cs ≡ answers n → countFits (barRing (cleanSpec spec)) rs m ≡ true → Lent64 spec cs rs → n ≤ most
+    → (room space : List Float) → 4 * n ≤ length room → 4 * m ≤ length space
+    → readOf most room space (fileOf (opening (writtenForm n) edition (barOf spec)) cs n rs m) ≡ answers (stockedOf (specOf (barOf spec) most) edition n m)
+written-back edition spec cs rs n m most small e f g h room space wide deep =
+    stock-back (writtenForm n) edition spec cs rs n m most (written-says n edition small) (each-cell n (checked spec n (stocked spec cs n e .count) .few)) e f g h room space wide deep

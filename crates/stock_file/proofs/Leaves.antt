@@ -10,7 +10,6 @@ use lib.Seq.{sets, length-sets, getD-set-other}
 use lib.Ieee.{Float, nan}
 use borrow.Author.Tests.{eqb-true, eqb-false, ltb-true, ltb-false}
 use Rattle.floats.specs.Pick.{pick, pick-true, pick-false}
-use Rattle.text.specs.Same.{sameBytes}
 use Rattle.lines.specs.File.{piecesOf, ended, lineOn, overPieces}
 use Rattle.stock_lines.specs.declared.Reading.{Reading}
 use Rattle.stock_lines.specs.declared.form.Four.{Four}
@@ -19,9 +18,9 @@ use Rattle.stock_lines.specs.declared.form.First.{First}
 use Rattle.stock_lines.specs.declared.form.First.the-variants.{Says, NoFirst}
 use Rattle.stock_lines.specs.declared.room.Took.{Took}
 use Rattle.stock_lines.specs.declared.room.Took.the-variants.{Cell, Ring, End, NoLine}
-use Rattle.stock_lines.specs.Form.{formOf, endText}
+use Rattle.stock_lines.specs.Form.{formOf}
 use Rattle.stock_lines.specs.First.{firstOf}
-use Rattle.stock_lines.specs.Room.{kept, stored, taken, cellAt, ringAt, tookOf, ringsAfter}
+use Rattle.stock_lines.specs.Room.{kept, stored, taken, cellAt, ringTurn, endTurn, tookOf, ringsAfter}
 use Rattle.stock_lines.specs.Reading.{State, state, countTo, refusing, begun, onwardTo, went, onBody, onLine}
 use Rattle.stock_lines.proofs.Rooms.{took-cell, took-ring, took-end, took-none, rings-cell, rings-other, stored-other}
 use Rattle.stock_lines.proofs.Readings.{line-first, line-body, line-behind, count-more, count-full}
@@ -129,7 +128,7 @@ begun-unmoved r NoFirst = refusing-unmoved r
 -- what a line behind the first leaves, by what it was
 body-stays : (st : State) (s : List ℕ) → Stays st (onBody st s)
 unfolding onBody went onwardTo
-body-stays st s = by (taken (cellAt k n m s)) refl (taken (ringAt s)) refl (sameBytes s (endText b)) refl
+body-stays st s = by (taken (cellAt k n m s)) refl (taken (ringTurn k n s)) refl (endTurn k n b s) refl
   where
     k : ℕ
     k = st .reading .form
@@ -159,8 +158,8 @@ body-stays st s = by (taken (cellAt k n m s)) refl (taken (ringAt s)) refl (same
     cell : Stays st (after Cell (stored most (st .cells) n (cellAt k n m s)) (st .rings))
     cell = record { cells = stored-filled most most n (st .cells) (cellAt k n m s) (omega arith); rings = same _ _ }
 
-    ring : Stays st (after Ring (st .cells) (stored 256 (st .rings) m (ringAt s)))
-    ring = record { cells = same _ _; rings = stored-filled 256 257 m (st .rings) (ringAt s) (omega arith) }
+    ring : Stays st (after Ring (st .cells) (stored 256 (st .rings) m (ringTurn k n s)))
+    ring = record { cells = same _ _; rings = stored-filled 256 257 m (st .rings) (ringTurn k n s) (omega arith) }
 
     end : Stays st (after End (st .cells) (st .rings))
     end = record { cells = same _ _; rings = same _ _ }
@@ -168,12 +167,12 @@ body-stays st s = by (taken (cellAt k n m s)) refl (taken (ringAt s)) refl (same
     none : Stays st (after NoLine (st .cells) (st .rings))
     none = unmoved st (refusing (st .reading)) (refusing-unmoved (st .reading))
 
-    by : (t : Bool) → taken (cellAt k n m s) ≡ t → (u : Bool) → taken (ringAt s) ≡ u → (v : Bool) → sameBytes s (endText b) ≡ v
+    by : (t : Bool) → taken (cellAt k n m s) ≡ t → (u : Bool) → taken (ringTurn k n s) ≡ u → (v : Bool) → endTurn k n b s ≡ v
         → Stays st (after (tookOf k n m b s) (stored most (st .cells) n (cellAt k n m s)) (ringsAfter k n m s (st .rings)))
     by true e u f v g = shown Cell _ (st .rings) (sym (took-cell k n m s b e)) refl (sym (rings-cell k n m s (st .rings) e)) cell
     by false e true f v g = shown Ring (st .cells) _ (sym (took-ring k n m s b e f)) (stored-other most (st .cells) n (cellAt k n m s) e) (sym (rings-other k n m s (st .rings) e)) ring
-    by false e false f true g = shown End (st .cells) (st .rings) (sym (took-end k n m s b e f g)) (stored-other most (st .cells) n (cellAt k n m s) e) (sym (rings-other k n m s (st .rings) e) ∙ stored-other 256 (st .rings) m (ringAt s) f) end
-    by false e false f false g = shown NoLine (st .cells) (st .rings) (sym (took-none k n m s b e f g)) (stored-other most (st .cells) n (cellAt k n m s) e) (sym (rings-other k n m s (st .rings) e) ∙ stored-other 256 (st .rings) m (ringAt s) f) none
+    by false e false f true g = shown End (st .cells) (st .rings) (sym (took-end k n m s b e f g)) (stored-other most (st .cells) n (cellAt k n m s) e) (sym (rings-other k n m s (st .rings) e) ∙ stored-other 256 (st .rings) m (ringTurn k n s) f) end
+    by false e false f false g = shown NoLine (st .cells) (st .rings) (sym (took-none k n m s b e f g)) (stored-other most (st .cells) n (cellAt k n m s) e) (sym (rings-other k n m s (st .rings) e) ∙ stored-other 256 (st .rings) m (ringTurn k n s) f) none
 
 pub line-stays : (st : State) (s : List ℕ) → Stays st (onLine st s)
 line-stays st s = by (eqb (st .reading .stage) 0) refl (eqb (st .reading .stage) 1) refl

@@ -21,13 +21,13 @@ use Rattle.stock_lines.specs.declared.form.First.the-variants.{Says}
 use Rattle.stock_lines.specs.declared.room.Took.{Took}
 use Rattle.stock_lines.specs.declared.room.Took.the-variants.{Cell, Ring, End, NoLine}
 use Rattle.stock_lines.specs.Form.{Line, holds, other, formOf, lineOf, fourOf, barNumbers, cellPrefix, ringPrefix, endText, stockLine, keptCellLine, endLine}
-use Rattle.stock_lines.specs.Room.{kept, stored, taken, cellAt, ringAt, tookOf, ringsAfter}
+use Rattle.stock_lines.specs.Room.{kept, stored, taken, cellAt, ringAt, ringTurn, endTurn, tookOf, ringsAfter}
 use Rattle.stock_lines.specs.Reading.{State, state, next, countTo, begun, onwardTo, went, onBody, onLine}
 use Rattle.stock_lines.proofs.Forms.{Keeps}
 use Rattle.stock_lines.specs.First.{firstOf, CanSay}
 use Rattle.stock_lines.proofs.EachLine.{cell-reads, ring-reads, end-reads, first-byte}
 use Rattle.stock_lines.proofs.Firsts.{first-reads}
-use Rattle.stock_lines.proofs.Rooms.{cell-turn, cell-after-ring, took-cell, took-ring, took-end, rings-cell, rings-other, stored-other, taken-numbers, taken-none}
+use Rattle.stock_lines.proofs.Rooms.{cell-turn, cell-after-ring, ring-turn, end-turn, took-cell, took-ring, took-end, rings-cell, rings-other, stored-other, taken-numbers, taken-none}
 use Rattle.stock_lines.proofs.Readings.{line-first, line-body, count-more, begun-is, went-cell, went-ring, went-end}
 use Rattle.stock_file.specs.Read.{freshReading, stopped, onLong}
 use Rattle.stock_file.specs.Write.{Opening}
@@ -77,6 +77,9 @@ no-cell form n m s h = by (eqb m 0) refl (ltb n (formOf form .most)) refl
 abbrev pub most : Opening → ℕ
 most b = formOf (b .form) .most
 
+abbrev pub least : Opening → ℕ
+least b = formOf (b .form) .least
+
 abbrev pub reading : Opening → ℕ → ℕ → ℕ → ℕ → Reading
 reading b stage n m l = record { stage = stage; form = b .form; edition = b .edition; bar = b .bar; cells = n; rings = m; lines = l; refused = false }
 
@@ -92,28 +95,35 @@ module _ (b : Opening) (n m l : ℕ) (cs rs : List Float) (s : List ℕ) (few : 
   body = line-body (state (reading b 1 n m l) cs rs) s (λ e. omega arith) refl
 
   -- a cell's line
-  pub cell-step : (x y z w : Float) → m ≡ 0 → n < (most b) → n < length cs / 4 → Keeps (x ∷ y ∷ z ∷ w ∷ []) → s ++ newline ≡ keptCellLine (b .form) n x y z w
-      → onLine (state (reading b 1 n m l) cs rs) s ≡ state (reading b 1 (n + 1) m (l + 1)) (sets cs (4 * n) (x ∷ y ∷ z ∷ w ∷ [])) rs
-  unfolding onBody kept stored
-  cell-step x y z w e h k keeps q =
+  pub cell-on : (x y z w : Float) → m ≡ 0 → n < (most b) → Keeps (x ∷ y ∷ z ∷ w ∷ []) → s ++ newline ≡ keptCellLine (b .form) n x y z w
+      → onLine (state (reading b 1 n m l) cs rs) s ≡ state (reading b 1 (n + 1) m (l + 1)) (stored (most b) cs n (Numbers x y z w)) rs
+  unfolding onBody
+  cell-on x y z w e h keeps q =
       let c : cellAt (b .form) n m s ≡ Numbers x y z w = sym (cell-turn (b .form) n m s e h) ∙ cell-reads (b .form) x y z w n s keeps q in
       let t : taken (cellAt (b .form) n m s) ≡ true = sym (taken-numbers (cellAt (b .form) n m s) x y z w c) in
       let r : went (reading b 1 n m l) (tookOf (b .form) n m l s) ≡ reading b 1 (n + 1) m (l + 1) =
       sym (went-cell (reading b 1 n m l) (tookOf (b .form) n m l s) (n + 1) (sym (took-cell (b .form) n m s l t)) (count-more (most b) n h)) ∙ onward-is b n m l 1 (n + 1) m few in
-      let u : stored (most b) cs n (cellAt (b .form) n m s) ≡ sets cs (4 * n) (x ∷ y ∷ z ∷ w ∷ []) = ap (stored (most b) cs n) c ∙ pick-true _ _ _ (lt-ltb _ _ h) ∙ pick-true _ _ _ (lt-ltb _ _ k) in
+      let u : stored (most b) cs n (cellAt (b .form) n m s) ≡ stored (most b) cs n (Numbers x y z w) = ap (stored (most b) cs n) c in
       let v : ringsAfter (b .form) n m s rs ≡ rs = sym (rings-cell (b .form) n m s rs t) in
       body ∙ (λ i. state (r i) (u i) (v i))
 
+  -- the same in a room that reaches
+  pub cell-step : (x y z w : Float) → m ≡ 0 → n < (most b) → n < length cs / 4 → Keeps (x ∷ y ∷ z ∷ w ∷ []) → s ++ newline ≡ keptCellLine (b .form) n x y z w
+      → onLine (state (reading b 1 n m l) cs rs) s ≡ state (reading b 1 (n + 1) m (l + 1)) (sets cs (4 * n) (x ∷ y ∷ z ∷ w ∷ [])) rs
+  unfolding kept stored
+  cell-step x y z w e h k keeps q =
+      cell-on x y z w e h keeps q ∙ ap (λ (y : List Float). state (reading b 1 (n + 1) m (l + 1)) y rs) (pick-true _ _ _ (lt-ltb _ _ h) ∙ pick-true _ _ _ (lt-ltb _ _ k))
+
   -- a ring's line
-  pub ring-step : (x y z w : Float) → m < 256 → m < length rs / 4 → Keeps (x ∷ y ∷ z ∷ w ∷ []) → s ++ newline ≡ ringLine x y z w
+  pub ring-step : (x y z w : Float) → least b ≤ n → m < 256 → m < length rs / 4 → Keeps (x ∷ y ∷ z ∷ w ∷ []) → s ++ newline ≡ ringLine x y z w
       → (getD s 0 0 ≡ 99 → ⊥)
       → onLine (state (reading b 1 n m l) cs rs) s ≡ state (reading b 1 n (m + 1) (l + 1)) cs (sets rs (4 * m) (x ∷ y ∷ z ∷ w ∷ []))
   unfolding onBody kept stored
-  ring-step x y z w h k keeps q g =
+  ring-step x y z w enough h k keeps q g =
       let c : cellAt (b .form) n m s ≡ NoFour = no-cell (b .form) n m s g in
       let t : taken (cellAt (b .form) n m s) ≡ false = sym (taken-none (cellAt (b .form) n m s) c) in
-      let d : ringAt s ≡ Numbers x y z w = ring-reads x y z w s keeps q in
-      let o : taken (ringAt s) ≡ true = sym (taken-numbers (ringAt s) x y z w d) in
+      let d : ringTurn (b .form) n s ≡ Numbers x y z w = sym (ring-turn (b .form) n m s enough) ∙ ring-reads x y z w s keeps q in
+      let o : taken (ringTurn (b .form) n s) ≡ true = sym (taken-numbers (ringTurn (b .form) n s) x y z w d) in
       let j : m < 257 = omega arith in
       let r : went (reading b 1 n m l) (tookOf (b .form) n m l s) ≡ reading b 1 n (m + 1) (l + 1) =
       sym (went-ring (reading b 1 n m l) (tookOf (b .form) n m l s) (m + 1) (sym (took-ring (b .form) n m s l t o)) (count-more 257 m j)) ∙ onward-is b n m l 1 n (m + 1) few in
@@ -122,16 +132,16 @@ module _ (b : Opening) (n m l : ℕ) (cs rs : List Float) (s : List ℕ) (few : 
       body ∙ (λ i. state (r i) (u i) (v i))
 
   -- the last line
-  pub end-step : s ++ newline ≡ endLine l → (getD s 0 0 ≡ 99 → ⊥) → (getD s 0 0 ≡ 114 → ⊥)
+  pub end-step : least b ≤ n → s ++ newline ≡ endLine l → (getD s 0 0 ≡ 99 → ⊥) → (getD s 0 0 ≡ 114 → ⊥)
       → onLine (state (reading b 1 n m l) cs rs) s ≡ state (reading b 2 n m (l + 1)) cs rs
   unfolding onBody kept stored
-  end-step q g f =
+  end-step enough q g f =
       let c : cellAt (b .form) n m s ≡ NoFour = no-cell (b .form) n m s g in
       let t : taken (cellAt (b .form) n m s) ≡ false = sym (taken-none (cellAt (b .form) n m s) c) in
-      let d : ringAt s ≡ NoFour = other-four 114 _ s f in
-      let o : taken (ringAt s) ≡ false = sym (taken-none (ringAt s) d) in
+      let d : ringTurn (b .form) n s ≡ NoFour = sym (ring-turn (b .form) n m s enough) ∙ other-four 114 _ s f in
+      let o : taken (ringTurn (b .form) n s) ≡ false = sym (taken-none (ringTurn (b .form) n s) d) in
       let r : went (reading b 1 n m l) (tookOf (b .form) n m l s) ≡ reading b 2 n m (l + 1) =
-      sym (went-end (reading b 1 n m l) (tookOf (b .form) n m l s) (sym (took-end (b .form) n m s l t o (end-reads l s q)))) ∙ onward-is b n m l 2 n m few in
+      sym (went-end (reading b 1 n m l) (tookOf (b .form) n m l s) (sym (took-end (b .form) n m s l t o (sym (end-turn (b .form) n m s l enough) ∙ end-reads l s q)))) ∙ onward-is b n m l 2 n m few in
       let u : stored (most b) cs n (cellAt (b .form) n m s) ≡ cs = ap (stored (most b) cs n) c in
       let v : ringsAfter (b .form) n m s rs ≡ rs = sym (rings-other (b .form) n m s rs t) ∙ ap (stored 256 rs m) d in
       body ∙ (λ i. state (r i) (u i) (v i))

@@ -85,7 +85,7 @@ line-told p s l m r e w =
 module _ (stock : TurnStock) (cs rs : List Float) (k : ℕ) where
   pub for-refused : (w : Reason) → cellsOf (stock .spec) ≡ refuses w → lineFor stock cs rs k ≡ refuses w
   unfolding lineFor newOf
-  for-refused w e = rw e (ap (λ (p : Paper ℕ). onward p (λ n. demand (leb (stock .rings) (ringRoom (length rs))) 4 (answers (lineAt (openingOf stock) cs n rs (stock .rings) k)))) (onward-refuses w (λ n. demand (eqb (length cs) (4 * n)) 3 (answers n))) ∙ onward-refuses _ _)
+  for-refused w e = rw e (ap (λ (p : Paper ℕ). onward p (λ n. demand (leb (stock .rings) (ringRoom (length rs))) 4 (answers (lineAt (openingOf stock n) cs n rs (stock .rings) k)))) (onward-refuses w (λ n. demand (eqb (length cs) (4 * n)) 3 (answers n))) ∙ onward-refuses _ _)
 
   module _ (n : ℕ) (e : cellsOf (stock .spec) ≡ answers n) where
     counted : newOf (stock .spec) (length cs) ≡ demand (eqb (length cs) (4 * n)) 3 (answers n)
@@ -95,17 +95,17 @@ module _ (stock : TurnStock) (cs rs : List Float) (k : ℕ) where
     pub for-length : (length cs ≡ 4 * n → ⊥) → lineFor stock cs rs k ≡ refuses (only 3)
     unfolding lineFor
     for-length h =
-        ap (λ (p : Paper ℕ). onward p (λ n. demand (leb (stock .rings) (ringRoom (length rs))) 4 (answers (lineAt (openingOf stock) cs n rs (stock .rings) k)))) (counted ∙ demand-false _ _ _ (ne-eqb _ _ h))
+        ap (λ (p : Paper ℕ). onward p (λ n. demand (leb (stock .rings) (ringRoom (length rs))) 4 (answers (lineAt (openingOf stock n) cs n rs (stock .rings) k)))) (counted ∙ demand-false _ _ _ (ne-eqb _ _ h))
         ∙ onward-refuses _ _
 
-    room : length cs ≡ 4 * n → lineFor stock cs rs k ≡ demand (leb (stock .rings) (ringRoom (length rs))) 4 (answers (lineAt (openingOf stock) cs n rs (stock .rings) k))
+    room : length cs ≡ 4 * n → lineFor stock cs rs k ≡ demand (leb (stock .rings) (ringRoom (length rs))) 4 (answers (lineAt (openingOf stock n) cs n rs (stock .rings) k))
     unfolding lineFor
     room h =
-        ap (λ (p : Paper ℕ). onward p (λ n. demand (leb (stock .rings) (ringRoom (length rs))) 4 (answers (lineAt (openingOf stock) cs n rs (stock .rings) k)))) (counted ∙ demand-true _ _ _ (eq-eqb _ _ h))
+        ap (λ (p : Paper ℕ). onward p (λ n. demand (leb (stock .rings) (ringRoom (length rs))) 4 (answers (lineAt (openingOf stock n) cs n rs (stock .rings) k)))) (counted ∙ demand-true _ _ _ (eq-eqb _ _ h))
         ∙ onward-answers _ _
 
     pub for-count : length cs ≡ 4 * n → ringRoom (length rs) < stock .rings → lineFor stock cs rs k ≡ refuses (only 4)
     for-count h f = room h ∙ demand-false _ _ _ (lt-leb _ _ f)
 
-    pub for-line : length cs ≡ 4 * n → stock .rings ≤ ringRoom (length rs) → lineFor stock cs rs k ≡ answers (lineAt (openingOf stock) cs n rs (stock .rings) k)
+    pub for-line : length cs ≡ 4 * n → stock .rings ≤ ringRoom (length rs) → lineFor stock cs rs k ≡ answers (lineAt (openingOf stock n) cs n rs (stock .rings) k)
     for-line h f = room h ∙ demand-true _ _ _ (le-leb _ _ f)

@@ -17,7 +17,7 @@ use Rattle.lines.specs.File as file
 use Rattle.lines.specs.Hands.{Hand, hand, takes}
 use Rattle.lines.proofs.Parts.{parts}
 use Rattle.lines.proofs.OneFile.{whole-file}
-use Rattle.stock_lines.specs.Form.{formOf, fieldsText, barNumbers, cellPrefix, ringPrefix, endText, stockText, stockLine, keptCellLine, endLine}
+use Rattle.stock_lines.specs.Form.{formOf, Counts, fieldsText, barNumbers, cellPrefix, ringPrefix, endText, stockText, stockLine, keptCellLine, endLine}
 use Rattle.stock_lines.specs.Reading.{State, state, onLine}
 use Rattle.stock_lines.specs.First.{CanSay}
 use Rattle.stock_lines.proofs.Forms.{Keeps, fields-then, fields-text-long}
@@ -56,7 +56,7 @@ fours-room xs b i h = omega (arith, length-over (foursTo xs i) b (omega (arith, 
 
 -- ---- the text of a line
 
-with-newline : (p : List ℕ) (xs : List Float) → (p ++ fieldsText xs []) ++ newline ≡ p ++ fieldsText xs newline
+pub with-newline : (p : List ℕ) (xs : List Float) → (p ++ fieldsText xs []) ++ newline ≡ p ++ fieldsText xs newline
 with-newline p xs = append-assoc p (fieldsText xs []) newline ∙ ap (λ (y : List ℕ). p ++ y) (fields-then xs newline)
 
 -- ---- line by line
@@ -66,7 +66,7 @@ pub record Kept (b : Opening) (cs : List Float) (n : ℕ) (rs : List Float) (m :
   pub bar : Keeps (barNumbers (b .bar))
   pub cells : (i : ℕ) → i < n → Keeps (fourAt cs i)
   pub rings : (i : ℕ) → i < m → Keeps (fourAt rs i)
-  pub few-cells : n ≤ (most b)
+  pub counts : Counts (b .form) n
   pub few-rings : m ≤ 256
 
 module _ (b : Opening) (cs : List Float) (n : ℕ) (rs : List Float) (m : ℕ) (kept : Kept b cs n rs m) (C R : List Float) (room : 4 * n ≤ length C) (space : 4 * m ≤ length R) where
@@ -105,9 +105,9 @@ module _ (b : Opening) (cs : List Float) (n : ℕ) (rs : List Float) (m : ℕ) (
       let long : length l ≤ 127 = omega (arith, length-append (cellPrefix (b .form) i) (fieldsText (fourAt cs i) []), cell-short (b .form) i, fields-text-long (fourAt cs i)) in
       let z : i ≡ j - 1 = omega arith in
       let y : j - 1 < n = omega arith in
-      let few : j + 1 < 2 ^ 64 = omega (arith, kept .few-cells, few-lines (b .form)) in
+      let few : j + 1 < 2 ^ 64 = omega (arith, kept .counts .most, few-lines (b .form)) in
       let lt : i < n = omega arith in
-      let lots : i < (most b) = omega (arith, kept .few-cells) in
+      let lots : i < (most b) = omega (arith, kept .counts .most) in
       let wide : 4 * i + 4 ≤ length C = omega arith in
       let q : takes stopped onLine onLong (hand st []) (lineAt b cs n rs m j) ≡ hand (onLine st l) [] =
       line-taken l (lineAt b cs n rs m j) st (cell-free (b .form) i (fourAt cs i)) refl long (w ∙ ap (cellAt (b .form) cs) z ∙ cell-line b cs n rs m j (λ v. omega arith) y) in
@@ -132,7 +132,7 @@ module _ (b : Opening) (cs : List Float) (n : ℕ) (rs : List Float) (m : ℕ) (
       let long : length l ≤ 127 = omega (arith, length-append ringPrefix (fieldsText (fourAt rs i) []), fields-text-long (fourAt rs i)) in
       let z : i ≡ j - 1 - n = omega arith in
       let y : j - 1 - n < m = omega arith in
-      let few : j + 1 < 2 ^ 64 = omega (arith, kept .few-cells, few-lines (b .form), kept .few-rings) in
+      let few : j + 1 < 2 ^ 64 = omega (arith, kept .counts .most, few-lines (b .form), kept .few-rings) in
       let lt : i < m = omega arith in
       let lots : i < 256 = omega (arith, kept .few-rings) in
       let wide : 4 * i + 4 ≤ length R = omega arith in
@@ -142,7 +142,7 @@ module _ (b : Opening) (cs : List Float) (n : ℕ) (rs : List Float) (m : ℕ) (
       let u : j + 1 ≡ k = omega arith in
       let v : i + 1 ≡ suc i = omega arith in
       next j k st l o (rings i j (omega arith) refl) q
-      ∙ ap (λ (x : State). hand x []) (ring-step b n i j D (over (foursTo rs i) R) l few _ _ _ _ lots (fours-room rs R i wide) (kept .rings i lt) w (λ v. omega arith))
+      ∙ ap (λ (x : State). hand x []) (ring-step b n i j D (over (foursTo rs i) R) l few _ _ _ _ (kept .counts .least) lots (fours-room rs R i wide) (kept .rings i lt) w (λ v. omega arith))
       ∙ ap (λ (x : ℕ). hand (state (reading b 1 n x (j + 1)) D (sets (over (foursTo rs i) R) (4 * i) (fourAt rs i))) []) v
       ∙ ap (λ (x : ℕ). hand (state (reading b 1 n (suc i) x) D (sets (over (foursTo rs i) R) (4 * i) (fourAt rs i))) []) u
       ∙ ap (λ (x : List Float). hand (state (reading b 1 n (suc i) k) D x) []) (fours-more rs R i wide)
@@ -161,14 +161,14 @@ module _ (b : Opening) (cs : List Float) (n : ℕ) (rs : List Float) (m : ℕ) (
       let l : List ℕ = endText j in
       let h = decimal-short j in
       let long : length l ≤ 127 = omega arith in
-      let few : j + 1 < 2 ^ 64 = omega (arith, kept .few-cells, few-lines (b .form), kept .few-rings) in
+      let few : j + 1 < 2 ^ 64 = omega (arith, kept .counts .most, few-lines (b .form), kept .few-rings) in
       let y : j - 1 - n ≡ m = omega arith in
       let q : takes stopped onLine onLong (hand st []) (lineAt b cs n rs m j) ≡ hand (onLine st l) [] =
       line-taken l (lineAt b cs n rs m j) st (end-free j) refl long (last-line b cs n rs m j (λ v. omega arith) (omega arith) (omega arith) y) in
       let o : n + m + 2 ≡ suc j = omega arith in
       let u : j + 1 ≡ n + m + 2 = omega arith in
       next j (n + m + 2) st l o (rings m j (omega arith) refl) q
-      ∙ ap (λ (x : State). hand x []) (end-step b n m j D S l few refl (λ v. omega arith) (λ v. omega arith))
+      ∙ ap (λ (x : State). hand x []) (end-step b n m j D S l few (kept .counts .least) refl (λ v. omega arith) (λ v. omega arith))
       ∙ ap (λ (x : ℕ). hand (state (reading b 2 n m x) D S) []) u
 
   -- READ AFTER WRITE: the file, read in a room that reaches, leaves its form, its edition, its bar, its counts and its numbers, and the rest of the room as it was

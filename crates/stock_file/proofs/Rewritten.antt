@@ -18,7 +18,7 @@ use Rattle.stock_lines.specs.declared.form.Four.the-variants.{Numbers}
 use Rattle.stock_lines.specs.declared.Reading.{Reading}
 use Rattle.stock_lines.specs.declared.form.First.{First}
 use Rattle.stock_lines.specs.declared.form.First.the-variants.{Says, NoFirst}
-use Rattle.stock_lines.specs.Form.{lineOf, fourOf, barNumbers, cellPrefix, ringPrefix, endLine, keptCellLine}
+use Rattle.stock_lines.specs.Form.{Counts, lineOf, fourOf, barNumbers, cellPrefix, ringPrefix, endLine, keptCellLine}
 use Rattle.stock_lines.specs.First.{firstOf, CanSay}
 use Rattle.stock_lines.specs.Room.{kept, stored}
 use Rattle.stock_lines.specs.Reading.{State, state, next, countTo, refusing, begun, onLine}
@@ -29,7 +29,7 @@ use Rattle.stock_lines.proofs.Readings.{line-first, line-behind, begun-is, coun
 use Rattle.stock_file.specs.Read.{freshReading, stopped, fileIn}
 use Rattle.stock_file.specs.Write.{Opening, opening, cellAt, ringAt, lineAt, linesTo, fileOf}
 use Rattle.stock_file.proofs.Lined.{first-line, cell-line, ring-line, last-line}
-use Rattle.stock_file.proofs.LineSteps.{most, reading}
+use Rattle.stock_file.proofs.LineSteps.{most, least, reading}
 use Rattle.stock_file.proofs.ReadBack.{fourAt}
 use Rattle.stock_file.proofs.Leaves.{Filled, Stays, pieces-stay}
 use Rattle.stock_file.proofs.Spelt.{parted, pieces-all, walk, went-on, Last, last-piece, next-piece}
@@ -122,6 +122,7 @@ module _ (b : Opening) (fin : State) (sound : Sound fin) where
     pub text : parted ls ≡ linesFrom line l many
     pub fixed : 0 < m → N ≡ n
     pub kept-opening : openingIn fin ≡ b
+    pub counts : Counts (b .form) N
 
   -- a line before those that are left
   before : (n m n' m' l : ℕ) (p q : List ℕ) (ls : List (List ℕ)) → Rest n' m' (l + 1) (q ∷ ls) → p ++ newline ≡ line l → (0 < m → N ≡ n) → Rest n m l (p ∷ q ∷ ls)
@@ -136,13 +137,14 @@ module _ (b : Opening) (fin : State) (sound : Sound fin) where
             ∙ ap (λ (x : List ℕ). line l ++ x) (r .text ∙ ap (λ (k : ℕ). linesFrom line k (r .many)) s);
         fixed = f;
         kept-opening = r .kept-opening;
+        counts = r .counts;
       }
 
   -- what is asked of the lines that are left
   abbrev Again : List (List ℕ) → Type 0
-  Again ls = (n m l : ℕ) (cs rs : List Float) → walk (state (reading b 1 n m l) cs rs) ls ≡ fin → l ≡ n + m + 1 → l + length ls < 2 ^ 64 → Rest n m l ls
+  Again ls = (n m l : ℕ) (cs rs : List Float) → walk (state (reading b 1 n m l) cs rs) ls ≡ fin → n ≤ most b → l ≡ n + m + 1 → l + length ls < 2 ^ 64 → Rest n m l ls
 
-  module _ (n m l : ℕ) (cs rs : List Float) (p q : List ℕ) (ls : List (List ℕ)) (e : walk (state (reading b 1 n m l) cs rs) (p ∷ q ∷ ls) ≡ fin) (el : l ≡ n + m + 1) (few : l + length (p ∷ q ∷ ls) < 2 ^ 64)
+  module _ (n m l : ℕ) (cs rs : List Float) (p q : List ℕ) (ls : List (List ℕ)) (e : walk (state (reading b 1 n m l) cs rs) (p ∷ q ∷ ls) ≡ fin) (top : n ≤ most b) (el : l ≡ n + m + 1) (few : l + length (p ∷ q ∷ ls) < 2 ^ 64)
       (again : Again (q ∷ ls)) where
     abbrev st : State
     st = state (reading b 1 n m l) cs rs
@@ -171,7 +173,7 @@ module _ (b : Opening) (fin : State) (sound : Sound fin) where
         let u : cellAt (b .form) (fin .cells) n ≡ keptCellLine (b .form) n x y z w = λ j. keptCellLine (b .form) n (here .first j) (here .second j) (here .third j) (here .fourth j) in
         let i : n ≡ l - 1 = omega arith in
         let v : l - 1 < N = omega arith in
-        before n m (n + 1) m l p q ls (again (n + 1) m (l + 1) _ rs e' (omega arith) (omega arith))
+        before n m (n + 1) m l p q ls (again (n + 1) m (l + 1) _ rs e' (omega arith) (omega arith) (omega arith))
         (t ∙ sym u ∙ ap (cellAt (b .form) (fin .cells)) i ∙ cell-line b (fin .cells) N (fin .rings) M l (λ z. omega arith) v)
         (λ z. absurd (omega arith))
 
@@ -199,7 +201,7 @@ module _ (b : Opening) (fin : State) (sound : Sound fin) where
         let four : fourAt (fin .rings) m ≡ x ∷ y ∷ z ∷ w ∷ [] = λ j. here .first j ∷ here .second j ∷ here .third j ∷ here .fourth j ∷ [] in
         let t : p ++ newline ≡ ringLine x y z w = ring-spelled x y z w p (subst NoNan four (sound .rings m below)) h in
         let u : ringAt (fin .rings) m ≡ ringLine x y z w = λ j. ringLine (here .first j) (here .second j) (here .third j) (here .fourth j) in
-        let r = again n (countTo 257 m) (l + 1) cs _ e' (omega arith) (omega arith) in
+        let r = again n (countTo 257 m) (l + 1) cs _ e' top (omega arith) (omega arith) in
         let f : N ≡ n = r .fixed (omega arith) in
         let i : m ≡ l - 1 - N = omega arith in
         let v : l - 1 - N < M = omega arith in
@@ -207,9 +209,9 @@ module _ (b : Opening) (fin : State) (sound : Sound fin) where
         (t ∙ sym u ∙ ap (ringAt (fin .rings)) i ∙ ring-line b (fin .cells) N (fin .rings) M l (λ z. omega arith) (omega arith) v)
         (λ z. f)
 
-    an-end : p ++ newline ≡ endLine l → onLine st p ≡ state (reading b 2 n m (l + 1)) cs rs → Rest n m l (p ∷ q ∷ ls)
+    an-end : least b ≤ n → p ++ newline ≡ endLine l → onLine st p ≡ state (reading b 2 n m (l + 1)) cs rs → Rest n m l (p ∷ q ∷ ls)
     unfolding parted linesFrom refusing
-    an-end t k = by ls (left (state (reading b 2 n m (l + 1)) cs rs) k)
+    an-end enough t k = by ls (left (state (reading b 2 n m (l + 1)) cs rs) k)
       where
         by : (rs' : List (List ℕ)) → walk (state (reading b 2 n m (l + 1)) cs rs) (q ∷ rs') ≡ fin → Rest n m l (p ∷ q ∷ rs')
         by (r ∷ rs') f =
@@ -230,6 +232,7 @@ module _ (b : Opening) (fin : State) (sound : Sound fin) where
               text = ap (λ (x : List ℕ). p ++ (10 ∷ x)) (w .nothing) ∙ t ∙ last-line b (fin .cells) N (fin .rings) M l (λ z. omega arith) (omega arith) (omega arith) v ∙ sym (append-nil (line l));
               fixed = λ z. sym gn;
               kept-opening = sym (ap openingIn g);
+              counts = record { least = subst (λ (i : ℕ). least b ≤ i) gn enough; most = subst (λ (i : ℕ). i ≤ most b) gn top };
             }
 
     a-line : Rest n m l (p ∷ q ∷ ls)
@@ -237,15 +240,15 @@ module _ (b : Opening) (fin : State) (sound : Sound fin) where
       where
         by : Kind b n m l cs rs p → Rest n m l (p ∷ q ∷ ls)
         by (cell x y z w em lt h k) = a-cell x y z w em lt h k
-        by (ring x y z w h k) = a-ring x y z w h k
-        by (end t k) = an-end t k
+        by (ring x y z w enough h k) = a-ring x y z w h k
+        by (end enough t k) = an-end enough t k
 
   pub rest : (ls : List (List ℕ)) → 0 < length ls → Again ls
-  rest [] h n m l cs rs e el few = absurd (omega arith)
-  rest (p ∷ []) h n m l cs rs e el few =
+  rest [] h n m l cs rs e top el few = absurd (omega arith)
+  rest (p ∷ []) h n m l cs rs e top el few =
       let w = last-piece p (state (reading b 1 n m l) cs rs) (ap stopped e ∙ sound .goes) in
       absurd (omega (arith, w .end))
-  rest (p ∷ q ∷ ls) h n m l cs rs e el few = a-line n m l cs rs p q ls e el few (rest (q ∷ ls) (omega arith))
+  rest (p ∷ q ∷ ls) h n m l cs rs e top el few = a-line n m l cs rs p q ls e top el few (rest (q ∷ ls) (omega arith))
 
 -- ---- from the first line on
 
@@ -261,9 +264,10 @@ unfolding begun refusing
 told (Says k e b) r h = (k, e, b, refl)
 told NoFirst r h = absurd (true≢false h)
 
--- bytes that are the file of what they left, in a form that can say its edition
+-- bytes that are the file of what they left, in a form that can say its edition and has so many cell lines
 pub record IsFile (fin : State) (s : List ℕ) : Type 0 where
   pub says : CanSay (fin .reading .form) (fin .reading .edition)
+  pub counts : Counts (fin .reading .form) (fin .reading .cells)
   pub text : s ≡ fileOf (openingIn fin) (fin .cells) (fin .reading .cells) (fin .rings) (fin .reading .rings)
 
 -- WRITE AFTER READ: bytes that are not refused, of fewer than 2^64 lines, are the bytes of the file of what they left
@@ -293,12 +297,13 @@ bytes-spelled C R s sound numbers few = by (piecesOf s) refl (some 10 s)
         let one : 1 ≡ next freshReading = omega arith in
         let m : onLine st p ≡ state (reading b 1 0 0 1) C R = f ∙ ap (λ (r : Reading). state r C R) (sym (begun-is freshReading (firstOf p) _ _ _ 1 (t .3) one)) in
         let few' : 1 + length (q ∷ ls) < 2 ^ 64 = omega (arith, ap length e) in
-        let r = rest b fin sound (q ∷ ls) (omega arith) 0 0 1 C R (ap (λ (x : State). walk x (q ∷ ls)) (sym m) ∙ n) refl few' in
+        let r = rest b fin sound (q ∷ ls) (omega arith) 0 0 1 C R (ap (λ (x : State). walk x (q ∷ ls)) (sym m) ∙ n) (omega arith) refl few' in
         let w = first-spelled p (t .0) (t .1) (t .2) (t .3) in
         let o : NoNan (barNumbers (b .bar)) = subst (λ (x : Opening). NoNan (barNumbers (x .bar))) (r .kept-opening) numbers in
         let line : ℕ → List ℕ = λ (i : ℕ). lineAt b (fin .cells) (fin .reading .cells) (fin .rings) (fin .reading .rings) i in
         record {
           says = subst (λ (x : Opening). CanSay (x .form) (x .edition)) (sym (r .kept-opening)) (w .says);
+          counts = subst (λ (x : Opening). Counts (x .form) (fin .reading .cells)) (sym (r .kept-opening)) (r .counts);
           text = sym (pieces-all s)
               ∙ ap parted e
               ∙ sym (append-assoc p newline (parted (q ∷ ls)))

@@ -26,8 +26,8 @@ use Rattle.rings.proofs.Removing.{fits-within}
 use Rattle.rings.proofs.Fitting.{fits-of}
 use Rattle.lines.specs.File.{piecesOf}
 use Rattle.stock_lines.specs.declared.Bar.{Bar}
-use Rattle.stock_lines.specs.Form.{barNumbers}
-use Rattle.stock_lines.specs.First.{CanSay, one, two}
+use Rattle.stock_lines.specs.Form.{fewCells, writtenForm, barNumbers}
+use Rattle.stock_lines.proofs.Steps.{form-told}
 use Rattle.stock_lines.specs.Reading.{State}
 use Rattle.stock_lines.proofs.Forms.{NoNan, none, more}
 use Rattle.stock_file.specs.Read.{stopped, specOf, frontOf, Stocked, stockedOf, stockIn, toldAs, fileIn, readOf}
@@ -195,17 +195,20 @@ told-in-form most C R s k e few =
     let t = tells (fileIn C R s) most k e in
     bytes-spelled C R s (told-sound (fileIn C R s) most k t) (bar-numbers (fileIn C R s) most k t) few
 
--- WRITE AFTER READ: they are its file in form 2, or, where it is of edition 0, its file in form 1, and there is no third
+-- WRITE AFTER READ: they are its file in the form that its number of cells determines, or, where it is of edition 0 and few cells, its file in form 1, and there is no third
 pub told-spelled : (most : ℕ) (C R : List Float) (s : List ℕ) (k : Stocked) → readOf most C R s ≡ answers k → length (piecesOf s) < 2 ^ 64
-    → (s ≡ fileAs 2 (fileIn C R s)) ⊎ ((fileIn C R s .reading .edition ≡ 0) × (s ≡ fileAs 1 (fileIn C R s)))
+    → (s ≡ fileAs (writtenForm (fileIn C R s .reading .cells)) (fileIn C R s)) ⊎ ((fileIn C R s .reading .edition ≡ 0) × (fileIn C R s .reading .cells ≤ fewCells) × (s ≡ fileAs 1 (fileIn C R s)))
 told-spelled most C R s k e few =
     let w = told-in-form most C R s k e few in
-    by (fileIn C R s .reading .form) (fileIn C R s .reading .edition) refl refl (w .says) (w .text)
+    by (w .text) (form-told (fileIn C R s .reading .form) (fileIn C R s .reading .edition) (fileIn C R s .reading .cells) (w .says) (w .counts))
   where
-    by : (form edition : ℕ) → fileIn C R s .reading .form ≡ form → fileIn C R s .reading .edition ≡ edition → CanSay form edition → s ≡ fileAs (fileIn C R s .reading .form) (fileIn C R s)
-        → (s ≡ fileAs 2 (fileIn C R s)) ⊎ ((fileIn C R s .reading .edition ≡ 0) × (s ≡ fileAs 1 (fileIn C R s)))
-    by form edition f g one t = inr (g, t ∙ ap (λ (x : ℕ). fileAs x (fileIn C R s)) f)
-    by form edition f g (two h) t = inl (t ∙ ap (λ (x : ℕ). fileAs x (fileIn C R s)) f)
+    fin : State
+    fin = fileIn C R s
+
+    by : s ≡ fileAs (fin .reading .form) fin → (fin .reading .form ≡ writtenForm (fin .reading .cells)) ⊎ ((fin .reading .form ≡ 1) × (fin .reading .edition ≡ 0) × (fin .reading .cells ≤ fewCells))
+        → (s ≡ fileAs (writtenForm (fin .reading .cells)) fin) ⊎ ((fin .reading .edition ≡ 0) × (fin .reading .cells ≤ fewCells) × (s ≡ fileAs 1 fin))
+    by t (inl f) = inl (t ∙ ap (λ (x : ℕ). fileAs x fin) f)
+    by t (inr f) = inr (f .1, f .2, t ∙ ap (λ (x : ℕ). fileAs x fin) (f .0))
 
 -- SO NO TWO FILES OF A FORM tell the same: two that leave the same form, edition, bar, counts and numbers, ring order counted, are the same bytes
 pub told-unique : (most : ℕ) (C R : List Float) (s u : List ℕ) (k j : Stocked) → readOf most C R s ≡ answers k → readOf most C R u ≡ answers j → length (piecesOf s) < 2 ^ 64 → length (piecesOf u) < 2 ^ 64

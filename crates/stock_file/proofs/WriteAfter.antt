@@ -11,22 +11,21 @@ use lib.Ieee.{Float, nan}
 use borrow.Author.Tests.{eqb-true, eqb-false, ltb-true, ltb-false, lt-ltb}
 use Rattle.floats.specs.Pick.{pick, pick-true, pick-false}
 use Rattle.text.specs.Lines.{newline, ringLine}
-use Rattle.text.specs.Same.{sameBytes}
 use Rattle.stock_lines.specs.declared.Reading.{Reading}
 use Rattle.stock_lines.specs.declared.form.Four.{Four}
 use Rattle.stock_lines.specs.declared.form.Four.the-variants.{Numbers, NoFour}
 use Rattle.stock_lines.specs.declared.room.Took.{Took}
 use Rattle.stock_lines.specs.declared.room.Took.the-variants.{Cell, Ring, End, NoLine}
 use Rattle.stock_lines.specs.Form.{formOf, lineOf, fourOf, cellPrefix, ringPrefix, endText, keptCellLine, endLine}
-use Rattle.stock_lines.specs.Room.{kept, stored, taken, cellAt, ringAt, tookOf, ringsAfter}
+use Rattle.stock_lines.specs.Room.{kept, stored, taken, cellAt, ringAt, ringTurn, endTurn, tookOf, ringsAfter}
 use Rattle.stock_lines.specs.Reading.{State, state, next, countTo, refusing, onwardTo, went, onBody, onLine}
 use Rattle.stock_lines.proofs.Forms.{NoNan}
 use Rattle.stock_lines.proofs.EachLine.{cell-spelled, ring-spelled, end-spelled}
-use Rattle.stock_lines.proofs.Rooms.{took-cell, took-ring, took-end, took-none, rings-cell, rings-other, stored-other}
+use Rattle.stock_lines.proofs.Rooms.{ring-turned, end-turned, took-cell, took-ring, took-end, took-none, rings-cell, rings-other, stored-other}
 use Rattle.stock_lines.proofs.Readings.{line-body, line-behind, count-more, count-full}
 use Rattle.stock_file.specs.Read.{stopped}
 use Rattle.stock_file.specs.Write.{Opening}
-use Rattle.stock_file.proofs.LineSteps.{most, reading}
+use Rattle.stock_file.proofs.LineSteps.{most, least, reading}
 
 -- ---- what a line behind the first was
 
@@ -51,9 +50,9 @@ cell-turned form n m s x y z w e = by (eqb m 0) refl (ltb n (formOf form .most))
 pub data Kind (b : Opening) (n m l : ℕ) (cs rs : List Float) (s : List ℕ) : Type 0 where
   cell : (x y z w : Float) → m ≡ 0 → n < (most b) → fourOf (lineOf (cellPrefix (b .form) n) 4 s) ≡ Numbers x y z w
       → onLine (state (reading b 1 n m l) cs rs) s ≡ state (reading b 1 (n + 1) m (l + 1)) (stored (most b) cs n (Numbers x y z w)) rs → Kind b n m l cs rs s
-  ring : (x y z w : Float) → ringAt s ≡ Numbers x y z w
+  ring : (x y z w : Float) → least b ≤ n → ringAt s ≡ Numbers x y z w
       → onLine (state (reading b 1 n m l) cs rs) s ≡ state (reading b 1 n (countTo 257 m) (l + 1)) cs (stored 256 rs m (Numbers x y z w)) → Kind b n m l cs rs s
-  end : s ++ newline ≡ endLine l → onLine (state (reading b 1 n m l) cs rs) s ≡ state (reading b 2 n m (l + 1)) cs rs → Kind b n m l cs rs s
+  end : least b ≤ n → s ++ newline ≡ endLine l → onLine (state (reading b 1 n m l) cs rs) s ≡ state (reading b 2 n m (l + 1)) cs rs → Kind b n m l cs rs s
 
 module _ (b : Opening) (n m l : ℕ) (cs rs : List Float) (s : List ℕ) (few : l + 1 < 2 ^ 64) where
   onto : (stage n' m' : ℕ) → onwardTo (reading b 1 n m l) stage n' m' ≡ reading b stage n' m' (l + 1)
@@ -69,9 +68,9 @@ module _ (b : Opening) (n m l : ℕ) (cs rs : List Float) (s : List ℕ) (few : 
 
   pub kind : stopped (onLine (state (reading b 1 n m l) cs rs) s) ≡ false → Kind b n m l cs rs s
   unfolding at went refusing
-  kind h = by (taken (cellAt (b .form) n m s)) refl (taken (ringAt s)) refl (sameBytes s (endText l)) refl
+  kind h = by (taken (cellAt (b .form) n m s)) refl (taken (ringTurn (b .form) n s)) refl (endTurn (b .form) n l s) refl
     where
-      by : (t : Bool) → taken (cellAt (b .form) n m s) ≡ t → (u : Bool) → taken (ringAt s) ≡ u → (v : Bool) → sameBytes s (endText l) ≡ v → Kind b n m l cs rs s
+      by : (t : Bool) → taken (cellAt (b .form) n m s) ≡ t → (u : Bool) → taken (ringTurn (b .form) n s) ≡ u → (v : Bool) → endTurn (b .form) n l s ≡ v → Kind b n m l cs rs s
       by true e u f v g =
           let k = numbers (cellAt (b .form) n m s) e in
           let c = cell-turned (b .form) n m s (k .0) (k .1) (k .2) (k .3) (k .4) in
@@ -79,14 +78,16 @@ module _ (b : Opening) (n m l : ℕ) (cs rs : List Float) (s : List ℕ) (few : 
           (shown Cell (stored (most b) cs n (Numbers (k .0) (k .1) (k .2) (k .3))) rs (sym (took-cell (b .form) n m s l e)) (ap (stored (most b) cs n) (k .4)) (sym (rings-cell (b .form) n m s rs e))
           ∙ ap (λ (r : Reading). state r (stored (most b) cs n (Numbers (k .0) (k .1) (k .2) (k .3))) rs) (onto 1 (countTo (most b) n) m ∙ ap (λ (i : ℕ). reading b 1 i m (l + 1)) (sym (count-more (most b) n (c .1)))))
       by false e true f v g =
-          let k = numbers (ringAt s) f in
-          ring (k .0) (k .1) (k .2) (k .3) (k .4)
+          let k = numbers (ringTurn (b .form) n s) f in
+          let c = ring-turned (b .form) n m s (k .0) (k .1) (k .2) (k .3) (k .4) in
+          ring (k .0) (k .1) (k .2) (k .3) (c .0) (c .1)
           (shown Ring cs (stored 256 rs m (Numbers (k .0) (k .1) (k .2) (k .3))) (sym (took-ring (b .form) n m s l e f)) (stored-other (most b) cs n (cellAt (b .form) n m s) e) (sym (rings-other (b .form) n m s rs e) ∙ ap (stored 256 rs m) (k .4))
           ∙ ap (λ (r : Reading). state r cs (stored 256 rs m (Numbers (k .0) (k .1) (k .2) (k .3)))) (onto 1 n (countTo 257 m)))
       by false e false f true g =
-          end (end-spelled l s g)
-          (shown End cs rs (sym (took-end (b .form) n m s l e f g)) (stored-other (most b) cs n (cellAt (b .form) n m s) e) (sym (rings-other (b .form) n m s rs e) ∙ stored-other 256 rs m (ringAt s) f)
+          let c = end-turned (b .form) n m s l g in
+          end (c .0) (end-spelled l s (c .1))
+          (shown End cs rs (sym (took-end (b .form) n m s l e f g)) (stored-other (most b) cs n (cellAt (b .form) n m s) e) (sym (rings-other (b .form) n m s rs e) ∙ stored-other 256 rs m (ringTurn (b .form) n s) f)
           ∙ ap (λ (r : Reading). state r cs rs) (onto 2 n m))
       by false e false f false g =
-          let q = shown NoLine cs rs (sym (took-none (b .form) n m s l e f g)) (stored-other (most b) cs n (cellAt (b .form) n m s) e) (sym (rings-other (b .form) n m s rs e) ∙ stored-other 256 rs m (ringAt s) f) in
+          let q = shown NoLine cs rs (sym (took-none (b .form) n m s l e f g)) (stored-other (most b) cs n (cellAt (b .form) n m s) e) (sym (rings-other (b .form) n m s rs e) ∙ stored-other 256 rs m (ringTurn (b .form) n s) f) in
           absurd (true≢false (ap stopped (sym q) ∙ h))

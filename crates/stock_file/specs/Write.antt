@@ -39,9 +39,9 @@ pub record Opening : Type 0 where
 abbrev pub opening : ℕ → ℕ → Bar → Opening
 opening form edition b = record { form = form; edition = edition; bar = b }
 
--- the first line of a stock's file, in the form that is written
-abbrev pub openingOf : TurnStock → Opening
-openingOf k = opening writtenForm (k .stamp .edition) (barOf (k .spec))
+-- the first line of the file of a stock with n cells, in the form that is written
+abbrev pub openingOf : TurnStock → ℕ → Opening
+openingOf k n = opening (writtenForm n) (k .stamp .edition) (barOf (k .spec))
 
 -- the lines of a cell, in a form, and of a ring
 abbrev pub cellAt : ℕ → List Float → ℕ → List ℕ
@@ -79,7 +79,7 @@ unfoldable pub lineFor : TurnStock → List Float → List Float → ℕ → Pap
 lineFor stock cs rs k =
     onward (newOf (stock .spec) (length cs)) (λ n.
     demand (leb (stock .rings) (ringRoom (length rs))) 4
-    (answers (lineAt (openingOf stock) cs n rs (stock .rings) k)))
+    (answers (lineAt (openingOf stock n) cs n rs (stock .rings) k)))
 
 -- what the answers say, case by case
 abbrev pub linesPaper : Lines → Paper ℕ

@@ -1,5 +1,5 @@
 // The lines of a stock's file, one by one: the first with its bar and its edition, one for each cell, one
-// for each ring, and `end` with the count of those before it.
+// for each ring, and `end` with the count of those before it. The number of cells says the form.
 ghost use mathlib.Core.Path.{_≡_};
 ghost use Prim.Native.Nat.{_+_, _*_, _≤_};
 ghost use lib.ListN.{length};
@@ -56,14 +56,15 @@ pub fn line_count(spec: TurnStockSpec, cells: &[f64], rings: &[f64], count: usiz
     }
 }
 
-// The line of the cell at i.
-fn put_cell(out: &mut [u8; LINE_ROOM], cells: &[f64], i: usize) -> usize
+// The line of the cell at i of n.
+fn put_cell(out: &mut [u8; LINE_ROOM], cells: &[f64], n: usize, i: usize) -> usize
     requires { ⌜ 4 * i + 4 ≤ length (now cells) ⌝ }
-    ensures { λ r. ⌜ WritesLine out (cellAt writtenForm (now (cells .entry)) i) r ⌝ }
+    ensures { λ r. ⌜ WritesLine out (cellAt (writtenForm n) (now (cells .entry)) i) r ⌝ }
 {
     let at = 4 * i;
     stock_lines::kept_cell_line(
         out,
+        n,
         i as u64,
         cells[at],
         cells[at + 1],
@@ -93,14 +94,14 @@ fn put_line(
     k: usize,
 ) -> usize
     requires { ⌜ (4 * n ≤ length (now cells)) × (4 * m ≤ length (now rings)) ⌝ }
-    ensures { λ r. ⌜ WritesLine out (lineAt (opening writtenForm edition bar) (now (cells .entry)) n (now (rings .entry)) m k) r ⌝ }
+    ensures { λ r. ⌜ WritesLine out (lineAt (opening (writtenForm n) edition bar) (now (cells .entry)) n (now (rings .entry)) m k) r ⌝ }
 {
     if k == 0 {
-        return stock_lines::stock_line(out, bar, edition);
+        return stock_lines::stock_line(out, n, bar, edition);
     }
     let i = k - 1;
     if i < n {
-        return put_cell(out, cells, i);
+        return put_cell(out, cells, n, i);
     }
     let j = i - n;
     if j < m {

@@ -22,7 +22,7 @@ use Rattle.stock_lines.specs.declared.form.Five.{Five}
 use Rattle.stock_lines.specs.declared.form.Five.the-variants.{Spec, NoFive}
 use Rattle.stock_lines.specs.declared.form.First.the-variants.{Says, NoFirst}
 use Rattle.stock_lines.specs.Form.{Line, holds, other, formOf, lineOf, fieldsText, fiveOf, barNumbers, stockPrefix, editionText, stockText, stockLine}
-use Rattle.stock_lines.specs.First.{formIn, editionField, editionOf, firstFrom, firstIn, firstOf, CanSay, one, two}
+use Rattle.stock_lines.specs.First.{formIn, editionField, editionOf, firstFrom, firstIn, firstOf, CanSay, one, two, three}
 use Rattle.stock_lines.proofs.Forms.{Keeps, NoNan, line-back, line-spelled, line-long, fields-then, fields-text-long}
 use Rattle.stock_lines.proofs.Steps.{stock-long}
 use Rattle.stock_lines.proofs.EachLine.{same-before, five-holds}
@@ -38,15 +38,19 @@ module _ (s : List ℕ) where
   unfolding formIn
   form-short h =
       let z : getD s 6 0 ≡ 0 = List·getD-eq-default s 0 (omega arith) in
-      sym (pick-false _ _ _ (ne-eqb _ _ (λ (e : getD s 6 0 ≡ 50). omega arith)))
+      sym (pick-false _ _ _ (ne-eqb _ _ (λ (e : getD s 6 0 ≡ 50). omega arith)) ∙ pick-false _ _ _ (ne-eqb _ _ (λ (e : getD s 6 0 ≡ 51). omega arith)))
 
   pub form-two : getD s 6 0 ≡ 50 → 2 ≡ formIn s
   unfolding formIn
   form-two e = sym (pick-true _ _ _ (eq-eqb _ _ e))
 
-  pub form-other : (getD s 6 0 ≡ 50 → ⊥) → 1 ≡ formIn s
+  pub form-three : (getD s 6 0 ≡ 50 → ⊥) → getD s 6 0 ≡ 51 → 3 ≡ formIn s
   unfolding formIn
-  form-other e = sym (pick-false _ _ _ (ne-eqb _ _ e))
+  form-three e f = sym (pick-false _ _ _ (ne-eqb _ _ e) ∙ pick-true _ _ _ (eq-eqb _ _ f))
+
+  pub form-other : (getD s 6 0 ≡ 50 → ⊥) → (getD s 6 0 ≡ 51 → ⊥) → 1 ≡ formIn s
+  unfolding formIn
+  form-other e f = sym (pick-false _ _ _ (ne-eqb _ _ e) ∙ pick-false _ _ _ (ne-eqb _ _ f))
 
   pub field-nothing : length s ≡ 0 → NoEight ≡ editionField s
   unfolding editionField
@@ -115,11 +119,13 @@ form-back : (k e : ℕ) (t : List ℕ) → CanSay k e → formIn (stockPrefix k 
 unfolding formIn digits pick
 form-back k e t one = refl
 form-back k e t (two h) = refl
+form-back k e t (three h) = refl
 
 edition-back : (k e : ℕ) → CanSay k e → editionOf k (editionText k e) ≡ Of e
 unfolding editionOf editionText editionField formOf pick
 edition-back k e one = refl
 edition-back k e (two h) = eight-reads-back e h
+edition-back k e (three h) = eight-reads-back e h
 
 -- the bar's bytes, and the edition's
 text-parts : (k : ℕ) (b : Bar) (e : ℕ) → stockText k b e ≡ (stockPrefix k ++ fieldsText (barNumbers b) []) ++ editionText k e
@@ -222,12 +228,13 @@ module _ (k : ℕ) (t : List ℕ) (e : ℕ) (h : editionOf k t ≡ Of e) where
 -- a first line names one of the forms, which can say its edition
 can-say : (s t : List ℕ) (e : ℕ) → Spelt (formIn s) t e → CanSay (formIn s) e
 unfolding formOf
-can-say s t e w = by (eqb (getD s 6 0) 50) refl
+can-say s t e w = by (eqb (getD s 6 0) 50) refl (eqb (getD s 6 0) 51) refl
   where
-    by : (u : Bool) → eqb (getD s 6 0) 50 ≡ u → CanSay (formIn s) e
-    by true f = subst (λ (n : ℕ). CanSay n e) (form-two s (eqb-true _ _ f)) (two (w .small))
-    by false f =
-        let k : 1 ≡ formIn s = form-other s (eqb-false _ _ f) in
+    by : (u : Bool) → eqb (getD s 6 0) 50 ≡ u → (v : Bool) → eqb (getD s 6 0) 51 ≡ v → CanSay (formIn s) e
+    by true f v g = subst (λ (n : ℕ). CanSay n e) (form-two s (eqb-true _ _ f)) (two (w .small))
+    by false f true g = subst (λ (n : ℕ). CanSay n e) (form-three s (eqb-false _ _ f) (eqb-true _ _ g)) (three (w .small))
+    by false f false g =
+        let k : 1 ≡ formIn s = form-other s (eqb-false _ _ f) (eqb-false _ _ g) in
         let z : e ≡ 0 = w .none (ap (λ (n : ℕ). formOf n .edition) (sym k)) in
         subst (λ (n : ℕ). CanSay n e) k (subst (CanSay 1) (sym z) one)
 

@@ -2,13 +2,13 @@
 use Prim.Native.Nat.{ℕ, zero, suc, _+_, _*_, _/_, _≤_, _<_}
 use native.Mathlib.Omega.{arith}
 use mathlib.Core.Path.{_≡_, refl, sym, ap, _∙_, subst}
-use mathlib.Core.Bool.{Bool, true, false}
+use mathlib.Core.Bool.{Bool, true, false, false≢true}
 use mathlib.Core.List.{List, [], _∷_}
-use lib.Dec.{T, ltb, eqb}
+use lib.Dec.{T, leb, ltb, eqb}
 use lib.Ieee.{Float}
 use lib.ListN.{length, set}
 use lib.Seq.{sets, length-sets}
-use borrow.Author.Tests.{lt-ltb, le-ltb, eq-eqb, ne-eqb}
+use borrow.Author.Tests.{lt-ltb, le-ltb, eq-eqb, ne-eqb, le-leb, lt-leb, leb-true, leb-false}
 use Rattle.floats.specs.Pick.{pick, pick-true, pick-false}
 use Rattle.text.specs.Same.{sameBytes}
 use Rattle.stock_lines.specs.declared.form.Four.{Four}
@@ -16,7 +16,7 @@ use Rattle.stock_lines.specs.declared.form.Four.the-variants.{Numbers, N
 use Rattle.stock_lines.specs.declared.room.Took.{Took}
 use Rattle.stock_lines.specs.declared.room.Took.the-variants.{Cell, Ring, End, NoLine}
 use Rattle.stock_lines.specs.Form.{formOf, lineOf, fourOf, cellPrefix, endText}
-use Rattle.stock_lines.specs.Room.{kept, taken, stored, cellAt, ringAt, tookOf, ringsAfter}
+use Rattle.stock_lines.specs.Room.{kept, taken, stored, cellAt, ringAt, ringTurn, endTurn, tookOf, ringsAfter}
 
 module _ (limit : ℕ) (l : List Float) (k : ℕ) where
   pub kept-writes : (a b c d : Float) → k < limit → k < length l / 4
@@ -76,19 +76,51 @@ module _ (form n m : ℕ) (s : List ℕ) where
   unfolding cellAt
   cell-after-ring e = sym (pick-false _ _ _ (ne-eqb _ _ e))
 
+  pub ring-turn : formOf form .least ≤ n → ringAt s ≡ ringTurn form n s
+  unfolding ringTurn
+  ring-turn h = sym (pick-true _ _ _ (le-leb _ _ h))
+
+  pub ring-early : n < formOf form .least → NoFour ≡ ringTurn form n s
+  unfolding ringTurn
+  ring-early h = sym (pick-false _ _ _ (lt-leb _ _ h))
+
+  pub end-turn : (b : ℕ) → formOf form .least ≤ n → sameBytes s (endText b) ≡ endTurn form n b s
+  unfolding endTurn
+  end-turn b h = sym (pick-true _ _ _ (le-leb _ _ h))
+
+  pub end-early : (b : ℕ) → n < formOf form .least → false ≡ endTurn form n b s
+  unfolding endTurn
+  end-early b h = sym (pick-false _ _ _ (lt-leb _ _ h))
+
+  -- what is a ring's line in its turn stands behind enough cell lines
+  pub ring-turned : (x y z w : Float) → ringTurn form n s ≡ Numbers x y z w → (formOf form .least ≤ n) × (ringAt s ≡ Numbers x y z w)
+  ring-turned x y z w e = by (leb (formOf form .least) n) refl
+    where
+      by : (t : Bool) → leb (formOf form .least) n ≡ t → (formOf form .least ≤ n) × (ringAt s ≡ Numbers x y z w)
+      by true f = let h = leb-true _ _ f in (h, ring-turn h ∙ e)
+      by false f = let g : NoFour ≡ Numbers x y z w = ring-early (leb-false _ _ f) ∙ e in let z : _≡_ {A = ℕ} 0 1 = cc in absurd (omega arith)
+
+  -- and so the last line
+  pub end-turned : (b : ℕ) → endTurn form n b s ≡ true → (formOf form .least ≤ n) × (sameBytes s (endText b) ≡ true)
+  end-turned b e = by (leb (formOf form .least) n) refl
+    where
+      by : (t : Bool) → leb (formOf form .least) n ≡ t → (formOf form .least ≤ n) × (sameBytes s (endText b) ≡ true)
+      by true f = let h = leb-true _ _ f in (h, end-turn b h ∙ e)
+      by false f = absurd (false≢true (end-early b (leb-false _ _ f) ∙ e))
+
   pub took-cell : (b : ℕ) → taken (cellAt form n m s) ≡ true → Cell ≡ tookOf form n m b s
   unfolding tookOf
   took-cell b e = sym (pick-true _ _ _ e)
 
-  pub took-ring : (b : ℕ) → taken (cellAt form n m s) ≡ false → taken (ringAt s) ≡ true → Ring ≡ tookOf form n m b s
+  pub took-ring : (b : ℕ) → taken (cellAt form n m s) ≡ false → taken (ringTurn form n s) ≡ true → Ring ≡ tookOf form n m b s
   unfolding tookOf
   took-ring b e f = sym (pick-false _ _ _ e ∙ pick-true _ _ _ f)
 
-  pub took-end : (b : ℕ) → taken (cellAt form n m s) ≡ false → taken (ringAt s) ≡ false → sameBytes s (endText b) ≡ true → End ≡ tookOf form n m b s
+  pub took-end : (b : ℕ) → taken (cellAt form n m s) ≡ false → taken (ringTurn form n s) ≡ false → endTurn form n b s ≡ true → End ≡ tookOf form n m b s
   unfolding tookOf
   took-end b e f g = sym (pick-false _ _ _ e ∙ pick-false _ _ _ f ∙ pick-true _ _ _ g)
 
-  pub took-none : (b : ℕ) → taken (cellAt form n m s) ≡ false → taken (ringAt s) ≡ false → sameBytes s (endText b) ≡ false → NoLine ≡ tookOf form n m b s
+  pub took-none : (b : ℕ) → taken (cellAt form n m s) ≡ false → taken (ringTurn form n s) ≡ false → endTurn form n b s ≡ false → NoLine ≡ tookOf form n m b s
   unfolding tookOf
   took-none b e f g = sym (pick-false _ _ _ e ∙ pick-false _ _ _ f ∙ pick-false _ _ _ g)
 
@@ -96,7 +128,7 @@ module _ (form n m : ℕ) (s : List ℕ) where
   unfolding ringsAfter
   rings-cell l e = sym (pick-true _ _ _ e)
 
-  pub rings-other : (l : List Float) → taken (cellAt form n m s) ≡ false → stored 256 l m (ringAt s) ≡ ringsAfter form n m s l
+  pub rings-other : (l : List Float) → taken (cellAt form n m s) ≡ false → stored 256 l m (ringTurn form n s) ≡ ringsAfter form n m s l
   unfolding ringsAfter
   rings-other l e = sym (pick-false _ _ _ e)
 
@@ -110,9 +142,9 @@ module _ (form n m : ℕ) (s : List ℕ) where
 
   -- and the rings
   pub refused-rings : (b : ℕ) (l : List Float) → tookOf form n m b s ≡ NoLine → ringsAfter form n m s l ≡ l
-  refused-rings b l e = by (taken (cellAt form n m s)) refl (taken (ringAt s)) refl
+  refused-rings b l e = by (taken (cellAt form n m s)) refl (taken (ringTurn form n s)) refl
     where
-      by : (t : Bool) → taken (cellAt form n m s) ≡ t → (u : Bool) → taken (ringAt s) ≡ u → ringsAfter form n m s l ≡ l
+      by : (t : Bool) → taken (cellAt form n m s) ≡ t → (u : Bool) → taken (ringTurn form n s) ≡ u → ringsAfter form n m s l ≡ l
       by true f u g = sym (rings-cell l f)
       by false f true g = let h : Ring ≡ NoLine = took-ring b f g ∙ e in let z : _≡_ {A = ℕ} 0 1 = cc in absurd (omega arith)
-      by false f false g = sym (rings-other l f) ∙ stored-other 256 l m (ringAt s) g
+      by false f false g = sym (rings-other l f) ∙ stored-other 256 l m (ringTurn form n s) g

@@ -13,9 +13,9 @@ use Rattle.stock_lines.specs.declared.form.First.{First}
 use Rattle.stock_lines.specs.declared.form.First.the-variants.{Says, NoFirst}
 use Rattle.stock_lines.specs.Form.{formOf, lineOf, fiveOf, stockPrefix}
 
--- the form that a first line is to have: 2 where its seventh byte is `2`, and else 1
+-- the form that a first line is to have: 2 or 3 where its seventh byte is `2` or `3`, and else 1
 unfoldable pub formIn : List ℕ → ℕ
-formIn s = pick (eqb (getD s 6 0) 50) 2 1
+formIn s = pick (eqb (getD s 6 0) 50) 2 (pick (eqb (getD s 6 0) 51) 3 1)
 
 -- a tab and 8 digits, and nothing else
 unfoldable pub editionField : List ℕ → Eight
@@ -39,7 +39,8 @@ firstIn k s = firstFrom k (editionOf k (drop 92 s)) (fiveOf (lineOf (stockPrefix
 unfoldable pub firstOf : List ℕ → First
 firstOf s = firstIn (formIn s) s
 
--- the editions that a form can say: form 1 has 0 alone, and form 2 any of 32 bits
+-- the editions that a form can say: form 1 has 0 alone, and forms 2 and 3 any of 32 bits
 pub data CanSay : ℕ → ℕ → Type 0 where
   one : CanSay 1 0
   two : {e : ℕ} → e < 4294967296 → CanSay 2 e
+  three : {e : ℕ} → e < 4294967296 → CanSay 3 e

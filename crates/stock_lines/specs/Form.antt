@@ -1,5 +1,5 @@
 -- The form of a line of a stock file: the writer's own prefix, then exactly k times a tab and 16 digits; the first line goes on with its edition. Assumes nothing.
-use Prim.Native.Nat.{ℕ, zero, suc, _+_}
+use Prim.Native.Nat.{ℕ, zero, suc, _+_, _≤_}
 use mathlib.Core.Bool.{Bool, false}
 use lib.Dec.{leb, eqb}
 use mathlib.Core.List.{List, [], _∷_, _++_}
@@ -49,13 +49,22 @@ unfoldable pub fieldsText : List Float → List ℕ → List ℕ
 fieldsText [] t = t
 fieldsText (x ∷ xs) t = (9 ∷ hexOf x) ++ fieldsText xs t
 
--- The forms by their number: the digits of an index, how many cell lines there are at most, and whether the first line has an edition. Form 1 has none.
-unfoldable pub formOf : ℕ → Form
-formOf k = record { digits = 4; most = 10000; edition = leb 2 k }
+-- the cells that a file with four digits has at most
+abbrev pub fewCells : ℕ
+fewCells = 4096
 
--- the form that is written
-abbrev pub writtenForm : ℕ
-writtenForm = 2
+-- The forms by their number: the digits of an index, how many cell lines there are at least and at most, and whether the first line has an edition. Form 1 has none; form 3 is that of more cells than the others have, as many as five digits count.
+unfoldable pub formOf : ℕ → Form
+formOf k = record { digits = pick (leb 3 k) 5 4; least = pick (leb 3 k) (fewCells + 1) 0; most = pick (leb 3 k) 100000 fewCells; edition = leb 2 k }
+
+-- a file of form k can have n cell lines
+pub record Counts (k n : ℕ) : Type 0 where
+  pub least : formOf k .least ≤ n
+  pub most : n ≤ formOf k .most
+
+-- the form that a stock of n cells is written in
+unfoldable pub writtenForm : ℕ → ℕ
+writtenForm n = pick (leb n fewCells) 2 3
 
 -- `stock` and the form's number, in one digit
 abbrev pub stockPrefix : ℕ → List ℕ

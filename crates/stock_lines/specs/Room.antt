@@ -2,7 +2,7 @@
 use Prim.Native.Nat.{ℕ, _*_, _/_}
 use mathlib.Core.Bool.{Bool, true, false}
 use mathlib.Core.List.{List, [], _∷_}
-use lib.Dec.{ltb, eqb}
+use lib.Dec.{leb, ltb, eqb}
 use lib.ListN.{length}
 use lib.Seq.{sets}
 use lib.Ieee.{Float}
@@ -36,11 +36,19 @@ cellAt k n m s = pick (eqb m 0) (pick (ltb n (formOf k .most)) (fourOf (lineOf (
 abbrev pub ringAt : List ℕ → Four
 ringAt s = fourOf (lineOf ringPrefix 4 s)
 
+-- a ring's line of form k in its turn: behind enough cell lines
+unfoldable pub ringTurn : ℕ → ℕ → List ℕ → Four
+ringTurn k n s = pick (leb (formOf k .least) n) (ringAt s) NoFour
+
+-- the last line of form k in its turn: behind enough cell lines, with the count of all lines before it
+unfoldable pub endTurn : ℕ → ℕ → ℕ → List ℕ → Bool
+endTurn k n before s = pick (leb (formOf k .least) n) (sameBytes s (endText before)) false
+
 -- what the line is in form k, after n cell lines, m ring lines and so many lines in all
 unfoldable pub tookOf : ℕ → ℕ → ℕ → ℕ → List ℕ → Took
 tookOf k n m before s =
-    pick (taken (cellAt k n m s)) Cell (pick (taken (ringAt s)) Ring (pick (sameBytes s (endText before)) End NoLine))
+    pick (taken (cellAt k n m s)) Cell (pick (taken (ringTurn k n s)) Ring (pick (endTurn k n before s) End NoLine))
 
 -- the rings after the line
 unfoldable pub ringsAfter : ℕ → ℕ → ℕ → List ℕ → List Float → List Float
-ringsAfter k n m s l = pick (taken (cellAt k n m s)) l (stored ringLimit l m (ringAt s))
+ringsAfter k n m s l = pick (taken (cellAt k n m s)) l (stored ringLimit l m (ringTurn k n s))

@@ -4,36 +4,63 @@ ghost use Prim.Native.Nat.{_+_, _<_};
 ghost use lib.ListN.{length, drop};
 ghost use Rattle.text.specs.Same.{sameBytes};
 ghost use Rattle.text.specs.Wrote.{WritesLine};
-ghost use Rattle.stock_lines.specs.Form.{formOf, fieldsOf, beginsWith, lineOf, fourOf, fiveOf, stockPrefix, cellPrefix, ringPrefix, endText};
+ghost use Rattle.stock_lines.specs.Form.{formOf, writtenForm, fieldsOf, beginsWith, lineOf, fourOf, fiveOf, stockPrefix, cellPrefix, ringPrefix, endText};
 ghost use Rattle.stock_lines.specs.First.{formIn, editionField, editionOf, firstFrom, firstOf};
 use crate::Bar;
 use text::Eight;
 use text::Hex;
 use text::LINE_ROOM;
 
-// What a form fixes: the digits of a cell's index, how many cell lines there are at most, and whether
-// the first line has an edition.
+// What a form fixes: the digits of a cell's index, how many cell lines there are at least and at most,
+// and whether the first line has an edition.
 pub struct Form {
     pub digits: usize,
+    pub least: usize,
     pub most: usize,
     pub edition: bool,
 }
 
-// The form that is written. Form 1 is still read.
-pub const WRITTEN_FORM: u64 = 2;
+// Stocks of so many cells at most have indices of four digits.
+const FEW_CELLS: usize = 4096;
+
+// Form 3 has so many at least.
+const MANY_CELLS: usize = FEW_CELLS + 1;
+
+// Five digits have so many indices.
+const MOST_CELLS: usize = 100000;
 
 // `stock`, the form's number and the bar are so many bytes.
 const BAR_LONG: usize = 92;
 
-// The form of a number. Four digits have no index after 9999; from form 2 on a file has an edition.
+// The form of a number. From form 2 on a file has an edition; form 3 is that of more cells than the
+// others have.
 pub fn form_of(number: u64) -> Form
     ensures { λ r. ⌜ r ≡ formOf number ⌝ }
 {
+    if 3 <= number {
+        return Form {
+            digits: 5,
+            least: MANY_CELLS,
+            most: MOST_CELLS,
+            edition: 2 <= number,
+        };
+    }
     Form {
         digits: 4,
-        most: 10000,
+        least: 0,
+        most: FEW_CELLS,
         edition: 2 <= number,
     }
+}
+
+// The form that a stock of n cells is written in. Form 1 is still read.
+pub fn written_form(n: usize) -> u64
+    ensures { λ r. ⌜ r ≡ writtenForm n ⌝ }
+{
+    if n <= FEW_CELLS {
+        return 2;
+    }
+    3
 }
 
 // The numbers of a cell or of a ring.
@@ -173,15 +200,19 @@ fn read_bar(line: &[u8], form: u64) -> Five
     Five::NoFive
 }
 
-// The form that a first line is to have: 2 where its seventh byte says so, and else 1.
+// The form that a first line is to have: 2 or 3 where its seventh byte says so, and else 1.
 fn form_in(line: &[u8]) -> u64
     ensures { λ r. ⌜ r ≡ formIn (now (line .entry)) ⌝ }
 {
     if line.len() < 7 {
         return 1;
     }
-    if line[6] == b'2' {
+    let b = line[6];
+    if b == b'2' {
         return 2;
+    }
+    if b == b'3' {
+        return 3;
     }
     1
 }

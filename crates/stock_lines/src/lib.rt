@@ -2,9 +2,10 @@
 //
 // A line is of the form when it is the writer's own prefix, followed by exactly k times a tab and 16
 // hexadecimal digits in capitals; `end` is compared whole with the writer's line. The digits of -0.0
-// are not of the form. The first line says the form: 2 is written, and ends with the edition in 8
-// digits; 1 is still read, has no edition, and is of edition 0. `form` reads one line; here a line moves
-// a reading on, and lines are spelled.
+// are not of the form. The first line says the form, and from form 2 on ends with the edition in 8
+// digits. Form 2 is that of up to 4,096 cells, with four digits an index; form 3 that of more, with five.
+// 1 is still read, has no edition, and is of edition 0; its other lines are those of 2. `form` reads one
+// line; here a line moves a reading on, and lines are spelled.
 mod form;
 mod room;
 
@@ -16,7 +17,6 @@ ghost use Rattle.text.specs.Wrote.{Wrote, lineRoom, WritesLine};
 ghost use Rattle.stock_lines.specs.Form.{writtenForm, fieldsText, barNumbers, stockLine, keptCellLine, endLine};
 ghost use Rattle.stock_lines.specs.Reading.{countTo, refusing, begun, onwardTo, went, onLine, stateFound, stateLeft};
 use form::First;
-use form::WRITTEN_FORM;
 use refusals::RING_LIMIT;
 use room::Took;
 use text::LINE_ROOM;
@@ -172,21 +172,29 @@ fn put_edition(out: &mut [u8; LINE_ROOM], at: usize, edition: u32) -> usize
     text::put_eight(out, e, edition)
 }
 
-// The first line of a file: the form's number, the bar, and the edition.
-pub fn stock_line(out: &mut [u8; LINE_ROOM], bar: Bar, edition: u32) -> usize
-    ensures { λ r. ⌜ WritesLine out (stockLine writtenForm bar edition) r ⌝ }
+// The first line of a file of n cells: the form's number, the bar, and the edition.
+pub fn stock_line(out: &mut [u8; LINE_ROOM], n: usize, bar: Bar, edition: u32) -> usize
+    ensures { λ r. ⌜ WritesLine out (stockLine (writtenForm n) bar edition) r ⌝ }
 {
-    let e = form::put_stock(out, WRITTEN_FORM);
+    let e = form::put_stock(out, form::written_form(n));
     let f = put_bar(out, e, bar);
     let g = put_edition(out, f, edition);
     text::put(out, g, b"\n")
 }
 
-// A cell, with its index.
-pub fn kept_cell_line(out: &mut [u8; LINE_ROOM], i: u64, a: f64, b: f64, c: f64, d: f64) -> usize
-    ensures { λ r. ⌜ WritesLine out (keptCellLine writtenForm i a b c d) r ⌝ }
+// A cell of n, with its index.
+pub fn kept_cell_line(
+    out: &mut [u8; LINE_ROOM],
+    n: usize,
+    i: u64,
+    a: f64,
+    b: f64,
+    c: f64,
+    d: f64,
+) -> usize
+    ensures { λ r. ⌜ WritesLine out (keptCellLine (writtenForm n) i a b c d) r ⌝ }
 {
-    let e = form::put_cell(out, WRITTEN_FORM, i);
+    let e = form::put_cell(out, form::written_form(n), i);
     text::put_four(out, e, a, b, c, d)
 }
 

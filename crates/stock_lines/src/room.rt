@@ -2,7 +2,7 @@
 ghost use mathlib.Core.Path.{_≡_};
 ghost use mathlib.Core.List.{_∷_, []};
 ghost use Rattle.stock_lines.specs.Form.{formOf};
-ghost use Rattle.stock_lines.specs.Room.{kept, stored, taken, cellAt, tookOf, ringsAfter};
+ghost use Rattle.stock_lines.specs.Room.{kept, stored, taken, cellAt, ringTurn, endTurn, tookOf, ringsAfter};
 use crate::form;
 use crate::form::Four;
 use refusals::RING_LIMIT;
@@ -66,6 +66,28 @@ fn store_cell(cells: &mut [f64], line: &[u8], form: u64, n: usize, m: usize) -> 
     store(cells, f.most, n, cell_in_turn(line, form, n, m))
 }
 
+// The line of a ring after n cell lines: there are to be enough.
+fn ring_in_turn(line: &[u8], form: u64, n: usize) -> Four
+    ensures { λ r. ⌜ r ≡ ringTurn form n (now (line .entry)) ⌝ }
+{
+    let f = form::form_of(form);
+    if f.least <= n {
+        return form::read_ring_line(line);
+    }
+    Four::NoFour
+}
+
+// Whether a line is the last, after n cell lines and `before` lines in all: there are to be enough.
+fn end_in_turn(line: &[u8], form: u64, n: usize, before: u64) -> bool
+    ensures { λ r. ⌜ r ≡ endTurn form n before (now (line .entry)) ⌝ }
+{
+    let f = form::form_of(form);
+    if f.least <= n {
+        return form::is_end_line(line, before);
+    }
+    false
+}
+
 // One line behind the first of a file of this form, after n cell lines and m ring lines, of `before` lines in all.
 pub fn store_line(
     line: &[u8],
@@ -83,11 +105,11 @@ pub fn store_line(
     if store_cell(cells, line, form, n, m) {
         return Took::Cell;
     }
-    let ring = form::read_ring_line(line);
+    let ring = ring_in_turn(line, form, n);
     if store(rings, RING_LIMIT, m, ring) {
         return Took::Ring;
     }
-    if form::is_end_line(line, before) {
+    if end_in_turn(line, form, n, before) {
         return Took::End;
     }
     Took::NoLine

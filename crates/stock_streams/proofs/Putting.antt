@@ -25,8 +25,8 @@ use Rattle.text.proofs.Chosen.{yes, no}
 use Rattle.text.proofs.Spelling.{hex-long, digits-length, decimal-short}
 use Rattle.streams.specs.declared.Out.{Out}
 use Rattle.streams.specs.Moves.{Gathers, Puts}
-use Rattle.stock_lines.specs.Form.{formOf, stockText, stockLine, keptCellLine, endLine, fieldsText}
-use Rattle.stock_lines.proofs.Steps.{wrote-front}
+use Rattle.stock_lines.specs.Form.{stockText, stockLine, keptCellLine, endLine, fieldsText}
+use Rattle.stock_lines.proofs.Steps.{few-digits, wrote-front}
 use Rattle.stock_lines.proofs.Firsts.{first-few}
 use Rattle.stock_file.specs.declared.written.Spelled.{Spelled}
 use Rattle.stock_file.specs.declared.written.Spelled.the-variants as spelled
@@ -41,8 +41,8 @@ unfolding stockLine
 stock-short b = omega (arith, first-few (b .form) (b .edition) (b .bar), length-append (stockText (b .form) (b .bar) (b .edition)) newline)
 
 pub cell-short : (form i : ℕ) (a b c d : Float) → length (keptCellLine form i a b c d) ≤ lineRoom
-unfolding keptCellLine fieldsText formOf
-cell-short form i a b c d = simp (length-append, hex-long, digits-length) (omega arith)
+unfolding keptCellLine fieldsText
+cell-short form i a b c d = simp (length-append, hex-long, digits-length) (omega (arith, few-digits form))
 
 ring-short : (a b c d : Float) → length (ringLine a b c d) ≤ lineRoom
 unfolding ringLine
@@ -68,10 +68,10 @@ for-short : (stock : TurnStock) (cs rs : List Float) (k : ℕ) (s : List ℕ) �
 unfolding lineFor onward
 for-short stock cs rs k s = go (newOf (stock .spec) (length cs))
   where
-    go : (p : Paper ℕ) → onward p (λ n. demand (leb (stock .rings) (ringRoom (length rs))) 4 (answers (lineAt (openingOf stock) cs n rs (stock .rings) k))) ≡ answers s → length s ≤ lineRoom
+    go : (p : Paper ℕ) → onward p (λ n. demand (leb (stock .rings) (ringRoom (length rs))) 4 (answers (lineAt (openingOf stock n) cs n rs (stock .rings) k))) ≡ answers s → length s ≤ lineRoom
     go (answers n) h =
-        let d = demanded (leb (stock .rings) (ringRoom (length rs))) 4 (answers (lineAt (openingOf stock) cs n rs (stock .rings) k)) s h in
-        subst (λ (x : List ℕ). length x ≤ lineRoom) (same-answer (d .1)) (line-short (openingOf stock) cs n rs (stock .rings) k)
+        let d = demanded (leb (stock .rings) (ringRoom (length rs))) 4 (answers (lineAt (openingOf stock n) cs n rs (stock .rings) k)) s h in
+        subst (λ (x : List ℕ). length x ≤ lineRoom) (same-answer (d .1)) (line-short (openingOf stock n) cs n rs (stock .rings) k)
     go (refuses r) h = absurd (no-answer r s h)
 
 -- ---- what is put
@@ -144,8 +144,8 @@ stock-put stock cs rs n out buf e a = go (stockOf (stock .spec) cs) refl e
         let d = demanded (countFits (barRing (cleanSpec (stock .spec))) rs (stock .rings)) 4 (answers (k + stock .rings + 2)) n h in
         let z : n ≡ k + stock .rings + 2 = sym (same-answer (d .1)) in
         let s = stocked (stock .spec) cs k q in
-        let line : (i : ℕ) → textIn (lineFor stock cs rs i) ≡ lineAt (openingOf stock) cs k rs (stock .rings) i = λ i. ap textIn (for-line stock cs rs i k (s .count) (stock-length (stock .spec) cs k q) (fits-within _ rs (stock .rings) (d .0))) in
-        let f : linesTo (λ i. textIn (lineFor stock cs rs i)) n ≡ linesTo (lineAt (openingOf stock) cs k rs (stock .rings)) (k + stock .rings + 2) = lines-same _ _ n line ∙ ap (linesTo (lineAt (openingOf stock) cs k rs (stock .rings))) z in
+        let line : (i : ℕ) → textIn (lineFor stock cs rs i) ≡ lineAt (openingOf stock k) cs k rs (stock .rings) i = λ i. ap textIn (for-line stock cs rs i k (s .count) (stock-length (stock .spec) cs k q) (fits-within _ rs (stock .rings) (d .0))) in
+        let f : linesTo (λ i. textIn (lineFor stock cs rs i)) n ≡ linesTo (lineAt (openingOf stock k) cs k rs (stock .rings)) (k + stock .rings + 2) = lines-same _ _ n line ∙ ap (linesTo (lineAt (openingOf stock k) cs k rs (stock .rings))) z in
         record { asked = λ u. record { cells = k; accepted = e ∙ ap answers z }; put = λ u. subst (λ (x : List ℕ). AllPut x out buf) f a }
     go (refuses r) q h = absurd (no-answer r n h)
 

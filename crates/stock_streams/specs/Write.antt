@@ -28,4 +28,4 @@ pub record Asked (k : TurnStock) (cs rs : List Float) : Type 0 where
 -- unless it is refused or a write failed, the whole file of a stock
 pub record PutsStock (k : TurnStock) (cs rs : List Float) (out : Out) (buf : List ℕ) : Type 0 where
   pub asked : out .failed ≡ false → Asked k cs rs
-  pub put : (f : out .failed ≡ false) → AllPut (fileOf (openingOf k) cs (asked f .cells) rs (k .rings)) out buf
+  pub put : (f : out .failed ≡ false) → AllPut (fileOf (openingOf k (asked f .cells)) cs (asked f .cells) rs (k .rings)) out buf

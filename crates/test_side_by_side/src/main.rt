@@ -1,5 +1,6 @@
 // Compares stock files by pairs of names that its arguments have, and writes each pair with what
-// differs.
+// differs; then stocks of thousands of bins (`many`).
+mod many;
 
 // Writes a name of a pair, and what stands behind it.
 fn write_name(name: &[u8], behind: &[u8]) {
@@ -28,4 +29,5 @@ fn main() {
         compare_pair(2 * k + 1);
         k += 1;
     }
+    many::say_all();
 }

@@ -140,6 +140,27 @@ pub fn list(words: &[u64; LIMIT], m: Mark, asked: bool, count: u64, n: u64, xs: 
     }
 }
 
+// Each of xs is told by the words from i on, or as it was before the call.
+fn tests_are(words: &[u64; LIMIT], i: usize, told: bool, xs: &[usize]) -> bool {
+    let mut ok = true;
+    let mut j: usize = 0;
+    while j < xs.len() {
+        let x = xs[j];
+        let same = x as u64 == words::at(words, i, j);
+        ok = ok & ((told & same) | (!told & (x == UNTOLD)));
+        j += 1;
+    }
+    ok
+}
+
+// Where they are told: the tests of each ring. Else they are as they were.
+pub fn tests(words: &[u64; LIMIT], m: Mark, told: bool, xs: &[usize]) -> Mark {
+    Mark {
+        at: words::after(m.at, words::only(xs.len() as u64, told)),
+        ok: m.ok & tests_are(words, m.at, told, xs),
+    }
+}
+
 // The list is the one whose count, edition and generation the words from i on are.
 fn list_is(words: &[u64; LIMIT], i: usize, list: Told) -> bool {
     (words::at(words, i, 0) == list.count)

@@ -1,4 +1,5 @@
 // The calls of the C boundary, by what they write.
+use crate::answers::UNTOLD;
 use crate::given::Given;
 use crate::table;
 use crate::words;
@@ -227,6 +228,39 @@ pub fn list(
     }
 }
 
+// One ring, its tests in the first of `tests`.
+fn remove_one(
+    g: Given,
+    rings: &mut [f64],
+    count: &mut usize,
+    generation: &mut u64,
+    tests: &mut [usize],
+    position: &mut usize,
+) -> u32 {
+    let mut made = UNTOLD;
+    let code = turning::turning_remove_ring(
+        g.z_min,
+        g.z_max,
+        g.outer,
+        g.bore,
+        g.cell,
+        g.max_cells,
+        rings,
+        count,
+        generation,
+        g.x,
+        g.y,
+        g.z,
+        g.w,
+        &mut made,
+        position,
+    );
+    if 0 < tests.len() {
+        tests[0] = made;
+    }
+    code
+}
+
 // A stock, or chords in the place of rings.
 pub fn change(
     kind: usize,
@@ -239,6 +273,7 @@ pub fn change(
     records: &[f64],
     count: &mut usize,
     generation: &mut u64,
+    tests: &mut [usize],
     position: &mut usize,
 ) -> u32 {
     match kind {
@@ -272,22 +307,7 @@ pub fn change(
             g.list_generation,
             position,
         ),
-        table::REMOVE_RING => turning::turning_remove_ring(
-            g.z_min,
-            g.z_max,
-            g.outer,
-            g.bore,
-            g.cell,
-            g.max_cells,
-            rings,
-            count,
-            generation,
-            g.x,
-            g.y,
-            g.z,
-            g.w,
-            position,
-        ),
+        table::REMOVE_RING => remove_one(g, rings, count, generation, tests, position),
         table::APPLY_MOVE => turning::turning_apply_move(
             g.z_min,
             g.z_max,
@@ -307,6 +327,7 @@ pub fn change(
             g.list_edition,
             g.list_generation,
             points,
+            tests,
             position,
         ),
         table::SEGMENTS => turning::turning_segments(cells, g.x, rings, count),
@@ -334,6 +355,7 @@ pub fn change(
             points,
             rings,
             count,
+            tests,
             position,
         ),
     }

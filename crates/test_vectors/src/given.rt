@@ -165,6 +165,16 @@ fn front_kinds(xs: &mut [u32], n: u64) -> &mut [u32] {
     &mut xs[..0]
 }
 
+// Room for the tests of each ring that a call takes: of one ring one, of a list of so many numbers one for
+// each four.
+pub fn lent_tests<'a>(kind: usize, len: usize, xs: &'a mut [usize]) -> &'a mut [usize] {
+    match kind {
+        table::REMOVE_RING => front_indices(xs, 1),
+        table::APPLY_MOVE | table::FROM_PARTS => front_indices(xs, len as u64 / 4),
+        _ => front_indices(xs, 0),
+    }
+}
+
 // The numbers from word i on.
 fn fill(words: &[u64; LIMIT], i: usize, list: usize, xs: &mut [f64]) {
     let mut j: usize = 0;

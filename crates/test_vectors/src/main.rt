@@ -2,7 +2,8 @@
 // kind of call how many there were, and how many answered something else than recorded.
 //
 // A line has the call's name, its inputs, `=`, and the number that it answers, followed where that
-// is 0 by what it wrote, and where it is a refusal that tells a place by that. A stock's edition and
+// is 0 by what it wrote, and where it is a refusal that tells a place by that. A call that takes rings
+// writes last how many tests each ring took, one number a ring. A stock's edition and
 // generation stand behind its spec, those of a list behind the count of its changes; a call that
 // writes a stock writes the generation first. A check of passes writes its verdict, the generation, the
 // place and the reason where it has them, and then the cells with their kept numbers. Fields are parted

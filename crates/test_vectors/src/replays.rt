@@ -15,7 +15,7 @@ use crate::words;
 use crate::words::LIMIT;
 
 // A call is lent at most so many numbers in a slice, and so many indices.
-const ROOM: usize = 32768;
+const ROOM: usize = 66560;
 
 const INDICES: usize = 4096;
 
@@ -123,6 +123,7 @@ fn stock(
     cells: &[f64],
     blocks: &[f64],
     rings: &[f64],
+    tests: &[usize],
 ) -> Mark {
     let done = s.code == 0;
     let chords = kind == table::SEGMENTS;
@@ -135,7 +136,8 @@ fn stock(
     let i = answers::list(words, m, c, n, n, cells);
     let j = answers::list(words, i, b, l, l, blocks);
     let q = answers::list(words, j, r & !chords, s.m, 4 * (s.m % 65536), rings);
-    let k = answers::list(words, q, r & chords, s.m, 5 * (s.m % 65536), rings);
+    let f = answers::list(words, q, r & chords, s.m, 5 * (s.m % 65536), rings);
+    let k = answers::tests(words, f, done, tests);
     let c_kept = words::only(n, !done);
     let b_kept = words::only(l, !done);
     let r_kept = words::only(rings.len() as u64, !done);
@@ -166,10 +168,12 @@ fn changed(words: &[u64; LIMIT], kind: usize, p: Places, g: Given) -> Mark {
     let t = given::lent(words, room, TO_CHANGES, BY_EIGHT, &mut records);
     let mut n = generation_before(kind, g);
     let mut m = g.rings;
+    let mut made = [answers::UNTOLD; INDICES];
+    let w = given::lent_tests(kind, q.len(), &mut made);
     let mut position = answers::UNTOLD;
-    let code = calls::change(kind, g, c, b, q, r, i, t, &mut m, &mut n, &mut position);
+    let code = calls::change(kind, g, c, b, q, r, i, t, &mut m, &mut n, w, &mut position);
     let s = said(kind, code, n, m as u64, false, 0.0, 0.0);
-    stock(words, kind, p, g, s, position, c, b, r)
+    stock(words, kind, p, g, s, position, c, b, r, w)
 }
 
 // What a check of passes told, and what stands in the place of each before.

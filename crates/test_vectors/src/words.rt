@@ -1,7 +1,7 @@
 // The words of a line as its bytes come, each a number. Sixteen digits are the bits of an f64, any
 // others are decimal: no size in a recording has sixteen. A letter or a sign is some digit below 16,
 // so that a name is a number too.
-pub const LIMIT: usize = 36864;
+pub const LIMIT: usize = 172032;
 
 // How `=` and `-1` read.
 pub const EQUALS: u64 = 13;

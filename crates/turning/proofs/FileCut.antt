@@ -26,7 +26,7 @@ use Rattle.stock_lines.specs.declared.form.First.{First}
 use Rattle.stock_lines.specs.declared.form.First.the-variants.{Says, NoFirst}
 use Rattle.stock_lines.specs.declared.room.Took.{Took}
 use Rattle.stock_lines.specs.declared.room.Took.the-variants.{Cell, Ring, End, NoLine}
-use Rattle.stock_lines.specs.First.{firstOf, CanSay, one, two}
+use Rattle.stock_lines.specs.First.{firstOf, CanSay, one, two, three}
 use Rattle.stock_lines.specs.Reading.{State, state, refusing, begun, onwardTo, went, onBody, onLine}
 use Rattle.stock_lines.proofs.Firsts.{first-spelled}
 use Rattle.stock_file.specs.Read.{freshReading, stopped, onLong, onEnd, heldIn, ended, Stocked, toldAs, fileIn, readOf}
@@ -87,6 +87,7 @@ begun-small r s (Says k e b) h w = by (first-spelled s k e b h .says)
     by : {k e : ℕ} → CanSay k e → e < 2 ^ 32
     by one = omega arith
     by (two v) = v
+    by (three v) = v
 begun-small r s NoFirst h w = w
 
 went-small : (r : Reading) (t : Took) → r .edition < 2 ^ 32 → went r t .edition < 2 ^ 32

@@ -33,15 +33,16 @@ use Rattle.cuts.specs.Preview.{previewCut}
 use Rattle.rings.specs.declared.Removed.{Removed}
 use Rattle.rings.specs.declared.Ring.{Ring}
 use Rattle.rings.specs.Remove as Remove
-use Rattle.rings.specs.Remove.{RingStore, removedPaper, countsOf, stockAfter, Removes}
+use Rattle.rings.specs.Remove.{RingStore, countsOf, stockAfter, Removes}
+use Rattle.rings.specs.Tests.{listTests}
 use Rattle.profile.specs.declared.Chopped.{Chopped}
 use Rattle.profile.specs.Chords as Profile
 use Rattle.profile.specs.Chords.{Chord, choppedPaper, segmentsOf, Segmented}
 use Rattle.moves.specs.declared.Moved.{Moved}
 use Rattle.moves.specs.Move as Move
 use Rattle.moves.specs.declared.Rebuilt.{Rebuilt}
-use Rattle.moves.specs.Move.{Left, movedPaper, movedCells, movedKept, MovesKept, stockStored, partsOf, rebuiltPaper, rebuiltKept, Rebuilds}
-use Rattle.turning.specs.Boundary.{codeOf, outOf, placeOut, keptOut, Gives, GivesPlace, GivesBin, GivesList, GivesChanges, GivesStock, bySide, GivesTwo, GivesTwoPlace, generationIn, GivesRings, GivesMove, GivesStore, GivesChords, GivesFound, GivesFoundTwo}
+use Rattle.moves.specs.Move.{Left, movedPaper, movedCells, movedKept, toldTests, MovesTold, stockStored, partsOf, rebuiltPaper, rebuiltKept, RebuildsTold}
+use Rattle.turning.specs.Boundary.{codeOf, outOf, placeOut, keptOut, Gives, GivesPlace, GivesBin, GivesList, GivesChanges, GivesStock, bySide, GivesTwo, GivesTwoPlace, generationIn, GivesRemoved, GivesRings, GivesMove, GivesStore, GivesChords, GivesFound, GivesFoundTwo}
 
 -- a refusal hands out its number and nothing else, whatever its number is
 pub gives-refused : {A : Type 0} (p : Paper A) (c : Refusal) (r : ℕ) (x : A) → p ≡ refuses (reasonOf c) → r ≡ numberOf c → Gives p r x x
@@ -122,16 +123,21 @@ gives-found p q r f f' x x' e g = subst (λ z. GivesFound z r f f' x x') e g
 pub gives-found-two : {A : Type 0} (first second : A → Float) (p q : Paper (Option A)) (r f f' : ℕ) (x x' y y' : Float) → p ≡ q → GivesFoundTwo first second p r f f' x x' y y' → GivesFoundTwo first second q r f f' x x' y y'
 gives-found-two first second p q r f f' x x' y y' e g = subst (λ z. GivesFoundTwo first second z r f f' x x' y y') e g
 
-pub gives-rings : (s : TurnStock) (p : Paper RingStore) (a : Removed) (r : ℕ) (xs xs' : List Float) (k k' g g' j j' : ℕ) → GivesTwoPlace (λ (k : TurnStock). k .rings) (λ (k : TurnStock). k .stamp .generation) (removedPaper a) r k k' g g' j j' → Removes s xs p a xs' → GivesRings p r xs xs' k k' g g' j j'
+pub gives-rings : (s : TurnStock) (p : Paper RingStore) (a : Removed) (r : ℕ) (xs xs' : List Float) (k k' g g' t t' j j' m : ℕ) → GivesRemoved a r k k' g g' t t' j j' → Removes s xs p m a xs' → GivesRings p m r xs xs' k k' g g' t t' j j'
 unfolding countsOf onward
-gives-rings s p a r xs xs' k k' g g' j j' h q = record {
-  code = h .code ∙ ap codeOf (q .answer) ∙ same-code p;
+gives-rings s p a r xs xs' k k' g g' t t' j j' m h q = record {
+  code = h .stock .code ∙ ap codeOf (q .answer) ∙ same-code p;
   rings = q .store;
-  count = h .one ∙ ap (λ (z : Paper TurnStock). outOf (λ (c : TurnStock). c .rings) z k) (q .answer) ∙ same-count p;
-  generation = h .other ∙ ap (λ (z : Paper TurnStock). outOf (λ (c : TurnStock). c .stamp .generation) z g) (q .answer) ∙ same-generation p;
-  position = h .position ∙ ap (λ (z : Paper TurnStock). placeOut z j) (q .answer) ∙ same-place p;
+  count = h .stock .one ∙ ap (λ (z : Paper TurnStock). outOf (λ (c : TurnStock). c .rings) z k) (q .answer) ∙ same-count p;
+  generation = h .stock .other ∙ ap (λ (z : Paper TurnStock). outOf (λ (c : TurnStock). c .stamp .generation) z g) (q .answer) ∙ same-generation p;
+  tests = h .tests ∙ ap (λ (z : Paper ℕ). outOf (λ (n : ℕ). n) z t) (q .tests) ∙ same-tests p;
+  position = h .stock .position ∙ ap (λ (z : Paper TurnStock). placeOut z j) (q .answer) ∙ same-place p;
 }
   where
+    same-tests : (p : Paper RingStore) → outOf (λ (n : ℕ). n) (onward p (λ _. answers m)) t ≡ outOf (λ (s : RingStore). m) p t
+    same-tests (answers a) = refl
+    same-tests (refuses n) = refl
+
     same-place : (p : Paper RingStore) → placeOut (stockAfter s (countsOf p)) j ≡ placeOut p j
     same-place (answers a) = refl
     same-place (refuses n) = refl
@@ -148,18 +154,23 @@ gives-rings s p a r xs xs' k k' g g' j j' h q = record {
     same-generation (answers a) = refl
     same-generation (refuses n) = refl
 
-pub gives-move : (s : TurnStock) (p : Paper Left) (a : Moved) (r : ℕ) (cs cs' bs bs' xs xs' : List Float) (k k' g g' j j' : ℕ) → GivesTwoPlace (λ (k : TurnStock). k .rings) (λ (k : TurnStock). k .stamp .generation) (movedPaper a) r k k' g g' j j' → MovesKept s p a cs cs' bs bs' xs xs'
-    → GivesMove (s .spec) p r cs cs' bs bs' xs xs' k k' g g' j j'
-gives-move s p a r cs cs' bs bs' xs xs' k k' g g' j j' h q = record {
-  code = h .code ∙ ap codeOf (q .left .answer) ∙ same-code p;
-  cells = q .left .cells;
-  kept = q .kept ∙ same-kept p ∙ ap (λ (x : List Float). keptOut (s .spec) x p bs) (sym (q .left .cells));
-  rings = q .left .rings;
-  count = h .one ∙ ap (λ (z : Paper TurnStock). outOf (λ (c : TurnStock). c .rings) z k) (q .left .answer) ∙ same-count p;
-  generation = h .other ∙ ap (λ (z : Paper TurnStock). outOf (λ (c : TurnStock). c .stamp .generation) z g) (q .left .answer) ∙ same-generation p;
-  position = h .position ∙ ap (λ (z : Paper TurnStock). placeOut z j) (q .left .answer) ∙ same-place p;
+pub gives-move : (s : TurnStock) (p : Paper Left) (a : Moved) (r : ℕ) (cs cs' bs bs' xs xs' removed : List Float) (k k' g g' j j' : ℕ) (ts ts' : List ℕ) → GivesTwoPlace (λ (k : TurnStock). k .rings) (λ (k : TurnStock). k .stamp .generation) (movedPaper a) r k k' g g' j j' → MovesTold s p removed a cs cs' bs bs' xs xs' ts ts'
+    → GivesMove (s .spec) p (listTests (s .spec) xs (s .rings) removed ts) r cs cs' bs bs' xs xs' k k' g g' ts ts' j j'
+gives-move s p a r cs cs' bs bs' xs xs' removed k k' g g' j j' ts ts' h q = record {
+  code = h .code ∙ ap codeOf (q .moves .left .answer) ∙ same-code p;
+  cells = q .moves .left .cells;
+  kept = q .moves .kept ∙ same-kept p ∙ ap (λ (x : List Float). keptOut (s .spec) x p bs) (sym (q .moves .left .cells));
+  rings = q .moves .left .rings;
+  count = h .one ∙ ap (λ (z : Paper TurnStock). outOf (λ (c : TurnStock). c .rings) z k) (q .moves .left .answer) ∙ same-count p;
+  generation = h .other ∙ ap (λ (z : Paper TurnStock). outOf (λ (c : TurnStock). c .stamp .generation) z g) (q .moves .left .answer) ∙ same-generation p;
+  tests = q .tests ∙ same-tests p;
+  position = h .position ∙ ap (λ (z : Paper TurnStock). placeOut z j) (q .moves .left .answer) ∙ same-place p;
 }
   where
+    same-tests : (p : Paper Left) → toldTests p (listTests (s .spec) xs (s .rings) removed ts) ts ≡ outOf (λ (a : Left). listTests (s .spec) xs (s .rings) removed ts) p ts
+    same-tests (answers a) = refl
+    same-tests (refuses n) = refl
+
     same-kept : (p : Paper Left) → movedKept s p bs ≡ keptOut (s .spec) (movedCells p cs) p bs
     same-kept (answers a) = refl
     same-kept (refuses n) = refl
@@ -180,18 +191,23 @@ gives-move s p a r cs cs' bs bs' xs xs' k k' g g' j j' h q = record {
     same-generation (answers a) = refl
     same-generation (refuses n) = refl
 
-pub gives-store : (spec : TurnStockSpec) (edition : ℕ) (cs : List Float) (p : Paper (List Ring)) (a : Rebuilt) (r : ℕ) (bs bs' xs xs' : List Float) (k k' g g' j j' : ℕ) → GivesTwoPlace (λ (k : TurnStock). k .rings) (λ (k : TurnStock). k .stamp .generation) (rebuiltPaper a) r k k' g g' j j' → Rebuilds spec edition cs p a bs bs' xs xs'
-    → GivesStore spec cs p r bs bs' xs xs' k k' g g' j j'
+pub gives-store : (spec : TurnStockSpec) (edition : ℕ) (cs : List Float) (p : Paper (List Ring)) (a : Rebuilt) (r : ℕ) (bs bs' xs xs' given : List Float) (k k' g g' j j' : ℕ) (ts ts' : List ℕ) → GivesTwoPlace (λ (k : TurnStock). k .rings) (λ (k : TurnStock). k .stamp .generation) (rebuiltPaper a) r k k' g g' j j' → RebuildsTold spec edition cs p given a bs bs' xs xs' ts ts'
+    → GivesStore spec cs p (listTests spec xs 0 given ts) r bs bs' xs xs' k k' g g' ts ts' j j'
 unfolding Remove.countOf onward
-gives-store spec edition cs p a r bs bs' xs xs' k k' g g' j j' h q = record {
-  code = h .code ∙ ap codeOf (q .answer) ∙ same-code p;
-  kept = q .kept ∙ same-kept p;
-  rings = q .store;
-  count = h .one ∙ ap (λ (z : Paper TurnStock). outOf (λ (c : TurnStock). c .rings) z k) (q .answer) ∙ same-count p;
-  generation = h .other ∙ ap (λ (z : Paper TurnStock). outOf (λ (c : TurnStock). c .stamp .generation) z g) (q .answer) ∙ same-generation p;
-  position = h .position ∙ ap (λ (z : Paper TurnStock). placeOut z j) (q .answer) ∙ same-place p;
+gives-store spec edition cs p a r bs bs' xs xs' given k k' g g' j j' ts ts' h q = record {
+  code = h .code ∙ ap codeOf (q .rebuilds .answer) ∙ same-code p;
+  kept = q .rebuilds .kept ∙ same-kept p;
+  rings = q .rebuilds .store;
+  count = h .one ∙ ap (λ (z : Paper TurnStock). outOf (λ (c : TurnStock). c .rings) z k) (q .rebuilds .answer) ∙ same-count p;
+  generation = h .other ∙ ap (λ (z : Paper TurnStock). outOf (λ (c : TurnStock). c .stamp .generation) z g) (q .rebuilds .answer) ∙ same-generation p;
+  tests = q .tests ∙ same-tests p;
+  position = h .position ∙ ap (λ (z : Paper TurnStock). placeOut z j) (q .rebuilds .answer) ∙ same-place p;
 }
   where
+    same-tests : (p : Paper (List Ring)) → toldTests p (listTests spec xs 0 given ts) ts ≡ outOf (λ (l : List Ring). listTests spec xs 0 given ts) p ts
+    same-tests (answers l) = refl
+    same-tests (refuses n) = refl
+
     same-kept : (p : Paper (List Ring)) → rebuiltKept spec cs p bs ≡ keptOut spec cs p bs
     same-kept (answers l) = refl
     same-kept (refuses n) = refl
@@ -244,8 +260,8 @@ module _ (spec : TurnStockSpec) (cs : List Float) (side : ℕ) (p : TurnSide →
 
 -- ---- the spec that a call makes of its six numbers, and the stock of it
 module _ (s s' : TurnStockSpec) where
-  pub same-store : (edition : ℕ) (cs given : List Float) (a : Rebuilt) (bs bs' xs xs' : List Float) → s ≡ s' → Rebuilds s edition cs (partsOf s cs (length bs) given xs) a bs bs' xs xs' → Rebuilds s' edition cs (partsOf s' cs (length bs) given xs) a bs bs' xs xs'
-  same-store edition cs given a bs bs' xs xs' e q = subst (λ (x : TurnStockSpec). Rebuilds x edition cs (partsOf x cs (length bs) given xs) a bs bs' xs xs') e q
+  pub same-store : (edition : ℕ) (cs given : List Float) (a : Rebuilt) (bs bs' xs xs' : List Float) (ts ts' : List ℕ) → s ≡ s' → RebuildsTold s edition cs (partsOf s cs (length bs) given xs) given a bs bs' xs xs' ts ts' → RebuildsTold s' edition cs (partsOf s' cs (length bs) given xs) given a bs bs' xs xs' ts ts'
+  same-store edition cs given a bs bs' xs xs' ts ts' e q = subst (λ (x : TurnStockSpec). RebuildsTold x edition cs (partsOf x cs (length bs) given xs) given a bs bs' xs xs' ts ts') e q
 
   pub same-stock : (k : TurnStock) (edition rings g : ℕ) → k ≡ stockFrom s edition rings g → s ≡ s' → k ≡ stockFrom s' edition rings g
   same-stock k edition rings g h e = h ∙ ap (λ (x : TurnStockSpec). stockFrom x edition rings g) e
@@ -264,11 +280,11 @@ module _ (k k' : TurnStock) where
   pub same-commit : (l l' : ChangeList) (is : List ℕ) (xs : List Float) (a : Applied) (cs cs' bs bs' : List Float) → k ≡ k' → l ≡ l' → AppliesKept k (applyOf k cs bs l is xs) a cs cs' bs bs' → AppliesKept k' (applyOf k' cs bs l' is xs) a cs cs' bs bs'
   same-commit l l' is xs a cs cs' bs bs' e f q = subst (λ (y : ChangeList). AppliesKept k' (applyOf k' cs bs y is xs) a cs cs' bs bs') f (subst (λ (x : TurnStock). AppliesKept x (applyOf x cs bs l is xs) a cs cs' bs bs') e q)
 
-  pub same-move : (l l' : ChangeList) (f : TurnStock → ChangeList → Paper Left) (a : Moved) (cs cs' bs bs' xs xs' : List Float) → k ≡ k' → l ≡ l' → MovesKept k (f k l) a cs cs' bs bs' xs xs' → MovesKept k' (f k' l') a cs cs' bs bs' xs xs'
-  same-move l l' f a cs cs' bs bs' xs xs' e h q = subst (λ (y : ChangeList). MovesKept k' (f k' y) a cs cs' bs bs' xs xs') h (subst (λ (x : TurnStock). MovesKept x (f x l) a cs cs' bs bs' xs xs') e q)
+  pub same-move : (l l' : ChangeList) (f : TurnStock → ChangeList → Paper Left) (removed : List Float) (a : Moved) (cs cs' bs bs' xs xs' : List Float) (ts ts' : List ℕ) → k ≡ k' → l ≡ l' → MovesTold k (f k l) removed a cs cs' bs bs' xs xs' ts ts' → MovesTold k' (f k' l') removed a cs cs' bs bs' xs xs' ts ts'
+  same-move l l' f removed a cs cs' bs bs' xs xs' ts ts' e h q = subst (λ (y : ChangeList). MovesTold k' (f k' y) removed a cs cs' bs bs' xs xs' ts ts') h (subst (λ (x : TurnStock). MovesTold x (f x l) removed a cs cs' bs bs' xs xs' ts ts') e q)
 
-  pub same-ring : (f : TurnStock → Paper RingStore) (a : Removed) (xs xs' : List Float) → k ≡ k' → Removes k xs (f k) a xs' → Removes k' xs (f k') a xs'
-  same-ring f a xs xs' e q = subst (λ (x : TurnStock). Removes x xs (f x) a xs') e q
+  pub same-ring : (f : TurnStock → Paper RingStore) (m : TurnStock → ℕ) (a : Removed) (xs xs' : List Float) → k ≡ k' → Removes k xs (f k) (m k) a xs' → Removes k' xs (f k') (m k') a xs'
+  same-ring f m a xs xs' e q = subst (λ (x : TurnStock). Removes x xs (f x) (m x) a xs') e q
 
 -- a refusal in place of a list
 pub no-list : (st : Stamp) (p : Paper (List TurnChange)) (r : Refusal) (is : List ℕ) (xs : List Float) → p ≡ refuses (reasonOf r) → Proposed st p (previewed.Refused r) is is xs xs

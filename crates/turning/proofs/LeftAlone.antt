@@ -90,21 +90,21 @@ pub stock-left : (spec : TurnStockSpec) (p : Paper Committed) (r : ℕ) (cs cs' 
 stock-left spec (answers m) r cs cs' bs bs' k k' q q' g h = absurd (no-code (g .code) h)
 stock-left spec (refuses n) r cs cs' bs bs' k k' q q' g h = (g .cells, g .kept, g .generation)
 
--- `turning_remove_ring`: the rings, their count and the generation
-pub rings-left : (p : Paper RingStore) (r : ℕ) (xs xs' : List Float) (k k' j j' q q' : ℕ) → GivesRings p r xs xs' k k' j j' q q' → 0 < r → (xs' ≡ xs) × (k' ≡ k) × (j' ≡ j)
+-- `turning_remove_ring`: the rings, their count, the generation and the tests
+pub rings-left : (p : Paper RingStore) (m r : ℕ) (xs xs' : List Float) (k k' j j' t t' q q' : ℕ) → GivesRings p m r xs xs' k k' j j' t t' q q' → 0 < r → (xs' ≡ xs) × (k' ≡ k) × (j' ≡ j) × (t' ≡ t)
 unfolding ringsAfter onward
-rings-left (answers s) r xs xs' k k' j j' q q' g h = absurd (no-code (g .code) h)
-rings-left (refuses n) r xs xs' k k' j j' q q' g h = (g .rings, g .count, g .generation)
+rings-left (answers s) m r xs xs' k k' j j' t t' q q' g h = absurd (no-code (g .code) h)
+rings-left (refuses n) m r xs xs' k k' j j' t t' q q' g h = (g .rings, g .count, g .generation, g .tests)
 
--- `turning_apply_move`: the cells, their kept numbers, the rings, their count and the generation
-pub move-left : (spec : TurnStockSpec) (p : Paper Left) (r : ℕ) (cs cs' bs bs' xs xs' : List Float) (k k' j j' q q' : ℕ) → GivesMove spec p r cs cs' bs bs' xs xs' k k' j j' q q' → 0 < r → (cs' ≡ cs) × (bs' ≡ bs) × (xs' ≡ xs) × (k' ≡ k) × (j' ≡ j)
-move-left spec (answers a) r cs cs' bs bs' xs xs' k k' j j' q q' g h = absurd (no-code (g .code) h)
-move-left spec (refuses n) r cs cs' bs bs' xs xs' k k' j j' q q' g h = (g .cells, g .kept, g .rings, g .count, g .generation)
+-- `turning_apply_move`: the cells, their kept numbers, the rings, their count, the generation and the tests
+pub move-left : (spec : TurnStockSpec) (p : Paper Left) (ms : List ℕ) (r : ℕ) (cs cs' bs bs' xs xs' : List Float) (k k' j j' : ℕ) (ts ts' : List ℕ) (q q' : ℕ) → GivesMove spec p ms r cs cs' bs bs' xs xs' k k' j j' ts ts' q q' → 0 < r → (cs' ≡ cs) × (bs' ≡ bs) × (xs' ≡ xs) × (k' ≡ k) × (j' ≡ j) × (ts' ≡ ts)
+move-left spec (answers a) ms r cs cs' bs bs' xs xs' k k' j j' ts ts' q q' g h = absurd (no-code (g .code) h)
+move-left spec (refuses n) ms r cs cs' bs bs' xs xs' k k' j j' ts ts' q q' g h = (g .cells, g .kept, g .rings, g .count, g .generation, g .tests)
 
--- `turning_from_parts`: the kept numbers, the rings, their count and the generation
-pub store-left : (spec : TurnStockSpec) (cs : List Float) (p : Paper (List Ring)) (r : ℕ) (bs bs' xs xs' : List Float) (k k' j j' q q' : ℕ) → GivesStore spec cs p r bs bs' xs xs' k k' j j' q q' → 0 < r → (bs' ≡ bs) × (xs' ≡ xs) × (k' ≡ k) × (j' ≡ j)
-store-left spec cs (answers l) r bs bs' xs xs' k k' j j' q q' g h = absurd (no-code (g .code) h)
-store-left spec cs (refuses n) r bs bs' xs xs' k k' j j' q q' g h = (g .kept, g .rings, g .count, g .generation)
+-- `turning_from_parts`: the kept numbers, the rings, their count, the generation and the tests
+pub store-left : (spec : TurnStockSpec) (cs : List Float) (p : Paper (List Ring)) (ms : List ℕ) (r : ℕ) (bs bs' xs xs' : List Float) (k k' j j' : ℕ) (ts ts' : List ℕ) (q q' : ℕ) → GivesStore spec cs p ms r bs bs' xs xs' k k' j j' ts ts' q q' → 0 < r → (bs' ≡ bs) × (xs' ≡ xs) × (k' ≡ k) × (j' ≡ j) × (ts' ≡ ts)
+store-left spec cs (answers l) ms r bs bs' xs xs' k k' j j' ts ts' q q' g h = absurd (no-code (g .code) h)
+store-left spec cs (refuses n) ms r bs bs' xs xs' k k' j j' ts ts' q q' g h = (g .kept, g .rings, g .count, g .generation, g .tests)
 
 -- `turning_segments`: the chords and their count
 pub chords-left : (p : Paper (List Chord)) (r : ℕ) (xs xs' : List Float) (k k' : ℕ) → GivesChords p r xs xs' k k' → 0 < r → (xs' ≡ xs) × (k' ≡ k)

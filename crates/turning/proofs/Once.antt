@@ -55,7 +55,7 @@ use Rattle.turning.specs.Passes.{GivesChecked, GivesPasses}
 use Rattle.turning.specs.Boundary.{keptOut, Gives, GivesTwo, GivesTwoPlace, GivesBin, GivesCells, GivesBlocks, GivesList, GivesChanges, GivesStock, GivesRings, GivesMove, GivesStore, GivesChords, GivesFound, GivesFoundTwo}
 
 -- the number of the header
-pub header-once : (r r' : ℕ) → r ≡ 6 → r' ≡ 6 → r ≡ r'
+pub header-once : (r r' : ℕ) → r ≡ 7 → r' ≡ 7 → r ≡ r'
 header-once r r' a b = a ∙ sym b
 
 -- one number
@@ -101,23 +101,23 @@ gives-stock-once spec p r r' cs cs₁ cs₂ bs bs₁ bs₂ g g₁ g₂ q q₁ q�
     let cells = a .cells ∙ sym (b .cells) in
     (a .code ∙ sym (b .code), cells, kept-once spec p cs₁ cs₂ bs bs₁ bs₂ cells (a .kept) (b .kept), a .generation ∙ sym (b .generation), a .position ∙ sym (b .position))
 
--- the rings, their count and the generation
-pub gives-rings-once : (p : Paper RingStore) (r r' : ℕ) (xs xs₁ xs₂ : List Float) (k k₁ k₂ g g₁ g₂ q q₁ q₂ : ℕ) → GivesRings p r xs xs₁ k k₁ g g₁ q q₁ → GivesRings p r' xs xs₂ k k₂ g g₂ q q₂ → (r ≡ r') × (xs₁ ≡ xs₂) × (k₁ ≡ k₂) × (g₁ ≡ g₂) × (q₁ ≡ q₂)
-gives-rings-once p r r' xs xs₁ xs₂ k k₁ k₂ g g₁ g₂ q q₁ q₂ a b =
-    (a .code ∙ sym (b .code), a .rings ∙ sym (b .rings), a .count ∙ sym (b .count), a .generation ∙ sym (b .generation), a .position ∙ sym (b .position))
+-- the rings, their count, the generation and the tests
+pub gives-rings-once : (p : Paper RingStore) (m r r' : ℕ) (xs xs₁ xs₂ : List Float) (k k₁ k₂ g g₁ g₂ t t₁ t₂ q q₁ q₂ : ℕ) → GivesRings p m r xs xs₁ k k₁ g g₁ t t₁ q q₁ → GivesRings p m r' xs xs₂ k k₂ g g₂ t t₂ q q₂ → (r ≡ r') × (xs₁ ≡ xs₂) × (k₁ ≡ k₂) × (g₁ ≡ g₂) × (t₁ ≡ t₂) × (q₁ ≡ q₂)
+gives-rings-once p m r r' xs xs₁ xs₂ k k₁ k₂ g g₁ g₂ t t₁ t₂ q q₁ q₂ a b =
+    (a .code ∙ sym (b .code), a .rings ∙ sym (b .rings), a .count ∙ sym (b .count), a .generation ∙ sym (b .generation), a .tests ∙ sym (b .tests), a .position ∙ sym (b .position))
 
--- the cells, their kept numbers, the rings, their count and the generation
-pub gives-move-once : (spec : TurnStockSpec) (p : Paper Left) (r r' : ℕ) (cs cs₁ cs₂ bs bs₁ bs₂ xs xs₁ xs₂ : List Float) (k k₁ k₂ g g₁ g₂ q q₁ q₂ : ℕ) → GivesMove spec p r cs cs₁ bs bs₁ xs xs₁ k k₁ g g₁ q q₁ → GivesMove spec p r' cs cs₂ bs bs₂ xs xs₂ k k₂ g g₂ q q₂
-    → (r ≡ r') × (cs₁ ≡ cs₂) × (bs₁ ≡ bs₂) × (xs₁ ≡ xs₂) × (k₁ ≡ k₂) × (g₁ ≡ g₂) × (q₁ ≡ q₂)
-gives-move-once spec p r r' cs cs₁ cs₂ bs bs₁ bs₂ xs xs₁ xs₂ k k₁ k₂ g g₁ g₂ q q₁ q₂ a b =
+-- the cells, their kept numbers, the rings, their count, the generation and the tests
+pub gives-move-once : (spec : TurnStockSpec) (p : Paper Left) (ms : List ℕ) (r r' : ℕ) (cs cs₁ cs₂ bs bs₁ bs₂ xs xs₁ xs₂ : List Float) (k k₁ k₂ g g₁ g₂ : ℕ) (ts ts₁ ts₂ : List ℕ) (q q₁ q₂ : ℕ) → GivesMove spec p ms r cs cs₁ bs bs₁ xs xs₁ k k₁ g g₁ ts ts₁ q q₁ → GivesMove spec p ms r' cs cs₂ bs bs₂ xs xs₂ k k₂ g g₂ ts ts₂ q q₂
+    → (r ≡ r') × (cs₁ ≡ cs₂) × (bs₁ ≡ bs₂) × (xs₁ ≡ xs₂) × (k₁ ≡ k₂) × (g₁ ≡ g₂) × (ts₁ ≡ ts₂) × (q₁ ≡ q₂)
+gives-move-once spec p ms r r' cs cs₁ cs₂ bs bs₁ bs₂ xs xs₁ xs₂ k k₁ k₂ g g₁ g₂ ts ts₁ ts₂ q q₁ q₂ a b =
     let cells = a .cells ∙ sym (b .cells) in
-    (a .code ∙ sym (b .code), cells, kept-once spec p cs₁ cs₂ bs bs₁ bs₂ cells (a .kept) (b .kept), a .rings ∙ sym (b .rings), a .count ∙ sym (b .count), a .generation ∙ sym (b .generation), a .position ∙ sym (b .position))
+    (a .code ∙ sym (b .code), cells, kept-once spec p cs₁ cs₂ bs bs₁ bs₂ cells (a .kept) (b .kept), a .rings ∙ sym (b .rings), a .count ∙ sym (b .count), a .generation ∙ sym (b .generation), a .tests ∙ sym (b .tests), a .position ∙ sym (b .position))
 
--- the kept numbers, the rings, their count and the generation, of a rebuilt stock
-pub gives-store-once : (spec : TurnStockSpec) (cs : List Float) (p : Paper (List Ring)) (r r' : ℕ) (bs bs₁ bs₂ xs xs₁ xs₂ : List Float) (k k₁ k₂ g g₁ g₂ q q₁ q₂ : ℕ) → GivesStore spec cs p r bs bs₁ xs xs₁ k k₁ g g₁ q q₁ → GivesStore spec cs p r' bs bs₂ xs xs₂ k k₂ g g₂ q q₂
-    → (r ≡ r') × (bs₁ ≡ bs₂) × (xs₁ ≡ xs₂) × (k₁ ≡ k₂) × (g₁ ≡ g₂) × (q₁ ≡ q₂)
-gives-store-once spec cs p r r' bs bs₁ bs₂ xs xs₁ xs₂ k k₁ k₂ g g₁ g₂ q q₁ q₂ a b =
-    (a .code ∙ sym (b .code), a .kept ∙ sym (b .kept), a .rings ∙ sym (b .rings), a .count ∙ sym (b .count), a .generation ∙ sym (b .generation), a .position ∙ sym (b .position))
+-- the kept numbers, the rings, their count, the generation and the tests, of a rebuilt stock
+pub gives-store-once : (spec : TurnStockSpec) (cs : List Float) (p : Paper (List Ring)) (ms : List ℕ) (r r' : ℕ) (bs bs₁ bs₂ xs xs₁ xs₂ : List Float) (k k₁ k₂ g g₁ g₂ : ℕ) (ts ts₁ ts₂ : List ℕ) (q q₁ q₂ : ℕ) → GivesStore spec cs p ms r bs bs₁ xs xs₁ k k₁ g g₁ ts ts₁ q q₁ → GivesStore spec cs p ms r' bs bs₂ xs xs₂ k k₂ g g₂ ts ts₂ q q₂
+    → (r ≡ r') × (bs₁ ≡ bs₂) × (xs₁ ≡ xs₂) × (k₁ ≡ k₂) × (g₁ ≡ g₂) × (ts₁ ≡ ts₂) × (q₁ ≡ q₂)
+gives-store-once spec cs p ms r r' bs bs₁ bs₂ xs xs₁ xs₂ k k₁ k₂ g g₁ g₂ ts ts₁ ts₂ q q₁ q₂ a b =
+    (a .code ∙ sym (b .code), a .kept ∙ sym (b .kept), a .rings ∙ sym (b .rings), a .count ∙ sym (b .count), a .generation ∙ sym (b .generation), a .tests ∙ sym (b .tests), a .position ∙ sym (b .position))
 
 -- the chords and their count
 pub gives-chords-once : (p : Paper (List Chord)) (r r' : ℕ) (xs xs₁ xs₂ : List Float) (k k₁ k₂ : ℕ) → GivesChords p r xs xs₁ k k₁ → GivesChords p r' xs xs₂ k k₂ → (r ≡ r') × (xs₁ ≡ xs₂) × (k₁ ≡ k₂)

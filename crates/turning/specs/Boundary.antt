@@ -29,7 +29,9 @@ use Rattle.changes.specs.Change.{roomIn, indicesOf, numbersOf, countOf, written
 use Rattle.changes.specs.Commit.{Committed, cellsAfter, numbersKept}
 use Rattle.cuts.specs.Preview.{previewNose, previewPolygon}
 use Rattle.rings.specs.declared.Ring.{Ring}
-use Rattle.rings.specs.Remove.{RingStore, ringsAfter, storeAfter}
+use Rattle.rings.specs.declared.Removed.{Removed}
+use Rattle.rings.specs.Remove.{RingStore, ringsAfter, storeAfter, removedPaper, removedTests}
+use Rattle.rings.specs.Tests.{listTests}
 use Rattle.profile.specs.Chords as Profile
 use Rattle.profile.specs.Chords.{Chord, flatOf}
 use Rattle.moves.specs.Move as Move
@@ -165,31 +167,39 @@ abbrev pub generationIn : Paper TurnStock → Paper ℕ
 generationIn (answers k) = answers (k .stamp .generation)
 generationIn (refuses r) = refuses r
 
--- the rings, their count and the generation, and the place of a refusal
-pub record GivesRings (p : Paper RingStore) (r : ℕ) (xs xs' : List Float) (k k' g g' q q' : ℕ) : Type 0 where
+-- the count of rings and the generation that one ring leaves, the tests that it took, and the place of a refusal
+pub record GivesRemoved (a : Removed) (r k k' g g' t t' q q' : ℕ) : Type 0 where
+  pub stock : GivesTwoPlace (λ (k : TurnStock). k .rings) (λ (k : TurnStock). k .stamp .generation) (removedPaper a) r k k' g g' q q'
+  pub tests : t' ≡ outOf (λ (n : ℕ). n) (removedTests a) t
+
+-- the rings, their count and the generation, the tests m that the ring took, and the place of a refusal
+pub record GivesRings (p : Paper RingStore) (m r : ℕ) (xs xs' : List Float) (k k' g g' t t' q q' : ℕ) : Type 0 where
   pub code : r ≡ codeOf p
   pub rings : xs' ≡ ringsAfter xs p
   pub count : k' ≡ outOf (λ (s : RingStore). length (s .rings)) p k
   pub generation : g' ≡ outOf (λ (s : RingStore). s .generation) p g
+  pub tests : t' ≡ outOf (λ (s : RingStore). m) p t
   pub position : q' ≡ placeOut p q
 
--- the cells, their kept numbers, the rings, their count and the generation, and the place of a refusal
-pub record GivesMove (spec : TurnStockSpec) (p : Paper Left) (r : ℕ) (cs cs' bs bs' xs xs' : List Float) (k k' g g' q q' : ℕ) : Type 0 where
+-- the cells, their kept numbers, the rings, their count and the generation, the tests ms that the rings took, and the place of a refusal
+pub record GivesMove (spec : TurnStockSpec) (p : Paper Left) (ms : List ℕ) (r : ℕ) (cs cs' bs bs' xs xs' : List Float) (k k' g g' : ℕ) (ts ts' : List ℕ) (q q' : ℕ) : Type 0 where
   pub code : r ≡ codeOf p
   pub cells : cs' ≡ Move.movedCells p cs
   pub kept : bs' ≡ keptOut spec cs' p bs
   pub rings : xs' ≡ Move.movedRings p xs
   pub count : k' ≡ outOf (λ (a : Left). length (a .rings)) p k
   pub generation : g' ≡ outOf (λ (a : Left). a .generation) p g
+  pub tests : ts' ≡ outOf (λ (a : Left). ms) p ts
   pub position : q' ≡ placeOut p q
 
--- the kept numbers of the cells, the rings and their count, at generation 0, and the place of a refusal
-pub record GivesStore (spec : TurnStockSpec) (cs : List Float) (p : Paper (List Ring)) (r : ℕ) (bs bs' xs xs' : List Float) (k k' g g' q q' : ℕ) : Type 0 where
+-- the kept numbers of the cells, the rings and their count, at generation 0, the tests ms that the rings took, and the place of a refusal
+pub record GivesStore (spec : TurnStockSpec) (cs : List Float) (p : Paper (List Ring)) (ms : List ℕ) (r : ℕ) (bs bs' xs xs' : List Float) (k k' g g' : ℕ) (ts ts' : List ℕ) (q q' : ℕ) : Type 0 where
   pub code : r ≡ codeOf p
   pub kept : bs' ≡ keptOut spec cs p bs
   pub rings : xs' ≡ storeAfter xs p
   pub count : k' ≡ outOf (λ (l : List Ring). length l) p k
   pub generation : g' ≡ outOf (λ (l : List Ring). 0) p g
+  pub tests : ts' ≡ outOf (λ (l : List Ring). ms) p ts
   pub position : q' ≡ placeOut p q
 
 -- the chords of a profile, over the beginning of the lent numbers, and their count
@@ -265,19 +275,23 @@ abbrev pub HandsStock : TurnStock → (TurnStock → Paper Committed) → ℕ �
 HandsStock k rule r cells blocks generation q =
     GivesStock (k .spec) (rule k) r (now (cells .entry)) (now (cells .exit)) (now (blocks .entry)) (now (blocks .exit)) (now (generation .entry)) (now (generation .exit)) (now (q .entry)) (now (q .exit))
 
-abbrev pub HandsRings : Paper RingStore → ℕ → Lent Float → Out ℕ → Out ℕ → Out ℕ → Type 0
-HandsRings p r rings count generation q =
-    GivesRings p r (now (rings .entry)) (now (rings .exit)) (now (count .entry)) (now (count .exit)) (now (generation .entry)) (now (generation .exit)) (now (q .entry)) (now (q .exit))
+abbrev pub HandsRemoved : Removed → ℕ → Out ℕ → Out ℕ → Out ℕ → Out ℕ → Type 0
+HandsRemoved a r count generation tests q =
+    GivesRemoved a r (now (count .entry)) (now (count .exit)) (now (generation .entry)) (now (generation .exit)) (now (tests .entry)) (now (tests .exit)) (now (q .entry)) (now (q .exit))
 
--- of the stock that moves
-abbrev pub HandsMove : TurnStock → (TurnStock → Paper Left) → ℕ → Lent Float → Lent Float → Lent Float → Out ℕ → Out ℕ → Out ℕ → Type 0
-HandsMove k rule r cells blocks rings count generation q =
-    GivesMove (k .spec) (rule k) r (now (cells .entry)) (now (cells .exit)) (now (blocks .entry)) (now (blocks .exit)) (now (rings .entry)) (now (rings .exit)) (now (count .entry)) (now (count .exit)) (now (generation .entry)) (now (generation .exit)) (now (q .entry)) (now (q .exit))
+abbrev pub HandsRings : Paper RingStore → ℕ → ℕ → Lent Float → Out ℕ → Out ℕ → Out ℕ → Out ℕ → Type 0
+HandsRings p m r rings count generation tests q =
+    GivesRings p m r (now (rings .entry)) (now (rings .exit)) (now (count .entry)) (now (count .exit)) (now (generation .entry)) (now (generation .exit)) (now (tests .entry)) (now (tests .exit)) (now (q .entry)) (now (q .exit))
+
+-- of the stock that moves, with its rings removed
+abbrev pub HandsMove : TurnStock → (TurnStock → Paper Left) → List Float → ℕ → Lent Float → Lent Float → Lent Float → Out ℕ → Out ℕ → Lent ℕ → Out ℕ → Type 0
+HandsMove k rule removed r cells blocks rings count generation tests q =
+    GivesMove (k .spec) (rule k) (listTests (k .spec) (now (rings .entry)) (k .rings) removed (now (tests .entry))) r (now (cells .entry)) (now (cells .exit)) (now (blocks .entry)) (now (blocks .exit)) (now (rings .entry)) (now (rings .exit)) (now (count .entry)) (now (count .exit)) (now (generation .entry)) (now (generation .exit)) (now (tests .entry)) (now (tests .exit)) (now (q .entry)) (now (q .exit))
 
 -- of a spec, its cells and the rings that are given
-abbrev pub HandsStore : TurnStockSpec → List Float → List Float → ℕ → Lent Float → Lent Float → Out ℕ → Out ℕ → Out ℕ → Type 0
-HandsStore spec cs given r blocks rings count generation q =
-    GivesStore spec cs (partsOf spec cs (length (now (blocks .entry))) given (now (rings .entry))) r (now (blocks .entry)) (now (blocks .exit)) (now (rings .entry)) (now (rings .exit)) (now (count .entry)) (now (count .exit)) (now (generation .entry)) (now (generation .exit)) (now (q .entry)) (now (q .exit))
+abbrev pub HandsStore : TurnStockSpec → List Float → List Float → ℕ → Lent Float → Lent Float → Out ℕ → Out ℕ → Lent ℕ → Out ℕ → Type 0
+HandsStore spec cs given r blocks rings count generation tests q =
+    GivesStore spec cs (partsOf spec cs (length (now (blocks .entry))) given (now (rings .entry))) (listTests spec (now (rings .entry)) 0 given (now (tests .entry))) r (now (blocks .entry)) (now (blocks .exit)) (now (rings .entry)) (now (rings .exit)) (now (count .entry)) (now (count .exit)) (now (generation .entry)) (now (generation .exit)) (now (tests .entry)) (now (tests .exit)) (now (q .entry)) (now (q .exit))
 
 -- with as much room for chords as the list has
 abbrev pub HandsChords : (ℕ → Paper (List Chord)) → ℕ → Lent Float → Out ℕ → Type 0

@@ -4,7 +4,7 @@ ghost use mathlib.Core.Path.{_≡_};
 // TURNING_HEADER of include/turning.h.
 #[no_mangle]
 pub extern "C" fn turning_header() -> u32
-    ensures { λ r. ⌜ r ≡ 6 ⌝ }
+    ensures { λ r. ⌜ r ≡ 7 ⌝ }
 {
-    6
+    7
 }

@@ -3,9 +3,10 @@ ghost use mathlib.Core.Path.{_≡_};
 ghost use Rattle.rings.specs.Ring.{ring};
 ghost use Rattle.stock.specs.declared.TurnStock.{TurnStock};
 ghost use Rattle.stock.specs.Stock.{stockFrom};
-ghost use Rattle.rings.specs.Remove.{removedPaper, removeRing};
+ghost use Rattle.rings.specs.Remove.{removeRing};
+ghost use Rattle.rings.specs.Tests.{ringTests};
 ghost use Rattle.moves.specs.Move.{movedPaper, moveOf, rebuiltPaper};
-ghost use Rattle.turning.specs.Boundary.{specFrom, listFrom, HandsTwoPlace, HandsRings, HandsMove, HandsStore};
+ghost use Rattle.turning.specs.Boundary.{specFrom, listFrom, HandsTwoPlace, HandsRemoved, HandsRings, HandsMove, HandsStore};
 use crate::cuts_c;
 use crate::stock_c;
 use moves::Moved;
@@ -13,16 +14,16 @@ use moves::Rebuilt;
 use rings::Removed;
 use rings::Ring;
 
-// The count of rings and the generation afterwards, or the number of the refusal, with its place where
-// it has one.
+// The count of rings and the generation afterwards and the tests, or the number of the refusal, with its
+// place where it has one.
 fn give_removed(
     answer: Removed,
     count: &mut usize,
     generation: &mut u64,
+    tests: &mut usize,
     position: &mut usize,
 ) -> u32
-    ensures { λ r. ⌜ HandsTwoPlace (λ (k : TurnStock). k .rings) (λ (k : TurnStock). k .stamp .generation) (removedPaper answer) r
-        count generation position ⌝ }
+    ensures { λ r. ⌜ HandsRemoved answer r count generation tests position ⌝ }
 {
     match answer {
         Removed::Refused(r) => refusals::number(r),
@@ -30,9 +31,10 @@ fn give_removed(
             *position = k;
             refusals::number(r)
         }
-        Removed::Stock(left) => {
+        Removed::Stock(left, made) => {
             *count = left.rings;
             *generation = left.stamp.generation;
+            *tests = made;
             0
         }
     }
@@ -53,18 +55,21 @@ pub extern "C" fn turning_remove_ring(
     z1: f64,
     r0: f64,
     r1: f64,
+    tests: &mut usize,
     position: &mut usize,
 ) -> u32
     ensures { λ r. ⌜ HandsRings
         (removeRing (specFrom «z_min» «z_max» outer bore cell «max_cells») (now (rings .entry))
-        (now («rings_count» .entry)) (now (generation .entry)) (ring z0 z1 r0 r1)) r rings «rings_count» generation position ⌝ }
+        (now («rings_count» .entry)) (now (generation .entry)) (ring z0 z1 r0 r1))
+        (ringTests (specFrom «z_min» «z_max» outer bore cell «max_cells») (now (rings .entry)) (now («rings_count» .entry)) (ring z0 z1 r0 r1))
+        r rings «rings_count» generation tests position ⌝ }
 {
     let spec = stock_c::spec_of(z_min, z_max, outer, bore, cell, max_cells);
     let count = *rings_count;
     let before = *generation;
     let stock = stock_c::stock_of(spec, 0, before, count);
     let answer = rings::remove_ring(stock, rings, Ring { z0, z1, r0, r1 });
-    give_removed(answer, rings_count, generation, position)
+    give_removed(answer, rings_count, generation, tests, position)
 }
 
 // The count of rings and the generation after a move, or the number of the refusal, with its place
@@ -107,19 +112,31 @@ pub extern "C" fn turning_apply_move(
     list_edition: u32,
     list_generation: u64,
     removed: &[f64],
+    tests: &mut [usize],
     position: &mut usize,
 ) -> u32
     ensures { λ r. ⌜ HandsMove (stockFrom (specFrom «z_min» «z_max» outer bore cell «max_cells») edition
         (now («rings_count» .entry)) (now (generation .entry)))
         (λ k. moveOf k (now (cells .entry)) (now (blocks .entry)) (now (rings .entry)) (listFrom changes «list_edition» «list_generation»)
-        (now (indices .entry)) (now (records .entry)) (now (removed .entry))) r cells blocks rings «rings_count» generation position ⌝ }
+        (now (indices .entry)) (now (records .entry)) (now (removed .entry))) (now (removed .entry))
+        r cells blocks rings «rings_count» generation tests position ⌝ }
 {
     let spec = stock_c::spec_of(z_min, z_max, outer, bore, cell, max_cells);
     let count = *rings_count;
     let before = *generation;
     let stock = stock_c::stock_of(spec, edition, before, count);
     let list = cuts_c::list_of(changes, list_edition, list_generation);
-    let answer = moves::apply_move(stock, cells, blocks, rings, list, indices, records, removed);
+    let answer = moves::apply_move(
+        stock,
+        cells,
+        blocks,
+        rings,
+        list,
+        indices,
+        records,
+        removed,
+        tests,
+    );
     give_moved(answer, rings_count, generation, position)
 }
 
@@ -163,12 +180,13 @@ pub extern "C" fn turning_from_parts(
     given: &[f64],
     rings: &mut [f64],
     rings_count: &mut usize,
+    tests: &mut [usize],
     position: &mut usize,
 ) -> u32
     ensures { λ r. ⌜ HandsStore (specFrom «z_min» «z_max» outer bore cell «max_cells») (now (cells .entry)) (now (given .entry)) r
-        blocks rings «rings_count» generation position ⌝ }
+        blocks rings «rings_count» generation tests position ⌝ }
 {
     let spec = stock_c::spec_of(z_min, z_max, outer, bore, cell, max_cells);
-    let answer = moves::from_parts(spec, edition, cells, blocks, given, rings);
+    let answer = moves::from_parts(spec, edition, cells, blocks, given, rings, tests);
     give_rebuilt(answer, rings_count, generation, position)
 }

@@ -1,7 +1,7 @@
 -- `change_slices::propose` meets its contract: a walk of its MIR, by hand. Two local arrays are lent as `&mut` slices to `list`, come back at the lists that it says, and are lent as `&` to `read_changes`, which has the records for good.
 -- Assumes nothing.
 use mathlib.Core.Path.{_≡_, refl, sym, _∙_, ap, subst}
-use Prim.Native.Nat.{ℕ, _<_, _^_}
+use Prim.Native.Nat.{ℕ, _*_, _<_, _^_}
 use mathlib.Core.List.{List, [], _∷_}
 use lib.Dec.{T as Holds, lit<}
 use lib.Ieee.{Float, binary64, fits, ofBits}
@@ -45,6 +45,7 @@ use denote.Triple.Walked.{says, Stays, stay-dropped, gave-slice, walkOf, goes-dr
 use denote.Triple.Clauses.{ensured, lasts}
 use denote.Exit.{yes}
 use Rattle.refusals.specs.Paper.{Paper}
+use Rattle.refusals.specs.Limits.{cellLimit}
 use Rattle.floats.specs.Numbers.{zero64}
 use Rattle.stock.specs.declared.TurnStock.{TurnStock}
 use Rattle.stock.specs.declared.TurnChange.{TurnChange}
@@ -105,10 +106,10 @@ abbrev slice : Ty
 slice = sliceTy (tyRef (named 2) mut (pointee (T.the-row .written)))
 
 abbrev iarr : Ty
-iarr = tyArray (tyInt w64) 4096
+iarr = tyArray (tyInt w64) cellLimit
 
 abbrev narr : Ty
-narr = tyArray (tyFloat binary64) 32768
+narr = tyArray (tyFloat binary64) (8 * cellLimit)
 
 abbrev isl : Ty
 isl = sliceTy (tyRef erased mut (pointee (usize .written)))
@@ -136,10 +137,10 @@ none-is : Is f64 zero64 (vfloat binary64 zero64 ∷ [])
 unfolding fits ofBits
 none-is = (refl, refl)
 
-iroom : (is : List ℕ) → length is ≡ 4096 → Room usize (length is)
+iroom : (is : List ℕ) → length is ≡ cellLimit → Room usize (length is)
 iroom is e = subst (Room usize) (sym e) (lit< tt, lit< tt)
 
-nroom : (xs : List Float) → length xs ≡ 32768 → Room f64 (length xs)
+nroom : (xs : List Float) → length xs ≡ (8 * cellLimit) → Room f64 (length xs)
 nroom xs e = subst (Room f64) (sym e) (lit< tt, lit< tt)
 
 module _ {M : Type 1} (𝓤 : URA M) (H : Heap 𝓤) (A : Atoms 𝓤) (mem : Memory → SProp 𝓤) (run : Routine → Fun 𝓤) where
@@ -223,7 +224,7 @@ module _ {M : Type 1} (𝓤 : URA M) (H : Heap 𝓤) (A : Atoms 𝓤) (W : Given
   abbrev Holding : List ℕ → List Float → Previewed → Type 0
   Holding is xs r = (q : Paper (List TurnChange)) × (Rule n ≡ q) × ListsRecords (stock .stamp) n q r is xs
 
-  held : (is : List ℕ) (xs : List Float) (r : Previewed) (is′ : List ℕ) (xs′ : List Float) → length is ≡ 4096 → length xs ≡ 32768 → Listed is xs r is′ xs′ → Holding is′ xs′ r
+  held : (is : List ℕ) (xs : List Float) (r : Previewed) (is′ : List ℕ) (xs′ : List Float) → length is ≡ cellLimit → length xs ≡ (8 * cellLimit) → Listed is xs r is′ xs′ → Holding is′ xs′ r
   held is xs r is′ xs′ long wide e = (narrowed n (Rule (roomOf (length is) (length xs))), lists-enough-for (stock .spec) (now p) tool (now v) (length is) (length xs) long wide n, e)
 
   -- ---- `count_of`: its argument is plain
@@ -263,7 +264,7 @@ module _ {M : Type 1} (𝓤 : URA M) (H : Heap 𝓤) (A : Atoms 𝓤) (W : Given
     abbrev Counted : List ℕ → List Float → Val → ℕ → List (Item 𝓤)
     Counted is xs u k = ‵ (Row f64 l₇ xs) ∷ ‵ (Row usize l₆ is) ∷ ‵ Ch ∷ ‵ (flft κ₂ q₂) ∷ ‵ (flft κ₁ q₁) ∷ ‵ (flft κ₀ q₀) ∷ ‵ (froom msl l₂₀ 0) ∷ ‵ (fdies msl l₂₀) ∷ ‵ (froom mref l₁₉ 0) ∷ ‵ (fdies mref l₁₉) ∷ ‵ (froom nshr l₁₈ 0) ∷ ‵ (fdies nshr l₁₈) ∷ ‵ (froom (tyRef erased imm narr) l₁₇ 0) ∷ ‵ (fdies (tyRef erased imm narr) l₁₇) ∷ ‵ (froom ishr l₁₆ 0) ∷ ‵ (fdies ishr l₁₆) ∷ ‵ (froom (tyRef erased imm iarr) l₁₅ 0) ∷ ‵ (fdies (tyRef erased imm iarr) l₁₅) ∷ ‵ (froom nsl l₁₄ 0) ∷ ‵ (fdies nsl l₁₄) ∷ ‵ (froom (tyRef erased mut narr) l₁₃ 0) ∷ ‵ (fdies (tyRef erased mut narr) l₁₃) ∷ ‵ (froom isl l₁₂ 0) ∷ ‵ (fdies isl l₁₂) ∷ ‵ (froom (tyRef erased mut iarr) l₁₁ 0) ∷ ‵ (fdies (tyRef erased mut iarr) l₁₁) ∷ ‵ (froom word l₁₀ 0) ∷ ‵ (fdies word l₁₀) ∷ ‵ (fat fullShare word l₉ 0 (vint w64 k)) ∷ ‵ (fdies word l₉) ∷ ‵ (fat fullShare R′.mir l₈ 0 (u)) ∷ ‵ (fdies R′.mir l₈) ∷ ‵ (fdies narr l₇) ∷ ‵ (fdies iarr l₆) ∷ ‵ (fat fullShare slice l₅ 0 (sliceVal (b, o) n)) ∷ ‵ (fdies slice l₅) ∷ ‵ (fat fullShare besides l₄ 0 (sliceVal (v .ptr) (length (now v)))) ∷ ‵ (fdies besides l₄) ∷ ‵ (fat fullShare P′.mir l₃ 0 (kv tool)) ∷ ‵ (fdies P′.mir l₃) ∷ ‵ (fat fullShare stores l₂ 0 (sliceVal (p .ptr) (length (now p)))) ∷ ‵ (fdies stores l₂) ∷ ‵ (fat fullShare S′.mir l₁ 0 (pv stock)) ∷ ‵ (fdies S′.mir l₁) ∷ ‵ (froom R′.mir l₀ 0) ∷ ‵ (fdies R′.mir l₀) ∷ []
 
-    reads : (is : List ℕ) (xs : List Float) → length is ≡ 4096 → length xs ≡ 32768 → (r : Previewed) (u : Val) → Is R.the-row r (u ∷ []) → Holding is xs r → (k : ℕ) → k < 2 ^ 64 → k ≡ countIn r → Sq W (Counted is xs u k) (runs C Λ En mir.t-10 (atRet En Post))
+    reads : (is : List ℕ) (xs : List Float) → length is ≡ cellLimit → length xs ≡ (8 * cellLimit) → (r : Previewed) (u : Val) → Is R.the-row r (u ∷ []) → Holding is xs r → (k : ℕ) → k < 2 ^ 64 → k ≡ countIn r → Sq W (Counted is xs u k) (runs C Λ En mir.t-10 (atRet En Post))
     reads is xs long wide r u is-r e k gk′ is-k =
         assigns ! (addr ! (from ! (stop !))) (from ! (stop !)) (init ! 16 refl (tt, tt)) $ assigns ! (agg ! (and-then ! (load ! (from ! (stop !)) (look ! 16 refl)) (and-then ! (big-lit ! (record { fits = lit< tt })) (no-more !)))) (from ! (stop !)) (init ! 14 refl (tt, (tt, (record { fits = lit< tt }, tt)))) $
         assigns ! (addr ! (from ! (stop !))) (from ! (stop !)) (init ! 12 refl (tt, tt)) $ assigns ! (agg ! (and-then ! (load ! (from ! (stop !)) (look ! 12 refl)) (and-then ! (big-lit ! (record { fits = lit< tt })) (no-more !)))) (from ! (stop !)) (init ! 10 refl (tt, (tt, (record { fits = lit< tt }, tt)))) $
@@ -278,8 +279,8 @@ module _ {M : Type 1} (𝓤 : URA M) (H : Heap 𝓤) (A : Atoms 𝓤) (W : Given
         pick ! (λ vs. split ! $ move ! (1 ∷ []) $ heard ! (Reads is xs k m ys (vs .1 .1 .1 .0)) (λ d. fsplit ! $ drop ! $ fsplit ! $ drop ! $ fsplit ! $ drop ! $ fsplit ! $ move ! (1 ∷ []) $
         drop ! $ fsplit ! $ move ! (1 ∷ []) $ feqL ! (λ same. move ! (1 ∷ []) $ split ! $ move ! (1 ∷ []) $ peeks ! usize (Is usize) (shows 𝓤 H A usize) m (w ∷ []) (λ is-m.
         land ! (from ! (stop !)) (init ! 27 refl (uint-lawful 𝓤 H A W w64 .typed m _ is-m .0)) $ drop ! $ split ! $ move ! (1 ∷ []) $ split ! $ move ! (1 ∷ []) $ split ! $ move ! (1 ∷ []) $
-        drop ! $ move ! (2 ∷ []) $ lft-end ! tt $ move ! (0 ∷ 5 ∷ []) $ use2 W (later (‵ (Row usize l₆ is))) (shr-back usize 𝓤 H A W ν l₆ is) $ await ! tt $ use1 W (‵ (froom iarr l₆ 0)) (room-again usize 𝓤 H A W 4096 l₆ is long) $
-        move ! (2 ∷ []) $ lft-end ! tt $ move ! (0 ∷ 4 ∷ []) $ use2 W (later (‵ (Row f64 l₇ xs))) (shr-back f64 𝓤 H A W ν′ l₇ xs) $ await ! tt $ use1 W (‵ (froom narr l₇ 0)) (room-again f64 𝓤 H A W 32768 l₇ xs wide) $
+        drop ! $ move ! (2 ∷ []) $ lft-end ! tt $ move ! (0 ∷ 5 ∷ []) $ use2 W (later (‵ (Row usize l₆ is))) (shr-back usize 𝓤 H A W ν l₆ is) $ await ! tt $ use1 W (‵ (froom iarr l₆ 0)) (room-again usize 𝓤 H A W cellLimit l₆ is long) $
+        move ! (2 ∷ []) $ lft-end ! tt $ move ! (0 ∷ 4 ∷ []) $ use2 W (later (‵ (Row f64 l₇ xs))) (shr-back f64 𝓤 H A W ν′ l₇ xs) $ await ! tt $ use1 W (‵ (froom narr l₇ 0)) (room-again f64 𝓤 H A W (8 * cellLimit) l₇ xs wide) $
         assigns ! (of-opd ! (load ! (from ! (stop !)) (look ! 30 refl))) (from ! (stop !)) (init ! 44 refl (typed r u is-r)) $ returns ! (look ! 44 refl) $ forget ! 6 refl $ forget ! 8 refl $
         forget ! 10 refl $ forget ! 12 refl $ forget ! 14 refl $ forget ! 16 refl $ forget ! 26 refl $ forget ! 28 refl $ forget ! 30 refl $ forget ! 34 refl $ forget ! 36 refl $
         forget ! 38 refl $ forget ! 40 refl $ forget ! 42 refl $ forget ! 44 refl $ move ! (44 ∷ 45 ∷ []) $ free1 ! $ move ! (42 ∷ 43 ∷ []) $ free1 ! $ move ! (40 ∷ 41 ∷ []) $ free1 ! $
@@ -293,7 +294,7 @@ module _ {M : Type 1} (𝓤 : URA M) (H : Heap 𝓤) (A : Atoms 𝓤) (W : Given
     abbrev Answered : List ℕ → List Float → Val → List (Item 𝓤)
     Answered is xs u = ‵ (Row f64 l₇ xs) ∷ ‵ (Row usize l₆ is) ∷ ‵ Ch ∷ ‵ (flft κ₂ q₂) ∷ ‵ (flft κ₁ q₁) ∷ ‵ (flft κ₀ q₀) ∷ ‵ (froom msl l₂₀ 0) ∷ ‵ (fdies msl l₂₀) ∷ ‵ (froom mref l₁₉ 0) ∷ ‵ (fdies mref l₁₉) ∷ ‵ (froom nshr l₁₈ 0) ∷ ‵ (fdies nshr l₁₈) ∷ ‵ (froom (tyRef erased imm narr) l₁₇ 0) ∷ ‵ (fdies (tyRef erased imm narr) l₁₇) ∷ ‵ (froom ishr l₁₆ 0) ∷ ‵ (fdies ishr l₁₆) ∷ ‵ (froom (tyRef erased imm iarr) l₁₅ 0) ∷ ‵ (fdies (tyRef erased imm iarr) l₁₅) ∷ ‵ (froom nsl l₁₄ 0) ∷ ‵ (fdies nsl l₁₄) ∷ ‵ (froom (tyRef erased mut narr) l₁₃ 0) ∷ ‵ (fdies (tyRef erased mut narr) l₁₃) ∷ ‵ (froom isl l₁₂ 0) ∷ ‵ (fdies isl l₁₂) ∷ ‵ (froom (tyRef erased mut iarr) l₁₁ 0) ∷ ‵ (fdies (tyRef erased mut iarr) l₁₁) ∷ ‵ (froom word l₁₀ 0) ∷ ‵ (fdies word l₁₀) ∷ ‵ (froom word l₉ 0) ∷ ‵ (fdies word l₉) ∷ ‵ (fat fullShare R′.mir l₈ 0 (u)) ∷ ‵ (fdies R′.mir l₈) ∷ ‵ (fdies narr l₇) ∷ ‵ (fdies iarr l₆) ∷ ‵ (fat fullShare slice l₅ 0 (sliceVal (b, o) n)) ∷ ‵ (fdies slice l₅) ∷ ‵ (fat fullShare besides l₄ 0 (sliceVal (v .ptr) (length (now v)))) ∷ ‵ (fdies besides l₄) ∷ ‵ (fat fullShare P′.mir l₃ 0 (kv tool)) ∷ ‵ (fdies P′.mir l₃) ∷ ‵ (fat fullShare stores l₂ 0 (sliceVal (p .ptr) (length (now p)))) ∷ ‵ (fdies stores l₂) ∷ ‵ (fat fullShare S′.mir l₁ 0 (pv stock)) ∷ ‵ (fdies S′.mir l₁) ∷ ‵ (froom R′.mir l₀ 0) ∷ ‵ (fdies R′.mir l₀) ∷ []
 
-    counts : (is : List ℕ) (xs : List Float) → length is ≡ 4096 → length xs ≡ 32768 → (r : Previewed) (u : Val) → Is R.the-row r (u ∷ []) → Holding is xs r → Sq W (Answered is xs u) (runs C Λ En mir.t-9 (atRet En Post))
+    counts : (is : List ℕ) (xs : List Float) → length is ≡ cellLimit → length xs ≡ (8 * cellLimit) → (r : Previewed) (u : Val) → Is R.the-row r (u ∷ []) → Holding is xs r → Sq W (Answered is xs u) (runs C Λ En mir.t-9 (atRet En Post))
     counts is xs long wide r u is-r e =
         use0 W (raw (CountC 𝓤 H A mem run .pre (to-count r u))) (asks-count r u is-r) $ calls-at ! (fmOf 𝓤 H (W .laws) 𝓣) (CountC 𝓤 H A mem run) counting (to-count r u) (and-then ! (load ! (from ! (stop !)) (look ! 31 refl)) (no-more !)) (λ w.
         use1 W (later (some (λ (k : ℕ). (‵ ftrue ⊛ ‵ (usize .own k (w ∷ []))) ⊛ raw (ensured 𝓤 H A c-fn.ended (c-fn.clauses 𝓤 H A mem run) tt (r, tt) tt k)))) (id⊢ 𝓤 _) $ await ! tt $
@@ -305,7 +306,7 @@ module _ {M : Type 1} (𝓤 : URA M) (H : Heap 𝓤) (A : Atoms 𝓤) (W : Given
     abbrev Blank : List ℕ → List Float → List (Item 𝓤)
     Blank is xs = ‵ (Row f64 l₇ xs) ∷ ‵ (Row usize l₆ is) ∷ ‵ (froom msl l₂₀ 0) ∷ ‵ (fdies msl l₂₀) ∷ ‵ (froom mref l₁₉ 0) ∷ ‵ (fdies mref l₁₉) ∷ ‵ (froom nshr l₁₈ 0) ∷ ‵ (fdies nshr l₁₈) ∷ ‵ (froom (tyRef erased imm narr) l₁₇ 0) ∷ ‵ (fdies (tyRef erased imm narr) l₁₇) ∷ ‵ (froom ishr l₁₆ 0) ∷ ‵ (fdies ishr l₁₆) ∷ ‵ (froom (tyRef erased imm iarr) l₁₅ 0) ∷ ‵ (fdies (tyRef erased imm iarr) l₁₅) ∷ ‵ (froom nsl l₁₄ 0) ∷ ‵ (fdies nsl l₁₄) ∷ ‵ (froom (tyRef erased mut narr) l₁₃ 0) ∷ ‵ (fdies (tyRef erased mut narr) l₁₃) ∷ ‵ (froom isl l₁₂ 0) ∷ ‵ (fdies isl l₁₂) ∷ ‵ (froom (tyRef erased mut iarr) l₁₁ 0) ∷ ‵ (fdies (tyRef erased mut iarr) l₁₁) ∷ ‵ (froom word l₁₀ 0) ∷ ‵ (fdies word l₁₀) ∷ ‵ (froom word l₉ 0) ∷ ‵ (fdies word l₉) ∷ ‵ (froom R′.mir l₈ 0) ∷ ‵ (fdies R′.mir l₈) ∷ ‵ (fdies narr l₇) ∷ ‵ (fdies iarr l₆) ∷ ‵ (fat fullShare slice l₅ 0 (sliceVal (b, o) n)) ∷ ‵ (fdies slice l₅) ∷ ‵ (fat fullShare besides l₄ 0 (sliceVal (v .ptr) (length (now v)))) ∷ ‵ (fdies besides l₄) ∷ ‵ (fat fullShare P′.mir l₃ 0 (kv tool)) ∷ ‵ (fdies P′.mir l₃) ∷ ‵ (fat fullShare stores l₂ 0 (sliceVal (p .ptr) (length (now p)))) ∷ ‵ (fdies stores l₂) ∷ ‵ (fat fullShare S′.mir l₁ 0 (pv stock)) ∷ ‵ (fdies S′.mir l₁) ∷ ‵ (froom R′.mir l₀ 0) ∷ ‵ (fdies R′.mir l₀) ∷ (‵ (flft κ₀ q₀) ⊛ (‵ (flft κ₁ q₁) ⊛ (‵ (flft κ₂ q₂) ⊛ ‵ ftrue))) ∷ ‵ (owns (S.the-row ∷ ShrSlice (named 0) κ₀ f64 ∷ P.the-row ∷ ShrSlice (named 1) κ₁ f64 ∷ MutSlice (named 2) κ₂ T.the-row ∷ []) (stock, (p, (tool, (v, (s, tt))))) at) ∷ []
 
-    lends : (is : List ℕ) (xs : List Float) → length is ≡ 4096 → length xs ≡ 32768 → Sq W (Blank is xs) (runs C Λ En mir.t-3 (atRet En Post))
+    lends : (is : List ℕ) (xs : List Float) → length is ≡ cellLimit → length xs ≡ (8 * cellLimit) → Sq W (Blank is xs) (runs C Λ En mir.t-3 (atRet En Post))
     lends is xs long wide =
         assigns ! (of-opd ! (load ! (from ! (fld ! refl (stop !))) (look-in ! 30 (sub ! 1 refl (whole !))))) (from ! (stop !)) (init ! 22 refl (tt, record { fits = gn .0 })) $ assigns ! (addr ! (from ! (stop !))) (from ! (stop !)) (init ! 20 refl (tt, tt)) $
         assigns ! (agg ! (and-then ! (load ! (from ! (stop !)) (look ! 20 refl)) (and-then ! (big-lit ! (record { fits = lit< tt })) (no-more !)))) (from ! (stop !)) (init ! 18 refl (tt, (tt, (record { fits = lit< tt }, tt)))) $
@@ -336,9 +337,9 @@ module _ {M : Type 1} (𝓤 : URA M) (H : Heap 𝓤) (A : Atoms 𝓤) (W : Given
 
     starts : Sq W Entered (runs C Λ En mir.t-1 (atRet En Post))
     starts =
-        assigns ! (rep ! 4096 (lit ! tt)) (from ! (stop !)) (init ! 28 refl (blank-typed usize 𝓤 H A W (uint-lawful 𝓤 H A W w64) 0 (vint w64 0) zero-is 4096)) $ assigns ! (rep ! 32768 (float-lit ! tt)) (from ! (stop !)) (init ! 26 refl (blank-typed f64 𝓤 H A W (float-lawful 𝓤 H A W binary64) zero64 (vfloat binary64 zero64) none-is 32768)) $
-        move ! (28 ∷ []) $ use1 W (some (λ (is : List ℕ). ‵ (Parts usize l₆ 4096 is))) (blank usize 𝓤 H A W tt (uint-makes 𝓤 H A W w64) 0 (vint w64 0) zero-is 4096 l₆) $ pick ! (λ is.
-        fsplit ! $ feqL ! (λ long. move ! (27 ∷ []) $ use1 W (some (λ (xs : List Float). ‵ (Parts f64 l₇ 32768 xs))) (blank f64 𝓤 H A W tt (float-makes 𝓤 H A W binary64) zero64 (vfloat binary64 zero64) none-is 32768 l₇) $
+        assigns ! (rep ! cellLimit (lit ! tt)) (from ! (stop !)) (init ! 28 refl (blank-typed usize 𝓤 H A W (uint-lawful 𝓤 H A W w64) 0 (vint w64 0) zero-is cellLimit)) $ assigns ! (rep ! (8 * cellLimit) (float-lit ! tt)) (from ! (stop !)) (init ! 26 refl (blank-typed f64 𝓤 H A W (float-lawful 𝓤 H A W binary64) zero64 (vfloat binary64 zero64) none-is (8 * cellLimit))) $
+        move ! (28 ∷ []) $ use1 W (some (λ (is : List ℕ). ‵ (Parts usize l₆ cellLimit is))) (blank usize 𝓤 H A W tt (uint-makes 𝓤 H A W w64) 0 (vint w64 0) zero-is cellLimit l₆) $ pick ! (λ is.
+        fsplit ! $ feqL ! (λ long. move ! (27 ∷ []) $ use1 W (some (λ (xs : List Float). ‵ (Parts f64 l₇ (8 * cellLimit) xs))) (blank f64 𝓤 H A W tt (float-makes 𝓤 H A W binary64) zero64 (vfloat binary64 zero64) none-is (8 * cellLimit) l₇) $
         pick ! (λ xs. fsplit ! $ feqL ! (λ wide.
         -- [the numbers; the indices; the locals; the tokens; what the arguments own]
         lends is xs long wide))))

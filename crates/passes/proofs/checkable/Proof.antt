@@ -6,7 +6,7 @@ use Rattle.refusals.specs.Number.{reasonOf}
 use Rattle.stock.specs.declared.TurnStockSpec.{TurnStockSpec}
 use Rattle.stock.specs.Spec.{countedPaper}
 use Rattle.blocks.specs.Block.{matchesOf}
-use Rattle.passes.proofs.Verdicts.{asks-refused, cells-few, asks-room, asks-unmatched, asks-count, asks-lists, asks-is}
+use Rattle.passes.proofs.Verdicts.{asks-refused, asks-room, asks-unmatched, asks-count, asks-lists, asks-is}
 use borrow.Author.Needs.{needs}
 use Rattle.passes.proofs.checkable.Statement.{statement}
 use Rattle.passes.proofs.checkable.Tie as tie
@@ -30,12 +30,6 @@ returns-3 c =
     let told = c .before .before .before .before .before .before .counted2 .given in
     let m = ap (λ (s : TurnStockSpec). matchesOf s (told .0 .0) (a .cells .now) (a .blocks .now)) (sym (c .before .before .before .clean-spec .ensures)) ∙ sym (c .before .before .matches .ensures) ∙ not-false _ (c .before .if2 .left) in
     sym (asks-count (a .spec) (a .cells .now) (a .blocks .now) (a .targets .now) (a .kinds .now) (a .room) (a .numbers) (told .0 .0) (sym (c .before .before .before .before .before .before .before .before .cells-fit .ensures) ∙ ap countedPaper (told .1)) (c .before .before .before .before .if1 .left) m (c .if3 .taken))
-
-are-good-requires-2 : tie.Need-are-good-requires-2
-are-good-requires-2 c κs =
-    let a = c .before .before .before .before .before .before .before .before .before .before .before .before .before .before .args in
-    let told = c .before .before .before .before .before .before .before .counted2 .given in
-    cells-few (a .spec) (a .cells .now) (a .blocks .now) (a .targets .now) (a .kinds .now) (a .room) (a .numbers) (told .0 .0) (sym (c .before .before .before .before .before .before .before .before .before .cells-fit .ensures) ∙ ap countedPaper (told .1))
 
 returns-4 : tie.Need-returns-4
 returns-4 c =
@@ -70,7 +64,7 @@ checkable-spec =
     returns-2
     returns-3
     (λ c κs. search needs)
-    are-good-requires-2
+    (λ c κs. search needs)
     returns-4
     returns-5
     returns-6)

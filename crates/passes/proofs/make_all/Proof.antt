@@ -1,74 +1,20 @@
 -- `passes::make_all` meets its contract. Assumes nothing.
-use mathlib.Core.Path.{_≡_, refl, ap}
-use Prim.Native.Nat.{_≤_, _-_}
 use native.Mathlib.Omega.{arith}
-use lib.ListN.{length}
-use Rattle.refusals.specs.Number.{reasonOf, reasonAt}
-use Rattle.changes.specs.Commit.{appliedPaper}
-use Rattle.passes.specs.Cuts.{passLimit, cutsOf}
-use Rattle.passes.proofs.InTurn.{Stand, stands, stands-on, stands-no-more, stands-last}
 use borrow.Author.Needs.{needs}
 use Rattle.passes.proofs.make_all.Statement.{statement}
 use Rattle.passes.proofs.make_all.Tie as tie
 
-abbrev Inv-loop : tie.InvT-loop
-Inv-loop after₀ kinds numbers parts lists indices₀ records₀ s₀ k₀ after indices records s k =
-    (k ≤ length kinds) × (length kinds ≤ passLimit) × (length after ≡ length after₀) × (length indices ≡ 4096) × (length records ≡ 32768) × Stand s₀ (cutsOf kinds numbers parts lists) after₀ k s after
-
-abbrev μ-loop : tie.MeasureT-loop
-μ-loop after₀ kinds numbers parts lists indices₀ records₀ s₀ k₀ after indices records s k =
-    length kinds - k
-
-loop-holds : tie.Need-loop-holds Inv-loop μ-loop
-loop-holds c =
-    (search needs, search needs, search needs, refl, refl, stands _ _ _)
-
-make-at-requires : tie.Need-make-at-requires Inv-loop μ-loop
-make-at-requires c κs =
-    omega arith
-
-returns : tie.Need-returns Inv-loop μ-loop
-returns c =
-    let told = c .before .applied .given in
-    let a = c .before .before .before .before .before .before .before .before .before .before .before .before .before .before .before .before .before .before .args in
-    stands-no-more _ (cutsOf (a .kinds .now) (a .numbers .now) (a .parts .now) (a .lists .now)) (a .after .now) (c .before .before .before .before .before .before .before .before .before .before .before .before .loop .k) (c .before .before .before .before .before .before .before .before .before .before .before .before .loop .s) (c .before .before .before .before .before .before .before .before .before .before .before .before .loop .after) (c .before .before .before .before .before .before .before .before .before .before .before .before .loop .inv .5) _ (reasonOf (told .0 .0)) (told .0 .0) _ (length (a .kinds .now)) (c .before .before .before .before .before .before .before .before .before .before .before .loop-test .taken) (c .before .before .before .before .before .before .before .make-at .ensures) (ap appliedPaper (told .1)) refl
-
-returns-2 : tie.Need-returns-2 Inv-loop μ-loop
-returns-2 c =
-    let told = c .before .applied2 .given in
-    let a = c .before .before .before .before .before .before .before .before .before .before .before .before .before .before .before .before .before .before .args in
-    stands-no-more _ (cutsOf (a .kinds .now) (a .numbers .now) (a .parts .now) (a .lists .now)) (a .after .now) (c .before .before .before .before .before .before .before .before .before .before .before .before .loop .k) (c .before .before .before .before .before .before .before .before .before .before .before .before .loop .s) (c .before .before .before .before .before .before .before .before .before .before .before .before .loop .after) (c .before .before .before .before .before .before .before .before .before .before .before .before .loop .inv .5) _ (reasonAt (told .0 .0) (told .0 .1 .0)) (told .0 .0) _ (length (a .kinds .now)) (c .before .before .before .before .before .before .before .before .before .before .before .loop-test .taken) (c .before .before .before .before .before .before .before .make-at .ensures) (ap appliedPaper (told .1)) refl
-
-loop-again : tie.Need-loop-again Inv-loop μ-loop
-loop-again c =
-    let a = c .before .before .before .before .before .before .before .before .before .before .before .before .before .before .before .before .before .before .args in
-    (search needs, search needs, search needs, search needs, search needs, stands-on _ (cutsOf (a .kinds .now) (a .numbers .now) (a .parts .now) (a .lists .now)) (a .after .now) (c .before .before .before .before .before .before .before .before .before .before .before .before .loop .k) (c .before .before .before .before .before .before .before .before .before .before .before .before .loop .s) (c .before .before .before .before .before .before .before .before .before .before .before .before .loop .after) (c .before .before .before .before .before .before .before .before .before .before .before .before .loop .inv .5) _ _ _ (c .before .before .before .before .before .before .before .make-at .ensures) (c .before .applied3 .given .1))
-
-returns-3 : tie.Need-returns-3 Inv-loop μ-loop
-returns-3 c =
-    let a = c .before .before .before .before .before .before .before .args in
-    let e : c .before .loop .k ≡ length (a .kinds .now) = omega arith in
-    stands-last _ (cutsOf (a .kinds .now) (a .numbers .now) (a .parts .now) (a .lists .now)) (a .after .now) (c .before .loop .k) (c .before .loop .s) (c .before .loop .after) (c .before .loop .inv .5) (length (a .kinds .now)) e
+make-many-requires : tie.Need-make-many-requires
+make-many-requires c κs = (c .before .before .before .before .before .before .before .pre, omega arith)
 
 pub make-all-spec : {M : Type 1} → statement M
 make-all-spec =
     tie.close
     (tie.spec
-    Inv-loop
-    μ-loop
-    loop-holds
     (λ c. search needs)
+    make-many-requires
     (λ c. search needs)
-    make-at-requires
+    (λ c. c .before .before .make-many .ensures)
+    (λ c κs. search needs)
     (λ c. search needs)
-    (λ c. search needs)
-    returns
-    (λ c. search needs)
-    (λ c. search needs)
-    returns-2
-    (λ c. search needs)
-    (λ c. search needs)
-    (λ c. search needs)
-    loop-again
-    (λ c. search needs)
-    returns-3)
+    (λ c. c .before .before .make-most .ensures))

@@ -3,13 +3,16 @@ use native.Mathlib.Omega.{arith}
 use mathlib.Core.Path.{_≡_, refl, _∙_, ap}
 use Prim.Native.Nat.{_≤_, _<_, _-_, _/_, _^_}
 use lib.ListN.{length}
-use Rattle.refusals.specs.Number.{reasonOf, reasonAt}
+use Rattle.refusals.specs.Number.{reasonOf}
 use Rattle.rings.specs.declared.StoredAs.the-variants as stored
 use Rattle.rings.specs.Ring.{clip}
 use Rattle.rings.specs.Store.{ringsOf}
 use Rattle.rings.specs.Remove.{storedPaper}
 use Rattle.rings.proofs.Adding.{Adding, adding-start, adding-step, adding-refused}
 use Rattle.rings.proofs.Removing.{all-refuses-4, all-none, all-one, all-refused, all-stored}
+use Rattle.rings.specs.declared.Added.{Added}
+use Rattle.rings.specs.Counted.{storedBy}
+use Rattle.rings.proofs.Adding.{stores-by}
 use borrow.Author.Needs.{needs}
 use Rattle.rings.proofs.remove_all_in.Statement.{statement}
 use Rattle.rings.proofs.remove_all_in.Tie as tie
@@ -43,10 +46,10 @@ add-ring-requires c κs =
 
 returns-3 : tie.Need-returns-3 Inv-loop μ-loop
 returns-3 c =
-    let start = c .before .before .before .before .before .before .before .before .before .before .before .before in
-    let room-of = c .before .before .before .before .before .before .before .before .before .room-of in
-    let clipped = c .before .before .before .clipped in
-    all-one (start .args .e) (start .args .rings .now) (start .args .count) (start .args .removed .now) (room-of .result) (room-of .ensures) (c .before .before .before .before .before .before .before .before .if1 .left) _ (clipped .result) refl (c .before .before .before .before .before .before .if3 .taken) (clipped .ensures ∙ ap (clip (start .args .e)) (c .before .before .before .before .ring-at .ensures)) (c .before .before .add-ring .ensures)
+    let start = c .before .before .before .before .before .before .before .before .before .before .before .before .before in
+    let room-of = c .before .before .before .before .before .before .before .before .before .before .room-of in
+    let clipped = c .before .before .before .before .before .clipped in
+    all-one (start .args .e) (start .args .rings .now) (start .args .count) (start .args .removed .now) (room-of .result) (room-of .ensures) (c .before .before .before .before .before .before .before .before .before .if1 .left) _ (clipped .result) refl (c .before .before .before .before .before .before .before .if3 .taken) (clipped .ensures ∙ ap (clip (start .args .e)) (c .before .before .before .before .before .before .ring-at .ensures)) (stores-by (c .stored-by .result) (c .stored-by .ensures) (c .before .before .before .add-ring .ensures))
 
 copy-rings-requires : tie.Need-copy-rings-requires Inv-loop μ-loop
 copy-rings-requires c κs =
@@ -74,16 +77,8 @@ returns-4 c =
     let loop = c .before .before .before .before .before .before .before .before .before .loop in
     let clipped2 = c .before .before .before .before .before .before .clipped2 in
     let add-ring2 = c .before .before .before .before .add-ring2 in
-    all-refused (start .args .e) (start .args .rings .now) (start .args .count) (start .args .removed .now) (room-of .result) (room-of .ensures) (c .before .before .before .before .before .before .before .before .before .before .before .before .before .before .before .before .if1 .left) (reasonOf (c .before .one2 .given .0 .0)) (stored.Refused (c .before .one2 .given .0 .0)) refl (adding-refused (start .args .e) (room-of .result) (ringsOf (start .args .count) (start .args .rings .now)) (start .args .removed .now) (loop .i) (loop .work) (loop .n) (loop .inv .1) (clipped2 .result) (clipped2 .ensures ∙ ap (clip (start .args .e)) (c .before .before .before .before .before .before .before .ring-at2 .ensures)) _ (add-ring2 .result) (add-ring2 .ensures) (reasonOf (c .before .one2 .given .0 .0)) _ (ap storedPaper (c .before .one2 .given .1)) (c .before .before .before .before .before .before .before .before .loop-test .taken))
-
-returns-5 : tie.Need-returns-5 Inv-loop μ-loop
-returns-5 c =
-    let start = c .before .before .before .before .before .before .before .before .before .before .before .before .before .before .before .before .before .before .before .before in
-    let room-of = c .before .before .before .before .before .before .before .before .before .before .before .before .before .before .before .before .before .room-of in
-    let loop = c .before .before .before .before .before .before .before .before .before .loop in
-    let clipped2 = c .before .before .before .before .before .before .clipped2 in
-    let add-ring2 = c .before .before .before .before .add-ring2 in
-    all-refused (start .args .e) (start .args .rings .now) (start .args .count) (start .args .removed .now) (room-of .result) (room-of .ensures) (c .before .before .before .before .before .before .before .before .before .before .before .before .before .before .before .before .if1 .left) (reasonAt (c .before .one3 .given .0 .0) (c .before .one3 .given .0 .1 .0)) (stored.RefusedAt (c .before .one3 .given .0 .0) (c .before .one3 .given .0 .1 .0)) refl (adding-refused (start .args .e) (room-of .result) (ringsOf (start .args .count) (start .args .rings .now)) (start .args .removed .now) (loop .i) (loop .work) (loop .n) (loop .inv .1) (clipped2 .result) (clipped2 .ensures ∙ ap (clip (start .args .e)) (c .before .before .before .before .before .before .before .ring-at2 .ensures)) _ (add-ring2 .result) (add-ring2 .ensures) (reasonAt (c .before .one3 .given .0 .0) (c .before .one3 .given .0 .1 .0)) _ (ap storedPaper (c .before .one3 .given .1)) (c .before .before .before .before .before .before .before .before .loop-test .taken))
+    let x = c .before .one2 .given .0 .0 in
+    all-refused (start .args .e) (start .args .rings .now) (start .args .count) (start .args .removed .now) (room-of .result) (room-of .ensures) (c .before .before .before .before .before .before .before .before .before .before .before .before .before .before .before .before .if1 .left) (reasonOf x) (stored.Refused x) refl (adding-refused (start .args .e) (room-of .result) (ringsOf (start .args .count) (start .args .rings .now)) (start .args .removed .now) (loop .i) (loop .work) (loop .n) (loop .inv .1) (clipped2 .result) (clipped2 .ensures ∙ ap (clip (start .args .e)) (c .before .before .before .before .before .before .before .ring-at2 .ensures)) _ (storedBy (add-ring2 .result)) (add-ring2 .ensures .stores) (reasonOf x) _ (ap (λ (a : Added). storedPaper (storedBy a)) (c .before .one2 .given .1)) (c .before .before .before .before .before .before .before .before .loop-test .taken))
 
 add-i : tie.Need-add-i Inv-loop μ-loop
 add-i c = omega (arith, few (c .before .before .before .before .before .before .before .before .before .before .before .before .before .before .before .before .before .before .before .before), c .before .before .before .before .before .before .before .before .loop-test .taken)
@@ -94,7 +89,7 @@ loop-again c =
     let loop = c .before .before .before .before .before .before .before .before .before .loop in
     let clipped2 = c .before .before .before .before .before .before .clipped2 in
     let add-ring2 = c .before .before .before .before .add-ring2 in
-    (omega arith, adding-step (start .args .e) (c .before .before .before .before .before .before .before .before .before .before .before .before .before .before .before .before .before .room-of .result) (ringsOf (start .args .count) (start .args .rings .now)) (start .args .removed .now) (loop .i) (loop .work) (loop .n) (loop .inv .1) (clipped2 .result) (clipped2 .ensures ∙ ap (clip (start .args .e)) (c .before .before .before .before .before .before .before .ring-at2 .ensures)) _ (add-ring2 .result) (add-ring2 .ensures) (c .before .one .given .0 .0) (c .before .one .given .1) (add-ring2 .kept .0))
+    (omega arith, adding-step (start .args .e) (c .before .before .before .before .before .before .before .before .before .before .before .before .before .before .before .before .before .room-of .result) (ringsOf (start .args .count) (start .args .rings .now)) (start .args .removed .now) (loop .i) (loop .work) (loop .n) (loop .inv .1) (clipped2 .result) (clipped2 .ensures ∙ ap (clip (start .args .e)) (c .before .before .before .before .before .before .before .ring-at2 .ensures)) _ (storedBy (add-ring2 .result)) (add-ring2 .ensures .stores) (c .before .one .given .0 .0) (ap storedBy (c .before .one .given .1)) (add-ring2 .kept .0))
 
 copy-rings-requires-2 : tie.Need-copy-rings-requires-2 Inv-loop μ-loop
 copy-rings-requires-2 c κs =
@@ -104,8 +99,8 @@ copy-rings-requires-2 c κs =
     let w = loop .inv .1 .within in
     (omega arith, omega arith)
 
-returns-6 : tie.Need-returns-6 Inv-loop μ-loop
-returns-6 c =
+returns-5 : tie.Need-returns-5 Inv-loop μ-loop
+returns-5 c =
     let loop = c .before .before .before .before .before .before .loop in
     let start = c .before .before .before .before .before .before .before .before .before .before .before .before .before .before .before .before .before in
     let room-of = c .before .before .before .before .before .before .before .before .before .before .before .before .before .before .room-of in
@@ -124,6 +119,7 @@ remove-all-in-spec =
     (λ c κs. omega arith)
     (λ c κs. search needs)
     add-ring-requires
+    (λ c κs. search needs)
     (λ c. search needs)
     returns-3
     (λ c. search needs)
@@ -137,13 +133,10 @@ remove-all-in-spec =
     (λ c. search needs)
     (λ c. search needs)
     returns-4
-    (λ c. search needs)
-    (λ c. search needs)
-    returns-5
     add-i
     (λ c. omega arith)
     loop-again
     (λ c. search needs)
     copy-rings-requires-2
     (λ c. search needs)
-    returns-6)
+    returns-5)

@@ -26,4 +26,5 @@ main-spec =
     (λ c. search needs)
     (λ c. search needs)
     (λ c. tt)
+    (λ c κs. search needs)
     (λ c. tt))

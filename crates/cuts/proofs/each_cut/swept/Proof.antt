@@ -8,14 +8,13 @@ use Rattle.cuts.proofs.each_cut.swept.Tie as tie
 swept-over-requires : tie.Need-swept-over-requires
 swept-over-requires c κs =
     let p = c .before .before .before .before .before .before .before .before .before .pre in
-    let few = p .0 .few in
-    (p, fresh-room 1024 _ _ (omega arith), fresh-empty 1024 _ _ (omega arith))
+    (p .0, fresh-room 1024 _ _ (omega arith), fresh-empty 1024 _ _ (omega arith))
 
 swept-over-requires-2 : tie.Need-swept-over-requires-2
 swept-over-requires-2 c κs =
     let p = c .before .before .before .before .before .before .before .before .before .pre in
-    let few = p .0 .few in
-    (p, fresh-room 8192 _ _ (omega arith), fresh-empty 8192 _ _ (omega arith))
+    let many = p .1 in
+    (p .0, fresh-room 8192 _ _ (omega arith), fresh-empty 8192 _ _ (omega arith))
 
 pub swept-spec : {M : Type 1} → statement M
 swept-spec =

@@ -10,15 +10,15 @@ use Rattle.job_run.proofs.line.take_ring.Tie as tie
 returns : tie.Need-returns
 returns c =
     let told = c .before .removed .given in
-    ring-refused _ _ _ _ _ (c .before .before .before .before .before .remove-ring .ensures) (told .0 .0) (reasonOf (told .0 .0)) refl (ap removedPaper (told .1))
+    ring-refused _ _ _ _ _ _ (c .before .before .before .before .before .remove-ring .ensures) (told .0 .0) (reasonOf (told .0 .0)) refl (ap removedPaper (told .1))
 
 returns-2 : tie.Need-returns-2
 returns-2 c =
     let told = c .before .removed2 .given in
-    ring-refused _ _ _ _ _ (c .before .before .before .before .before .remove-ring .ensures) (told .0 .0) (reasonAt (told .0 .0) (told .0 .1 .0)) refl (ap removedPaper (told .1))
+    ring-refused _ _ _ _ _ _ (c .before .before .before .before .before .remove-ring .ensures) (told .0 .0) (reasonAt (told .0 .0) (told .0 .1 .0)) refl (ap removedPaper (told .1))
 
 returns-3 : tie.Need-returns-3
-returns-3 c = ring-went _ _ _ _ _ (c .before .before .before .before .before .remove-ring .ensures) _ (c .before .removed3 .given .1)
+returns-3 c = ring-went _ _ _ _ _ _ (c .before .before .before .before .before .remove-ring .ensures) _ _ (c .before .removed3 .given .1)
 
 pub take-ring-spec : {M : Type 1} → statement M
 take-ring-spec =

@@ -10,14 +10,14 @@ use Rattle.passes.proofs.propose.propose.Tie as tie
 
 returns : tie.Need-returns
 returns c =
-    left _ _ _ _ _ (of-targets _ _ _ _ _ (c .before .before .before .counted2 .given .0 .0) (sym (c .before .before .before .before .before .cells-fit .ensures) ∙ ap countedPaper (c .before .before .before .counted2 .given .1)) (sym (c .before .targets-good .ensures) ∙ not-true _ (c .if1 .taken)))
+    left _ _ _ _ _ (of-targets _ _ _ _ _ (c .before .before .before .counted2 .given .0 .0) (sym (c .before .before .before .before .before .cells-fit .ensures) ∙ ap countedPaper (c .before .before .before .counted2 .given .1)) (sym (c .before .are-good .ensures) ∙ not-true _ (c .if1 .taken)))
 
 returns-2 : tie.Need-returns-2
 returns-2 c =
-    left _ _ _ _ _ (of-nose _ _ _ _ _ (c .before .before .before .before .before .before .counted2 .given .0 .0) (sym (c .before .before .before .before .before .before .before .before .cells-fit .ensures) ∙ ap countedPaper (c .before .before .before .before .before .before .counted2 .given .1)) (sym (c .before .before .before .before .targets-good .ensures) ∙ not-false _ (c .before .before .before .if1 .left)) (nose-test _ _ _ _ (c .before .before .clean .ensures) (c .before .is-usable .ensures) (not-true _ (c .if2 .taken))))
+    left _ _ _ _ _ (of-nose _ _ _ _ _ (c .before .before .before .before .before .before .counted2 .given .0 .0) (sym (c .before .before .before .before .before .before .before .before .cells-fit .ensures) ∙ ap countedPaper (c .before .before .before .before .before .before .counted2 .given .1)) (sym (c .before .before .before .before .are-good .ensures) ∙ not-false _ (c .before .before .before .if1 .left)) (nose-test _ _ _ _ (c .before .before .clean .ensures) (c .before .is-usable .ensures) (not-true _ (c .if2 .taken))))
 
 write-passes-requires : tie.Need-write-passes-requires
-write-passes-requires c κs = targets-reach (c .before .before .before .before .before .before .before .before .before .before .before .before .before .before .before .before .before .before .args .targets .now) (c .before .before .before .before .before .before .before .before .before .before .counted2 .given .0 .0) (sym (c .before .before .before .before .before .before .before .before .targets-good .ensures) ∙ not-false _ (c .before .before .before .before .before .before .before .if1 .left))
+write-passes-requires c κs = targets-reach (c .before .before .before .before .before .before .before .before .before .before .before .before .before .before .before .before .before .before .args .targets .now) (c .before .before .before .before .before .before .before .before .before .before .counted2 .given .0 .0) (sym (c .before .before .before .before .before .before .before .before .are-good .ensures) ∙ not-false _ (c .before .before .before .before .before .before .before .if1 .left))
 
 returns-3 : tie.Need-returns-3
 returns-3 c =
@@ -27,7 +27,7 @@ returns-3 c =
 returns-4 : tie.Need-returns-4
 returns-4 c =
     proposed _ _ _ _ _ _ _ _ _
-    (of-all _ _ _ _ _ (c .before .before .before .before .before .before .before .before .before .before .before .before .before .before .before .before .before .counted2 .given .0 .0) (sym (c .before .before .before .before .before .before .before .before .before .before .before .before .before .before .before .before .before .before .before .cells-fit .ensures) ∙ ap countedPaper (c .before .before .before .before .before .before .before .before .before .before .before .before .before .before .before .before .before .counted2 .given .1)) _ _ (sym (c .before .before .before .before .before .before .before .before .before .before .before .before .before .before .before .targets-good .ensures) ∙ not-false _ (c .before .before .before .before .before .before .before .before .before .before .before .before .before .before .if1 .left)) (nose-test _ _ _ _ (c .before .before .before .before .before .before .before .before .before .before .before .before .before .clean .ensures) (c .before .before .before .before .before .before .before .before .before .before .before .before .is-usable .ensures) (not-false _ (c .before .before .before .before .before .before .before .before .before .before .before .if2 .left))) (c .before .before .before .before .before .before .before .before .before .before .clean-spec .ensures) (c .before .before .before .before .before .before .before .before .before .before .before .before .before .clean .ensures))
+    (of-all _ _ _ _ _ (c .before .before .before .before .before .before .before .before .before .before .before .before .before .before .before .before .before .counted2 .given .0 .0) (sym (c .before .before .before .before .before .before .before .before .before .before .before .before .before .before .before .before .before .before .before .cells-fit .ensures) ∙ ap countedPaper (c .before .before .before .before .before .before .before .before .before .before .before .before .before .before .before .before .before .counted2 .given .1)) _ _ (sym (c .before .before .before .before .before .before .before .before .before .before .before .before .before .before .before .are-good .ensures) ∙ not-false _ (c .before .before .before .before .before .before .before .before .before .before .before .before .before .before .if1 .left)) (nose-test _ _ _ _ (c .before .before .before .before .before .before .before .before .before .before .before .before .before .clean .ensures) (c .before .before .before .before .before .before .before .before .before .before .before .before .is-usable .ensures) (not-false _ (c .before .before .before .before .before .before .before .before .before .before .before .if2 .left))) (c .before .before .before .before .before .before .before .before .before .before .clean-spec .ensures) (c .before .before .before .before .before .before .before .before .before .before .before .before .before .clean .ensures))
     (c .before .before .before .before .before .before .write-passes .ensures)
 
 pub propose-spec : {M : Type 1} → statement M

@@ -44,7 +44,7 @@ returns-4 c =
     let a = v .before .before .before .before .args in
     let n = t .before .before .before .before .counted2 .given .0 .0 in
     line-told _ _ _ _ _ (for-line (a .stock) (a .cells .now) (a .rings .now) (a .k) _ (sym (v .validate .ensures) ∙ ap countedPaper (t .before .before .before .before .counted2 .given .1)) (t .before .before .if1 .left) (subst (λ (x : ℕ). a .stock .rings ≤ x) (t .before .lesser .ensures) (t .if2 .left)))
-    (reline (ap (λ (b : Bar). lineAt (opening writtenForm (a .stock .stamp .edition) b) (a .cells .now) n (a .rings .now) (a .stock .rings) (a .k)) (c .before .bar-of .ensures)) (c .put-line .ensures))
+    (reline (ap (λ (b : Bar). lineAt (opening (writtenForm n) (a .stock .stamp .edition) b) (a .cells .now) n (a .rings .now) (a .stock .rings) (a .k)) (c .before .bar-of .ensures)) (c .put-line .ensures))
 
 pub file-line-spec : {M : Type 1} → statement M
 file-line-spec = tie.close (tie.spec (λ c κs. search needs) (λ c. search needs) (λ c. search needs) mul-if1 returns (λ c κs. search needs) returns-2 (λ c κs. search needs) (λ c κs. search needs) returns-3 returns-4)

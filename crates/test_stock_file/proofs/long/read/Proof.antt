@@ -8,10 +8,10 @@ use Rattle.test_stock_file.proofs.long.read.Statement.{statement}
 use Rattle.test_stock_file.proofs.long.read.Tie as tie
 
 abbrev Inv-loop : tie.InvT-loop
-Inv-loop long cells₀ rings₀ line₀ t₀ k₀ cells rings line t k = (length cells ≡ length cells₀) × (length rings ≡ length rings₀)
+Inv-loop long cells₀ rings₀ line₀ t₀ count k₀ cells rings line t k = (length cells ≡ length cells₀) × (length rings ≡ length rings₀)
 
 abbrev μ-loop : tie.MeasureT-loop
-μ-loop long cells₀ rings₀ line₀ t₀ k₀ cells rings line t k = 10300 - k
+μ-loop long cells₀ rings₀ line₀ t₀ count k₀ cells rings line t k = count - k
 
 pub read-spec : {M : Type 1} → statement M
 read-spec =
@@ -19,6 +19,7 @@ read-spec =
     (tie.spec
     Inv-loop
     μ-loop
+    (λ c κs. search needs)
     (λ c κs. search needs)
     (λ c. search needs)
     (λ c κs. search needs)

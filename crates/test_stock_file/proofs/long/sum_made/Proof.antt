@@ -6,10 +6,10 @@ use Rattle.test_stock_file.proofs.long.sum_made.Statement.{statement}
 use Rattle.test_stock_file.proofs.long.sum_made.Tie as tie
 
 abbrev Inv-loop : tie.InvT-loop
-Inv-loop long s₀ k₀ s k = Unit {0}
+Inv-loop long count s₀ k₀ s k = Unit {0}
 
 abbrev μ-loop : tie.MeasureT-loop
-μ-loop long s₀ k₀ s k = 10300 - k
+μ-loop long count s₀ k₀ s k = count - k
 
 pub sum-made-spec : {M : Type 1} → statement M
 sum-made-spec =
@@ -17,6 +17,7 @@ sum-made-spec =
     (tie.spec
     Inv-loop
     μ-loop
+    (λ c κs. search needs)
     (λ c. tt)
     (λ c κs. search needs)
     (λ c. omega arith)

@@ -9,11 +9,9 @@ use Rattle.turning.proofs.rings_c.turning_apply_move.Tie as tie
 
 returns : tie.Need-returns
 returns c =
-    let b = c .before .before .before .before .before .before .before .before .before .before in
-    let s = b .before .before .before .before .before in
-    let a = s .before .before .before .before .before .before .before .before .before .before .args in
-    gives-move _ _ _ _ _ _ _ _ _ _ _ _ _ _ _ _ (c .give-moved .ensures)
-    (same-move _ _ _ _ (λ (x : TurnStock) (l : ChangeList). moveOf x (a .cells .now) (a .blocks .now) (a .rings .now) l (a .indices .now) (a .records .now) (a .removed .now)) _ _ _ _ _ _ _ (same-stock _ _ _ _ _ _ (s .stock-of .ensures) (s .before .before .before .spec-of .ensures)) (b .before .before .before .before .list-of .ensures) (b .apply-move .ensures))
+    let a = c .before .before .before .before .before .before .before .before .before .before .before .before .before .before .before .before .before .before .before .before .before .before .before .before .before .before .before .before .before .args in
+    gives-move _ _ _ _ _ _ _ _ _ _ (a .removed .now) _ _ _ _ _ _ _ _ (c .give-moved .ensures)
+    (same-move _ _ _ _ (λ (x : TurnStock) (l : ChangeList). moveOf x (a .cells .now) (a .blocks .now) (a .rings .now) l (a .indices .now) (a .records .now) (a .removed .now)) (a .removed .now) _ _ _ _ _ _ _ _ _ (same-stock _ _ _ _ _ _ (c .before .before .before .before .before .before .before .before .before .before .before .before .before .before .before .before .before .before .stock-of .ensures) (c .before .before .before .before .before .before .before .before .before .before .before .before .before .before .before .before .before .before .before .before .before .spec-of .ensures)) (c .before .before .before .before .before .before .before .before .before .before .before .before .before .before .before .before .before .list-of .ensures) (c .before .before .before .before .before .before .before .before .before .before .before .before .apply-move .ensures))
 
 pub turning-apply-move-spec : {M : Type 1} → statement M
 turning-apply-move-spec =
@@ -24,6 +22,7 @@ turning-apply-move-spec =
     (λ c κs. search needs)
     (λ c κs. search needs)
     (λ c κs. search needs)
+    (λ c. search needs)
     (λ c. search needs)
     (λ c. search needs)
     (λ c. search needs)

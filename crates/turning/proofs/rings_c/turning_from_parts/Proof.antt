@@ -6,10 +6,8 @@ use Rattle.turning.proofs.rings_c.turning_from_parts.Tie as tie
 
 returns : tie.Need-returns
 returns c =
-    let b = c .before .before .before .before .before .before .before .before in
-    let s = b .before .before .before in
-    let a = s .before .before .before .before .before .args in
-    gives-store _ _ _ _ _ _ _ _ _ _ _ _ _ _ _ _ (c .give-rebuilt .ensures) (same-store _ _ _ (a .cells .now) (a .given .now) _ _ _ _ _ (s .spec-of .ensures) (b .from-parts .ensures))
+    let a = c .before .before .before .before .before .before .before .before .before .before .before .before .before .before .before .before .before .before .before .before .args in
+    gives-store _ _ _ _ _ _ _ _ _ _ (a .given .now) _ _ _ _ _ _ _ _ (c .give-rebuilt .ensures) (same-store _ _ _ (a .cells .now) (a .given .now) _ _ _ _ _ _ _ (c .before .before .before .before .before .before .before .before .before .before .before .before .before .before .spec-of .ensures) (c .before .before .before .before .before .before .before .before .before .before .from-parts .ensures))
 
 pub turning-from-parts-spec : {M : Type 1} → statement M
 turning-from-parts-spec =
@@ -18,6 +16,7 @@ turning-from-parts-spec =
     (λ c κs. search needs)
     (λ c κs. search needs)
     (λ c κs. search needs)
+    (λ c. search needs)
     (λ c. search needs)
     (λ c. search needs)
     returns)

@@ -1,12 +1,12 @@
--- `passes::propose::targets_to` meets its contract. The loop's invariant: what is found so far is said of the bins passed. Assumes nothing.
+-- `passes::targets::targets_to` meets its contract. The loop's invariant: what is found so far is said of the bins passed. Assumes nothing.
 use mathlib.Core.Path.{_≡_, refl}
 use Prim.Native.Nat.{_≤_, _-_}
 use native.Mathlib.Omega.{arith}
 use borrow.Author.Needs.{needs}
 use Rattle.passes.specs.Check.{targetsTo}
 use Rattle.passes.proofs.Runs.{targets-more}
-use Rattle.passes.proofs.propose.targets_to.Statement.{statement}
-use Rattle.passes.proofs.propose.targets_to.Tie as tie
+use Rattle.passes.proofs.targets.targets_to.Statement.{statement}
+use Rattle.passes.proofs.targets.targets_to.Tie as tie
 
 abbrev Inv-loop : tie.InvT-loop
 Inv-loop targets n ok₀ i₀ ok i = (i ≤ n) × (ok ≡ targetsTo targets i)

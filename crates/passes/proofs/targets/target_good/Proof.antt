@@ -1,7 +1,7 @@
--- `passes::propose::target_good` meets its contract. Assumes nothing.
+-- `passes::targets::target_good` meets its contract. Assumes nothing.
 use borrow.Author.Needs.{needs}
-use Rattle.passes.proofs.propose.target_good.Statement.{statement}
-use Rattle.passes.proofs.propose.target_good.Tie as tie
+use Rattle.passes.proofs.targets.target_good.Statement.{statement}
+use Rattle.passes.proofs.targets.target_good.Tie as tie
 
 returns : tie.Need-returns
 returns c = simp (c .is-usable2 .ensures, c .before .is-usable .ensures, c .before .before .upper-at .ensures, c .before .before .before .lower-at .ensures)
