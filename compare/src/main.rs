@@ -87,17 +87,17 @@ fn main() -> ExitCode {
         }
         return ExitCode::SUCCESS;
     }
+    if name == "count" && words.len() == 3 {
+        let Ok(side) = words[2].parse() else {
+            return usage();
+        };
+        bench::counted_side(&words[1], side);
+        return ExitCode::SUCCESS;
+    }
     let number = |at: usize, default: u64| words.get(at).map_or(Ok(default), |w| w.parse());
     let Ok(seed) = number(2, SEED) else {
         return usage();
     };
-    if name == "count" && words.len() == 3 {
-        let (Ok(row), Ok(side)) = (number(1, 0), number(2, 0)) else {
-            return usage();
-        };
-        bench::go(row as usize, side as usize);
-        return ExitCode::SUCCESS;
-    }
     if name == "whole" {
         let Ok(seconds) = number(1, 600) else {
             return usage();

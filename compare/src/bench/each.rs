@@ -1,10 +1,10 @@
 //! The table of every public call, with its instructions.
+use super::count::instructions;
 use super::sides;
-use super::time::{Sides, compare_counted_goes, times};
-use std::process::Command;
+use super::time::{Sides, times};
 
 /// A call, what it is given, and its sides.
-type Row = (
+pub type Row = (
     &'static str,
     &'static str,
     usize,
@@ -12,7 +12,7 @@ type Row = (
 );
 
 #[rustfmt::skip]
-const EACH: [Row; 76] = [
+pub const EACH: [Row; 76] = [
     ("root", "1,024 of shop size", 1024, sides::root),
     ("length", "1,024 of shop size", 1024, sides::length),
     ("validate", "4,096 bins", 4096, sides::validate),
@@ -99,60 +99,43 @@ pub fn names() -> impl Iterator<Item = &'static str> {
 /// Prints the rows whose names have the word.
 pub fn each(word: &str) {
     println!("## Every public call\n");
+    print(word, &EACH);
+}
+
+/// A table of rows, each told apart by its call and what it is given.
+pub fn print(word: &str, rows: &[Row]) {
     println!(
         "| call | with | Rust | Rust with 01's length | library | library / Rust | instructions, Rust | instructions, library | library / Rust |"
     );
     println!("|---|---|---|---|---|---|---|---|---|");
-    for (k, (name, with, size, make)) in EACH.into_iter().enumerate() {
+    for (name, with, size, make) in rows {
         if !name.contains(word) {
             continue;
         }
         eprintln!("{name}, {with}");
-        let times = times(make(size));
+        let times = times(make(*size));
         let shown = times.map(|t| t.map_or(String::new(), |t| t.shown()));
         let medians = times.map(|t| t.map(|t| t.median));
-        let counts = [0, 1, 2].map(|side| times[side].and_then(|_| counted(k, side)));
-        let beside = counts[1].or(counts[0]);
-        let whole = |n: Option<f64>| n.map_or(String::new(), |n| format!("{n:.0}"));
+        let [rust, ours, ratio] = instructions(&key(name, with), times);
         println!(
-            "| {name} | {with} | {} | {} | {} | {} | {} | {} | {} |",
+            "| {name} | {with} | {} | {} | {} | {} | {rust} | {ours} | {ratio} |",
             shown[0],
             shown[1],
             shown[2],
             super::ratio(medians),
-            whole(beside),
-            whole(counts[2]),
-            super::ratio(counts)
         );
     }
     println!();
 }
 
-/// How many goes callgrind counts.
-const GOES: usize = 3;
-
-/// Runs so many goes of a side of a row, for callgrind to count.
-pub fn go(row: usize, side: usize) {
-    let (.., size, make) = EACH[row];
-    let mut side = make(size)[side].take().expect("the row has the side");
-    // Once before, so that nothing is done for the first time.
-    compare_counted_goes(&mut side, 1);
-    let calls = compare_counted_goes(&mut side, GOES);
-    println!("{}", calls + calls / GOES);
+/// The row's name, for callgrind to count it by.
+fn key(name: &str, with: &str) -> String {
+    format!("{name}: {with}")
 }
 
-/// The instructions of one call by callgrind; none where there is no valgrind.
-fn counted(row: usize, side: usize) -> Option<f64> {
-    let out = Command::new("valgrind")
-        .args(["--tool=callgrind", "--callgrind-out-file=/dev/null"])
-        .arg("--toggle-collect=compare_counted_goes")
-        .arg(std::env::current_exe().ok()?)
-        .args(["count", &row.to_string(), &side.to_string()])
-        .output()
-        .ok()?;
-    let calls: f64 = String::from_utf8_lossy(&out.stdout).trim().parse().ok()?;
-    let said = String::from_utf8_lossy(&out.stderr).into_owned();
-    let line = said.lines().find(|l| l.contains("Collected :"))?;
-    let count: f64 = line.split_whitespace().last()?.parse().ok()?;
-    Some(count / calls)
+/// The sides of the row of that name.
+pub fn sides_of(rows: &[Row], name: &str) -> Option<Sides<'static>> {
+    let mut rows = rows.iter();
+    let (_, _, size, make) = rows.find(|(call, with, ..)| key(call, with) == name)?;
+    Some(make(*size))
 }

@@ -4,15 +4,17 @@
 //! Rust's side is camlib's own function on a stock it holds, with the `Vec` it makes; `with 01's
 //! length` is the Rust that the answers are compared with. Where camlib changes its stock in place, a
 //! clone of the stock is part of the time, on a bar of few bins.
+mod count;
 mod each;
 mod growth;
 mod picture;
 mod queries;
 mod rows;
+mod shop;
 mod sides;
 mod time;
 
-pub use each::{go, names};
+pub use each::names;
 
 use crate::call::{Call, Reason};
 use crate::memory::Memory;
@@ -28,21 +30,45 @@ fn ratio(of: [Option<f64>; 3]) -> String {
     }
 }
 
-struct Table<'a> {
-    word: &'a str,
+/// What a table is made for: the rows that have a word, or one side of one row, for callgrind.
+enum Table<'a> {
+    Rows(&'a str),
+    Counted(&'a str, usize),
 }
 
 impl Table<'_> {
-    /// Prints a row: untouched Rust, Rust with 01's length, the library, and its ratio to the Rust.
+    /// Prints a row: untouched Rust, Rust with 01's length, the library, its ratio to the Rust, and
+    /// the same of instructions.
     fn row<'a>(&self, name: &str, make: impl FnOnce() -> Sides<'a>) {
-        if !name.contains(self.word) {
+        let word = match self {
+            Table::Rows(word) => word,
+            Table::Counted(row, side) => {
+                if name == *row {
+                    count::go(make()[*side].take().expect("the row has the side"));
+                }
+                return;
+            }
+        };
+        if !name.contains(word) {
             return;
         }
+        eprintln!("{name}");
         let times = times(make());
         let shown = times.map(|t| t.map_or(String::new(), |t| t.shown()));
         let ratio = ratio(times.map(|t| t.map(|t| t.median)));
         let [rust, ruled, ours] = shown;
-        println!("| {name} | {rust} | {ruled} | {ours} | {ratio} |");
+        let counts = count::instructions(name, times).join(" | ");
+        println!("| {name} | {rust} | {ruled} | {ours} | {ratio} | {counts} |");
+    }
+}
+
+/// One side of a row, for callgrind.
+pub fn counted_side(row: &str, side: usize) {
+    let tables = [&shop::SHOP[..], &each::EACH[..]];
+    let found = tables.iter().find_map(|rows| each::sides_of(rows, row));
+    match found {
+        Some(mut sides) => count::go(sides[side].take().expect("the row has the side")),
+        None => rows::all(&Table::Counted(row, side)),
     }
 }
 
@@ -102,12 +128,15 @@ that column has a number. Instructions are callgrind's, a call.";
 /// Prints the tables, or the rows that have the word; the picture of the growth.
 pub fn bench(word: &str) -> String {
     println!("{HEAD} {RUNS} runs.\n");
+    shop::shop(word);
     each::each(word);
     let picture = growth::growth(word);
     println!("## More of each\n");
-    println!("| call | Rust | Rust with 01's length | library | library / Rust |");
-    println!("|---|---|---|---|---|");
-    rows::all(&Table { word });
+    println!(
+        "| call | Rust | Rust with 01's length | library | library / Rust | instructions, Rust | instructions, library | library / Rust |"
+    );
+    println!("|---|---|---|---|---|---|---|---|");
+    rows::all(&Table::Rows(word));
     println!();
     picture
 }

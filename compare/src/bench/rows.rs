@@ -1,27 +1,29 @@
 //! The rows of the table: numbers, cells, cuts; the rest is in `queries`.
 use super::queries::{envelopes, rings, volumes};
-use super::sides::{length_side, root_side, ruled_length};
+use super::sides::{length_side, nose_of, polygon_of, root_side, ruled_length};
 use super::{Table, cleared_side, library_side, side};
 use crate::call::{Call, List, Room, Simple, Spec, Stamp};
 use crate::generate::Rng;
 use crate::generate::numbers::{parts, radicand};
 use crate::guess;
 use crate::oracle::MOST_CELLS;
-use crate::oracle::cuts::{segment, stock_with_length};
 use crate::oracle::ranges::blocks;
 use crate::oracle::stock::{Bar, bar, camlib_spec, camlib_stock, fresh, to_camlib};
-use length::turning::stock as with_length;
-use plain::motion::Curve;
-use plain::turning::stock::{TurnSide, TurnStock};
+use plain::turning::stock::TurnStock;
 use std::hint::black_box;
 
+/// A bar of so many bins of 0.125, of which neighbours share their edge to the bit.
 pub fn spec(cells: usize, outer: f64, bore: f64) -> Spec {
+    spec_of(0.125, cells as f64 * 0.125, outer, bore)
+}
+
+pub fn spec_of(cell: f64, z_max: f64, outer: f64, bore: f64) -> Spec {
     Spec {
         z_min: 0.,
-        z_max: cells as f64 * 0.125,
+        z_max,
         outer,
         bore,
-        cell: 0.125,
+        cell,
         max_cells: MOST_CELLS,
     }
 }
@@ -37,7 +39,9 @@ pub fn all(table: &Table) {
     numbers(table);
     let bar = bar(&spec(4096, 50., 0.)).unwrap();
     cells(table, &bar);
-    noses(table, &bar);
+    noses(table, &bar, "");
+    let uneven = crate::oracle::stock::bar(&spec_of(0.1, 409.6, 50., 0.)).unwrap();
+    noses(table, &uneven, ", cell 0.1");
     many_segments(table, &bar);
     polygons(table, &bar);
     rings(table);
@@ -190,11 +194,9 @@ fn cells(table: &Table, bar: &Bar) {
     }
 }
 
-/// Noses over 4,096 bins: one segment and 64, long and short, of several radii, both sides.
-fn noses(table: &Table, bar: &Bar) {
-    let cells = fresh(bar);
-    let stock = camlib_stock(bar, &cells, &[]);
-    let ruled = stock_with_length(bar, &cells);
+/// Noses over 4,096 bins: one segment and 64, long and short, of several radii, both sides. At a cell of
+/// 0.125 two bins share their edge to the bit; at 0.1 they often do not.
+fn noses(table: &Table, bar: &Bar, cell: &str) {
     let z_max = bar.spec.z_max;
     let mut rng = Rng::new(1);
     for rn in [0.8, 10., 50.] {
@@ -231,18 +233,8 @@ fn noses(table: &Table, bar: &Bar) {
             ("64 in a chain", (0..64).map(chain).collect()),
         ];
         for (name, list) in &lists {
-            for (side_name, side_number) in [("outside", 0), ("inside", 1)] {
-                nose_row(
-                    table,
-                    bar,
-                    &stock,
-                    &ruled,
-                    rn,
-                    name,
-                    list,
-                    side_name,
-                    side_number,
-                );
+            for outside in [true, false] {
+                nose_row(table, bar, rn, &format!("{name}{cell}"), list, outside);
             }
         }
         let sagging: Vec<[f64; 5]> = lists[4]
@@ -250,25 +242,13 @@ fn noses(table: &Table, bar: &Bar) {
             .iter()
             .map(|s| [s[0], s[1], s[2], s[3], 0.01])
             .collect();
-        nose_row(
-            table,
-            bar,
-            &stock,
-            &ruled,
-            rn,
-            "64 in a chain, sag 0.01",
-            &sagging,
-            "outside",
-            0,
-        );
+        let name = format!("64 in a chain, sag 0.01{cell}");
+        nose_row(table, bar, rn, &name, &sagging, true);
     }
 }
 
 /// Noses at the limit of segments, short ones and long, and an arc as 512 chords.
 fn many_segments(table: &Table, bar: &Bar) {
-    let cells = fresh(bar);
-    let stock = camlib_stock(bar, &cells, &[]);
-    let ruled = stock_with_length(bar, &cells);
     let z_max = bar.spec.z_max;
     let rn = 0.8;
     let mut rng = Rng::new(1);
@@ -295,64 +275,24 @@ fn many_segments(table: &Table, bar: &Bar) {
         ("an arc as 512 chords", chords.unwrap()),
     ];
     for (name, list) in &lists {
-        nose_row(table, bar, &stock, &ruled, rn, name, list, "outside", 0);
+        nose_row(table, bar, rn, name, list, true);
     }
 }
 
-#[allow(clippy::too_many_arguments)]
-fn nose_row(
-    table: &Table,
-    bar: &Bar,
-    stock: &TurnStock,
-    ruled: &with_length::TurnStock,
-    rn: f64,
-    name: &str,
-    list: &[[f64; 5]],
-    side_name: &str,
-    side_number: u32,
-) {
-    let outside = side_number == 0;
+fn nose_row(table: &Table, bar: &Bar, rn: f64, name: &str, list: &[[f64; 5]], outside: bool) {
     // The inside nose runs as deep under the surface as the outside one above it.
+    let down = |r: f64| if outside { r } else { r - 2. * rn - 20. };
     let list: Vec<[f64; 5]> = list
         .iter()
-        .map(|s| {
-            let down = |r: f64| if outside { r } else { r - 2. * rn - 20. };
-            [down(s[0]), s[1], down(s[2]), s[3], s[4]]
-        })
+        .map(|s| [down(s[0]), s[1], down(s[2]), s[3], s[4]])
         .collect();
-    let segments: Vec<_> = list.iter().map(segment).collect();
-    let (a, b, sag) = segments[0];
-    let curve = Curve::Line {
-        start: [a[0], 0., a[1]],
-        end: [b[0], 0., b[1]],
-    };
-    let single = list.len() == 1 && sag == 0.;
-    let (untouched, with) = if outside {
-        (TurnSide::Outer, with_length::TurnSide::Outer)
-    } else {
-        (TurnSide::Inner, with_length::TurnSide::Inner)
-    };
+    let side_name = if outside { "outside" } else { "inside" };
     table.row(&format!("preview, {name}, rn {rn}, {side_name}"), || {
-        let alone = side(1, || stock.preview(black_box(&curve), rn, untouched, 0.));
-        [
-            alone.filter(|_| single),
-            side(1, || ruled.preview_segments(black_box(&segments), rn, with)),
-            library_side(Call::Preview {
-                spec: bar.spec,
-                stamp: Stamp::default(),
-                cells: fresh(bar).as_flattened().to_vec(),
-                side: side_number,
-                rn,
-                segments: list.as_flattened().to_vec(),
-                room: room(bar.n),
-            }),
-        ]
+        nose_of(bar, rn, outside, &list)
     });
 }
 
 fn polygons(table: &Table, bar: &Bar) {
-    let cells = fresh(bar);
-    let stock = camlib_stock(bar, &cells, &[]);
     let insert = |z0: f64, z1: f64, count: usize| -> Vec<[f64; 2]> {
         // Half a circle below and a straight top.
         let (middle, half) = ((z0 + z1) / 2., (z1 - z0) / 2.);
@@ -371,21 +311,7 @@ fn polygons(table: &Table, bar: &Bar) {
     ];
     for (name, points) in &cases {
         table.row(&format!("preview_polygon, {name}"), || {
-            [
-                side(1, || {
-                    stock.preview_polygon(black_box(points), TurnSide::Outer, 0.01)
-                }),
-                None,
-                library_side(Call::PreviewPolygon {
-                    spec: bar.spec,
-                    stamp: Stamp::default(),
-                    cells: cells.as_flattened().to_vec(),
-                    side: 0,
-                    excess: 0.01,
-                    points: points.as_flattened().to_vec(),
-                    room: room(bar.n),
-                }),
-            ]
+            polygon_of(bar, points)
         });
     }
 }

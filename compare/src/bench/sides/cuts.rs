@@ -11,7 +11,8 @@ use plain::motion::Curve;
 use plain::turning::stock::TurnSide;
 use std::hint::black_box;
 
-fn simple(bar: &Bar, cut: Simple) -> Call {
+/// A single cut on a fresh bar.
+pub fn simple(bar: &Bar, cut: Simple) -> Call {
     Call::Cut {
         spec: bar.spec,
         stamp: Stamp::default(),
@@ -50,48 +51,52 @@ pub fn drill(bins: usize) -> Sides<'static> {
     pair(go, simple(&bar, cut))
 }
 
-/// A nose of 0.8 over the whole bar, as a chain of so many segments.
-fn nose(bins: usize, segments: usize) -> Sides<'static> {
-    let bar = bar_of(bins);
-    let rn = 0.8;
-    let at = |j: usize| {
-        let part = j as f64 / segments as f64;
-        [38. + 3. * (j as f64 * 0.7).sin(), bar.spec.z_max * part]
-    };
-    let link = |k: usize| [at(k), at(k + 1)];
-    let links: Vec<[f64; 5]> = (0..segments)
-        .map(|k| {
-            let [a, b] = link(k);
-            [a[0], a[1], b[0], b[1], 0.]
-        })
-        .collect();
-    let [a, b] = link(0);
+/// A nose along segments on a fresh bar. The untouched Rust has it where there is one segment with no sag.
+pub fn nose_of(bar: &Bar, rn: f64, outside: bool, links: &[[f64; 5]]) -> Sides<'static> {
+    let [a_r, a_z, b_r, b_z, sag] = links[0];
     let line = Curve::Line {
-        start: [a[0], 0., a[1]],
-        end: [b[0], 0., b[1]],
+        start: [a_r, 0., a_z],
+        end: [b_r, 0., b_z],
     };
-    let stock = stock_of(&bar);
-    let untouched = side(1, move || {
-        stock.preview(black_box(&line), rn, TurnSide::Outer, 0.)
-    });
+    let (plain, with) = if outside {
+        (TurnSide::Outer, with_length::TurnSide::Outer)
+    } else {
+        (TurnSide::Inner, with_length::TurnSide::Inner)
+    };
+    let stock = stock_of(bar);
+    let untouched = side(1, move || stock.preview(black_box(&line), rn, plain, 0.));
     let list: Vec<_> = links.iter().map(segment).collect();
-    let ruled = stock_with_length(&bar, &fresh(&bar));
-    let outer = with_length::TurnSide::Outer;
+    let ruled = stock_with_length(bar, &fresh(bar));
     [
-        untouched.filter(|_| segments == 1),
+        untouched.filter(|_| links.len() == 1 && sag == 0.),
         side(1, move || {
-            ruled.preview_segments(black_box(&list), rn, outer)
+            ruled.preview_segments(black_box(&list), rn, with)
         }),
         library_side(Call::Preview {
             spec: bar.spec,
             stamp: Stamp::default(),
-            cells: lent(&bar),
-            side: 0,
+            cells: lent(bar),
+            side: if outside { 0 } else { 1 },
             rn,
             segments: links.as_flattened().to_vec(),
             room: room(bar.n),
         }),
     ]
+}
+
+/// A nose of 0.8 over the whole bar, as a chain of so many segments.
+fn nose(bins: usize, segments: usize) -> Sides<'static> {
+    let bar = bar_of(bins);
+    let at = |j: usize| {
+        let part = j as f64 / segments as f64;
+        [38. + 3. * (j as f64 * 0.7).sin(), bar.spec.z_max * part]
+    };
+    let link = |k: usize| {
+        let [a, b] = [at(k), at(k + 1)];
+        [a[0], a[1], b[0], b[1], 0.]
+    };
+    let links: Vec<[f64; 5]> = (0..segments).map(link).collect();
+    nose_of(&bar, 0.8, true, &links)
 }
 
 /// One segment over so many bins.
@@ -104,6 +109,23 @@ pub fn preview_segments(segments: usize) -> Sides<'static> {
     nose(1024, segments)
 }
 
+/// A polygon on the outside of a fresh bar.
+pub fn polygon_of(bar: &Bar, points: &[[f64; 2]]) -> Sides<'static> {
+    let flat = points.as_flattened().to_vec();
+    let (stock, points) = (stock_of(bar), points.to_vec());
+    let go = move || stock.preview_polygon(black_box(&points), TurnSide::Outer, 0.01);
+    let call = Call::PreviewPolygon {
+        spec: bar.spec,
+        stamp: Stamp::default(),
+        cells: lent(bar),
+        side: 0,
+        excess: 0.01,
+        points: flat,
+        room: room(bar.n),
+    };
+    pair(go, call)
+}
+
 /// Half a circle below and a straight top, over the whole bar.
 fn polygon(bins: usize, count: usize) -> Sides<'static> {
     let bar = bar_of(bins);
@@ -113,19 +135,7 @@ fn polygon(bins: usize, count: usize) -> Sides<'static> {
         [half - 1. + half * t.cos(), 60. + 20. * t.sin()]
     };
     let points: Vec<[f64; 2]> = (0..count).map(point).collect();
-    let flat = points.as_flattened().to_vec();
-    let stock = stock_of(&bar);
-    let go = move || stock.preview_polygon(black_box(&points), TurnSide::Outer, 0.01);
-    let call = Call::PreviewPolygon {
-        spec: bar.spec,
-        stamp: Stamp::default(),
-        cells: lent(&bar),
-        side: 0,
-        excess: 0.01,
-        points: flat,
-        room: room(bar.n),
-    };
-    pair(go, call)
+    polygon_of(&bar, &points)
 }
 
 /// Four points over so many bins.

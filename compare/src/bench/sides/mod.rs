@@ -29,20 +29,20 @@ fn bar_of(bins: usize) -> Bar {
     bar(&spec(bins, 50., 0.)).unwrap()
 }
 
-fn lent(bar: &Bar) -> Vec<f64> {
+pub fn lent(bar: &Bar) -> Vec<f64> {
     fresh(bar).as_flattened().to_vec()
 }
 
 /// The kept numbers of those cells.
-fn kept_of(bar: &Bar) -> Vec<f64> {
+pub fn kept_of(bar: &Bar) -> Vec<f64> {
     blocks(bar, &fresh(bar))
 }
 
-fn stock_of(bar: &Bar) -> TurnStock {
+pub fn stock_of(bar: &Bar) -> TurnStock {
     camlib_stock(bar, &fresh(bar), &[])
 }
 
 /// The untouched Rust and the library.
-fn pair<T: 'static>(rust: impl FnMut() -> T + 'static, call: Call) -> Sides<'static> {
+pub fn pair<T: 'static>(rust: impl FnMut() -> T + 'static, call: Call) -> Sides<'static> {
     [side(1, rust), None, library_side(call)]
 }

@@ -4,15 +4,19 @@ use crate::bench::queries;
 use crate::bench::rows::spec;
 use crate::bench::time::{Sides, side};
 use crate::call::{Call, List, Stamp};
-use crate::oracle::stock::{bar, camlib_spec, camlib_stock, fresh, to_camlib};
+use crate::oracle::stock::{Bar, bar, camlib_spec, camlib_stock, fresh, to_camlib};
 use plain::turning::stock::TurnStock;
 use std::hint::black_box;
 
 /// So many stored rings in a row on a bar of 8 bins, and one more that may be empty after clipping.
 fn ring(stored: usize, ring: [f64; 4]) -> Sides<'static> {
-    let bar = bar(&spec(8, 10., 0.)).unwrap();
-    let kept = queries::row_of_rings(&bar, stored);
-    let stock = camlib_stock(&bar, &fresh(&bar), &kept);
+    ring_of(&bar(&spec(8, 10., 0.)).unwrap(), stored, ring)
+}
+
+/// The same on any fresh bar.
+pub fn ring_of(bar: &Bar, stored: usize, ring: [f64; 4]) -> Sides<'static> {
+    let kept = queries::row_of_rings(bar, stored);
+    let stock = camlib_stock(bar, &fresh(bar), &kept);
     let [z0, z1, r0, r1] = ring;
     let go = move || {
         let mut stock = stock.clone();
