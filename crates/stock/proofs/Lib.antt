@@ -6,5 +6,6 @@ pub mod Stored
 pub mod EachFits
 pub mod SameCells
 pub mod Passes
+pub mod Signs
 pub mod Places
 pub mod Stamps

@@ -5,13 +5,15 @@
 // bore and outer surface, and cuts only take from it. Cells are lent flat, four numbers a bin.
 ghost use mathlib.Core.Path.{_≡_};
 ghost use Prim.Native.Nat.{_+_, _*_, _≤_};
-ghost use mathlib.Core.Bool.{true};
+ghost use mathlib.Core.Bool.{true, _&&_};
+ghost use lib.Dec.{ltb};
 ghost use lib.ListN.{length};
-ghost use lib.Ieee.{le};
+ghost use lib.Ieee.{le, lt};
 ghost use Rattle.floats.specs.Numbers.{zero64, minusZero};
 ghost use Rattle.stock.specs.Spec.{cleanSpec, specGood, cellsOf, countedPaper};
 ghost use Rattle.stock.specs.Bin.{binOf, binFor, binnedPaper};
 ghost use Rattle.stock.specs.Cell.{cellAt, cellFrom, noCell, numberAt, fourOf, cellFits, pairFits, between, sameCell, fitTo, stockOf, putCell, freshCell, cellsLike};
+ghost use Rattle.stock.specs.Signs.{signBit, Solid, ordered};
 ghost use Rattle.stock.specs.Stock.{sameStamp, newStock, stockWith, Filled};
 use refusals::CELL_LIMIT;
 use refusals::Refusal;
@@ -307,18 +309,80 @@ fn cell_passes(s: TurnStockSpec, c: TurnCell) -> bool
     false
 }
 
-// The first n cells fit.
-fn all_fit(s: TurnStockSpec, cells: &[f64], n: usize) -> bool
-    requires { ⌜ (le zero64 (s .«bore_radius_mm») ≡ true) × (4 * n ≤ length (now cells)) ⌝ }
+// Both pairs ordered and not above the outer radius.
+fn is_ordered(s: TurnStockSpec, c: TurnCell) -> bool
+    ensures { λ r. ⌜ r ≡ ordered s c ⌝ }
+{
+    (c.outer.lower_mm <= c.outer.upper_mm)
+        & (c.outer.upper_mm <= s.outer_radius_mm)
+        & (c.inner.lower_mm <= c.inner.upper_mm)
+        & (c.inner.upper_mm <= s.outer_radius_mm)
+}
+
+// The bits of the four bounds of an ordered cell, joined: it fits a solid bar if the sign's bit is in none.
+// The bits of a NaN are not looked at.
+fn bits_of(s: TurnStockSpec, c: TurnCell) -> u64
+    requires { ⌜ Solid s ⌝ }
+    ensures { λ r. ⌜ (ordered s c && ltb r signBit) ≡ cellFits s c ⌝ }
+{
+    if is_ordered(s, c) {
+        return f64::to_bits(c.outer.lower_mm)
+            | f64::to_bits(c.outer.upper_mm)
+            | f64::to_bits(c.inner.lower_mm)
+            | f64::to_bits(c.inner.upper_mm);
+    }
+    0
+}
+
+// The first n cells fit a solid bar. The bits are gathered and their sign is asked once, so that a pass
+// takes several cells at once.
+fn all_fit_solid(s: TurnStockSpec, cells: &[f64], n: usize) -> bool
+    requires { ⌜ Solid s × (4 * n ≤ length (now cells)) ⌝ }
+    ensures { λ r. ⌜ r ≡ fitTo s (now (cells .entry)) n ⌝ }
+{
+    let mut ok = true;
+    let mut bits: u64 = 0;
+    let mut i: usize = 0;
+    while i < n {
+        let c = cell_from(cells, 4 * i);
+        ok = ok & is_ordered(s, c);
+        bits = bits | bits_of(s, c);
+        i += 1;
+    }
+    ok & (bits < 0x8000_0000_0000_0000)
+}
+
+// The same as `cell_fits` in a tube. Its bore is above zero, so that comparisons alone leave out every zero.
+fn fits_tube(s: TurnStockSpec, c: TurnCell) -> bool
+    requires { ⌜ lt zero64 (s .«bore_radius_mm») ≡ true ⌝ }
+    ensures { λ r. ⌜ r ≡ cellFits s c ⌝ }
+{
+    is_between(s, c)
+}
+
+// The first n cells fit a tube.
+fn all_fit_tube(s: TurnStockSpec, cells: &[f64], n: usize) -> bool
+    requires { ⌜ (lt zero64 (s .«bore_radius_mm») ≡ true) × (4 * n ≤ length (now cells)) ⌝ }
     ensures { λ r. ⌜ r ≡ fitTo s (now (cells .entry)) n ⌝ }
 {
     let mut ok = true;
     let mut i: usize = 0;
     while i < n {
-        ok = ok & cell_passes(s, cell_from(cells, 4 * i));
+        ok = ok & fits_tube(s, cell_from(cells, 4 * i));
         i += 1;
     }
     ok
+}
+
+// The first n cells fit.
+fn all_fit(s: TurnStockSpec, cells: &[f64], n: usize) -> bool
+    requires { ⌜ (le zero64 (s .«bore_radius_mm») ≡ true) × (4 * n ≤ length (now cells)) ⌝ }
+    ensures { λ r. ⌜ r ≡ fitTo s (now (cells .entry)) n ⌝ }
+{
+    if 0.0 < s.bore_radius_mm {
+        return all_fit_tube(s, cells, n);
+    }
+    all_fit_solid(s, cells, n)
 }
 
 // The number of cells of a stock whose lent cells fit; 1, 2, 3.
