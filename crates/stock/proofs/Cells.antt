@@ -46,10 +46,12 @@ length-like c zero = refl
 length-like c (suc n) = let h = length-like c n in length-append (cellsLike c n) (fourOf c) ∙ (omega arith)
 
 -- one cell more, written behind i like it
-pub like-more : (c : TurnCell) (cs cs₀ : List Float) (i : ℕ) → cs ≡ over (cellsLike c i) cs₀ → 4 * i + 4 ≤ length cs₀ → putCell cs i c ≡ over (cellsLike c (i + 1)) cs₀
+pub like-more : (c : TurnCell) (cs cs₀ : List Float) (i : ℕ) → cs ≡ over (cellsLike c i) cs₀ → 4 * i + 4 ≤ length cs₀ → sets cs (4 * i) (fourOf c) ≡ over (cellsLike c (i + 1)) cs₀
 unfolding cellsLike
 like-more c cs cs₀ i e h =
     let l = length-like c i in
-    let r : 4 * i + 4 ≤ length cs = subst (λ (xs : List Float). 4 * i + 4 ≤ length xs) (sym e) (le-trans h (le-of-eq (sym (length-over (cellsLike c i) cs₀ (omega arith))))) in
-    put-room cs i c r
-    ∙ rw (add-one i, e) (ap (λ (k : ℕ). sets (over (cellsLike c i) cs₀) k (fourOf c)) (sym l) ∙ over-more (cellsLike c i) (fourOf c) cs₀ (omega arith))
+    rw (add-one i, e) (ap (λ (k : ℕ). sets (over (cellsLike c i) cs₀) k (fourOf c)) (sym l) ∙ over-more (cellsLike c i) (fourOf c) cs₀ (omega arith))
+
+-- a list of which the first cells are like c is as long as it was
+pub length-liked : (c : TurnCell) (cs cs₀ : List Float) (i : ℕ) → cs ≡ over (cellsLike c i) cs₀ → 4 * i ≤ length cs₀ → length cs ≡ length cs₀
+length-liked c cs cs₀ i e h = ap length e ∙ length-over (cellsLike c i) cs₀ (omega (arith, length-like c i))

@@ -8,7 +8,9 @@ ghost use Prim.Native.Nat.{_+_, _*_, _≤_};
 ghost use mathlib.Core.Bool.{true, _&&_};
 ghost use lib.Dec.{ltb};
 ghost use lib.ListN.{length};
-ghost use lib.Ieee.{le, lt};
+ghost use lib.IntN.{pos};
+ghost use lib.Ieee.{binary64, ofInt, le, lt};
+ghost use lib.Seq.{sets};
 ghost use Rattle.floats.specs.Numbers.{zero64, minusZero};
 ghost use Rattle.stock.specs.Spec.{cleanSpec, specGood, cellsOf, countedPaper};
 ghost use Rattle.stock.specs.Bin.{binOf, binFor, binnedPaper};
@@ -145,11 +147,21 @@ pub fn validate(spec: TurnStockSpec) -> Counted
     }
 }
 
+// A count as a float: the processor takes one of 31 bits in a step.
+fn float_of(i: usize) -> f64
+    ensures { λ r. ⌜ r ≡ ofInt binary64 (pos i) ⌝ }
+{
+    if i < 0x8000_0000 {
+        return (i as u32) as f64;
+    }
+    std::num::nearest_u64_to_f64(i as u64)
+}
+
 // Where bin i lies, in a spec whose numbers are checked.
 pub fn bin_of(s: TurnStockSpec, i: usize) -> ZRange
     ensures { λ r. ⌜ r ≡ binOf s i ⌝ }
 {
-    let za = s.z_min_mm + std::num::nearest_u64_to_f64(i as u64) * s.cell_mm;
+    let za = s.z_min_mm + float_of(i) * s.cell_mm;
     ZRange {
         za,
         zb: floats::least(za + s.cell_mm, s.z_max_mm),
@@ -240,6 +252,17 @@ pub fn cell_at(cells: &[f64], i: usize) -> TurnCell
     }
 }
 
+// The cell whose four numbers start at a place, written.
+fn put_from(cells: &mut [f64], at: usize, c: TurnCell)
+    requires { ⌜ at + 4 ≤ length (now cells) ⌝ }
+    ensures { λ _. ⌜ now (cells .exit) ≡ sets (now (cells .entry)) at (fourOf c) ⌝ }
+{
+    cells[at] = c.outer.lower_mm;
+    cells[at + 1] = c.outer.upper_mm;
+    cells[at + 2] = c.inner.lower_mm;
+    cells[at + 3] = c.inner.upper_mm;
+}
+
 // The cell of bin i, written; nothing where the list has no such bin.
 pub fn put_cell(cells: &mut [f64], i: usize, c: TurnCell)
     ensures { λ _. ⌜ now (cells .exit) ≡ putCell (now (cells .entry)) i c ⌝ }
@@ -247,11 +270,7 @@ pub fn put_cell(cells: &mut [f64], i: usize, c: TurnCell)
     if cells.len() / 4 <= i {
         return;
     }
-    let at = 4 * i;
-    cells[at] = c.outer.lower_mm;
-    cells[at + 1] = c.outer.upper_mm;
-    cells[at + 2] = c.inner.lower_mm;
-    cells[at + 3] = c.inner.upper_mm;
+    put_from(cells, 4 * i, c);
 }
 
 fn pair_fits(s: TurnStockSpec, b: RadiusBounds) -> bool
@@ -436,7 +455,7 @@ fn put_all(cells: &mut [f64], n: usize, c: TurnCell)
 {
     let mut i: usize = 0;
     while i < n {
-        put_cell(cells, i, c);
+        put_from(cells, 4 * i, c);
         i += 1;
     }
 }

@@ -11,4 +11,4 @@ bin-of-spec =
     (tie.spec
     (λ c κs. tt)
     (λ c κs. tt)
-    (λ c. search (picks, ← c .least .ensures, ← c .before .before .before .before .nearest-u64-to-f64 .ensures)))
+    (λ c. search (picks, ← c .least .ensures, ← c .before .before .before .before .float-of .ensures)))

@@ -7,9 +7,9 @@ use borrow.Author.Needs.{needs}
 use lib.ListN.{length}
 use lib.Ieee.{Float}
 use Rattle.refusals.specs.Lent.{over}
-use Rattle.refusals.proofs.Written.{over-none, over-all, length-over}
+use Rattle.refusals.proofs.Written.{over-none, over-all}
 use Rattle.stock.specs.Cell.{cellsLike}
-use Rattle.stock.proofs.Cells.{length-like, like-more}
+use Rattle.stock.proofs.Cells.{length-like, length-liked, like-more}
 use Rattle.stock.proofs.put_all.Statement.{statement}
 use Rattle.stock.proofs.put_all.Tie as tie
 
@@ -23,19 +23,26 @@ loop-holds : tie.Need-loop-holds Inv-loop μ-loop
 unfolding cellsLike
 loop-holds c = (search needs, search needs, sym (over-none _))
 
+put-from-requires : tie.Need-put-from-requires Inv-loop μ-loop
+put-from-requires c κs =
+    let b = c .before .before in
+    let s = b .before .before in
+    let h : length (b .loop .cells) ≡ length (s .args .cells .now) = length-liked (s .args .c) (b .loop .cells) (s .args .cells .now) (b .loop .i) (b .loop .inv .2) (omega arith) in
+    omega arith
+
 loop-again : tie.Need-loop-again Inv-loop μ-loop
 loop-again c =
     let b = c .before .before .before .before .before in
     let s = b .before .before in (
       search needs,
       search needs,
-      c .before .before .put-cell .ensures ∙ like-more (s .args .c) (b .loop .cells) (s .args .cells .now) (b .loop .i) (b .loop .inv .2) (omega arith),
+      c .before .before .put-from .ensures ∙ like-more (s .args .c) (b .loop .cells) (s .args .cells .now) (b .loop .i) (b .loop .inv .2) (omega arith),
     )
 
 same-length : tie.Need-same-length Inv-loop μ-loop
 same-length c =
     let s = c .before .before .before in
-    ap length (c .before .loop .inv .2) ∙ length-over (cellsLike (s .args .c) (c .before .loop .i)) (s .args .cells .now) (omega (arith, length-like (s .args .c) (c .before .loop .i)))
+    length-liked (s .args .c) (c .before .loop .cells) (s .args .cells .now) (c .before .loop .i) (c .before .loop .inv .2) (omega arith)
 
 returns : tie.Need-returns Inv-loop μ-loop
 returns c =
@@ -52,7 +59,8 @@ put-all-spec =
     Inv-loop
     μ-loop
     loop-holds
-    (λ c κs. search needs)
+    (λ c. search needs)
+    put-from-requires
     (λ c. search needs)
     (λ c. search needs)
     loop-again
