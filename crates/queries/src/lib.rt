@@ -233,14 +233,17 @@ fn held(b: Band, z: ZRange) -> f64
     tube(full, z.zb - z.za)
 }
 
-// The first n cells, summed bin by bin.
+// The first n cells, summed bin by bin. The list has them all: so `bins` is n, and says that none is
+// read past its end.
 fn sums(s: TurnStockSpec, cells: &[f64], n: usize) -> Volumes
+    requires { ⌜ 4 * n ≤ length (now cells) ⌝ }
     ensures { λ r. ⌜ r ≡ sumsOf s (now (cells .entry)) n ⌝ }
 {
+    let bins = numbers::lesser(n, cells.len() / 4);
     let mut least = 0.0;
     let mut greatest = 0.0;
     let mut i: usize = 0;
-    while i < n {
+    while i < bins {
         let c = stock::cell_at(cells, i);
         let z = stock::bin_of(s, i);
         least = least + held(sure(c), z);

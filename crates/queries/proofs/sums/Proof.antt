@@ -10,10 +10,10 @@ use Rattle.queries.proofs.sums.Statement.{statement}
 use Rattle.queries.proofs.sums.Tie as tie
 
 abbrev Inv-loop : tie.InvT-loop
-Inv-loop s cells n least₀ greatest₀ i₀ least greatest i = (i ≤ n) × (least ≡ sumOf sureOf s cells i) × (greatest ≡ sumOf mostOf s cells i)
+Inv-loop s cells n bins least₀ greatest₀ i₀ least greatest i = (i ≤ n) × (least ≡ sumOf sureOf s cells i) × (greatest ≡ sumOf mostOf s cells i)
 
 abbrev μ-loop : tie.MeasureT-loop
-μ-loop s cells n least₀ greatest₀ i₀ least greatest i = n - i
+μ-loop s cells n bins least₀ greatest₀ i₀ least greatest i = n - i
 
 loop-holds : tie.Need-loop-holds Inv-loop μ-loop
 unfolding sumOf
@@ -21,7 +21,7 @@ loop-holds c = (omega arith, refl, refl)
 
 loop-again : tie.Need-loop-again Inv-loop μ-loop
 loop-again c =
-    let args = c .before .before .before .before .before .before .before .before .before .args in
+    let args = c .before .before .before .before .before .before .before .before .before .before .args in
     let loop = c .before .before .before .before .before .before .before .loop in
     let cell = c .before .before .before .before .before .cell-at .ensures in
     let bin = c .before .before .before .before .bin-of .ensures in (
@@ -32,7 +32,7 @@ loop-again c =
 
 returns : tie.Need-returns Inv-loop μ-loop
 returns c =
-    let args = c .before .before .before .args in
+    let args = c .before .before .before .before .args in
     let loop = c .before .loop in
     let e : loop .i ≡ args .n = omega arith in
     same-volumes (loop .inv .1) (loop .inv .2) ∙ ap (sumsOf (args .s) (args .cells .now)) e
@@ -43,6 +43,7 @@ sums-spec =
     (tie.spec
     Inv-loop
     μ-loop
+    (λ c κs. tt)
     loop-holds
     (λ c κs. tt)
     (λ c κs. tt)

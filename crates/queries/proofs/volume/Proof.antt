@@ -1,9 +1,11 @@
 -- `queries::volume` meets its contract. Assumes nothing.
 use mathlib.Core.Path.{sym, ap, _∙_}
+use native.Mathlib.Nat.{le-of-eq}
 use borrow.Author.Needs.{needs}
 use borrow.Author.Tests.{not-true, not-false}
 use Rattle.refusals.specs.Paper.{papers}
 use Rattle.stock.specs.Spec.{countedPaper}
+use Rattle.stock.proofs.Count.{stock-length}
 use Rattle.queries.specs.Volume.{volumeOf}
 use Rattle.queries.proofs.Passes.{measured}
 use Rattle.queries.proofs.Stored.{rings-held}
@@ -15,6 +17,12 @@ unfolding volumeOf
 returns c =
     let counted = c .before .before .before .counted2 in
     search (papers, ← c .before .before .before .before .before .cells-fit .ensures, counted .given .1, sym (c .before .rings-fit .ensures) ∙ not-true _ (c .if1 .taken))
+
+sums-requires : tie.Need-sums-requires
+sums-requires c κs =
+    let test = c .before in
+    let counted = test .before .before .before .counted2 .given in
+    le-of-eq (sym (stock-length _ _ _ (sym (test .before .before .before .before .before .cells-fit .ensures) ∙ ap countedPaper (counted .1))))
 
 less-rings-requires : tie.Need-less-rings-requires
 less-rings-requires c κs = rings-held _ _ _ (sym (c .before .before .before .rings-fit .ensures) ∙ not-false _ (c .before .before .if1 .left))
@@ -47,7 +55,7 @@ volume-spec =
     (λ c κs. search needs)
     returns
     (λ c κs. search needs)
-    (λ c κs. search needs)
+    sums-requires
     less-rings-requires
     (λ c κs. search needs)
     (λ c κs. search needs)
