@@ -16,8 +16,8 @@ use Rattle.stock.specs.declared.TurnSide.{TurnSide}
 use Rattle.stock.specs.Cell.{cellAt, sameCell}
 use Rattle.reach.specs.declared.Reach.{Reach}
 use Rattle.reach.specs.Reach.{Reached, passed, low, both, lowOf, ownOf, cutBy, cutCell, reachPaper, Act, actCell}
-use Rattle.changes.specs.Change.{changeAt, changeOf, changesTo, ListedOne, settled}
-use Rattle.changes.proofs.Placed.{list-same}
+use Rattle.changes.specs.Change.{roomOf, changeAt, changeOf, changesTo, PutChange, ListedOne, settled}
+use Rattle.changes.proofs.Placed.{list-same, list-put}
 use Rattle.cuts.specs.Source.{cutChange, SameTo}
 use Rattle.cuts.specs.Preview.{proposed}
 
@@ -77,3 +77,7 @@ listed-as f cs i k k' before after {is} {is'} {xs} {xs'} eb ea p = subst (λ (c 
 -- the change that was handed over is the one that the cut makes of the cell
 pub listed-cut : (σ : TurnSide) (before after : TurnCell) (reached : Reach) (i k k' : ℕ) {is is' : List ℕ} {xs xs' : List Float} → after ≡ cutCell σ before (reachPaper reached) → ListedOne k k' (record { index = i; before = before; after = after }) is is' xs xs' → ListedOne k k' (cutChange σ before reached i) is is' xs xs'
 listed-cut σ before after reached i k k' {is} {is'} {xs} {xs'} e p = subst (λ (c : TurnChange). ListedOne k k' c is is' xs xs') (λ j. record { index = i; before = before; after = e j }) p
+
+-- a change that was put is listed, where the cut makes another cell
+pub listed-put : (k i : ℕ) (before after to : TurnCell) {is is' : List ℕ} {xs xs' : List Float} → after ≡ to → sameCell before to ≡ false → k < roomOf (length is) (length xs) → PutChange k (record { index = i; before = before; after = after }) is is' xs xs' → ListedOne k (k + 1) (record { index = i; before = before; after = to }) is is' xs xs'
+listed-put k i before after to {is} {is'} {xs} {xs'} e m h p = list-put k (record { index = i; before = before; after = to }) is is' xs xs' m h (subst (λ (c : TurnChange). PutChange k c is is' xs xs') (λ j. record { index = i; before = before; after = e j }) p)

@@ -3,11 +3,11 @@ use mathlib.Core.Path.{_≡_, refl, sym, ap, _∙_, subst}
 use mathlib.Core.Bool.{Bool, true, false, not, _&&_, _||_}
 use mathlib.Core.List.{List}
 use Prim.Native.Nat.{ℕ}
-use borrow.Author.Tests.{not-true}
+use borrow.Author.Tests.{not-true, not-false}
 use lib.Dec.{T}
 use lib.Ieee.{Float, binary64, fits, lt, le, eq, ofBits, ofFields, odd}
 use lib.Ieee.Fits.{mul-fits}
-use Rattle.floats.specs.Pick.{pick, pick-false}
+use Rattle.floats.specs.Pick.{pick, pick-true, pick-false}
 use Rattle.floats.specs.Numbers.{_-₆₄_, _*₆₄_, _/₆₄_, zero64, leastOf, greatestOf}
 use Rattle.floats.specs.Kinds.{Number}
 use Rattle.floats.proofs.Order.{lt-never, lt-trans, lt-le-trans, le-lt-trans, le-trans}
@@ -27,8 +27,10 @@ use Rattle.stock.proofs.Passes.{HeldCell}
 use Rattle.cuts.specs.Cut.{drillAt}
 use Rattle.cuts.specs.declared.list.Source.{Source}
 use Rattle.cuts.specs.declared.list.Source.the-variants as source
-use Rattle.cuts.specs.Source.{sourceSide, sourceReach, sourceAct, drillBoth, LeavesCell, SameTo}
+use Rattle.cuts.specs.Source.{sourceSide, sourceReach, sourceAct, drillBoth, Leaves, LeavesCell, SameTo}
 use Rattle.floats.proofs.Bools.{so}
+use Rattle.floats.proofs.Anywhere.{eq-turns}
+use Rattle.floats.proofs.Bounding.{eq-le, clash}
 
 abbrev N : Float → Type 0
 N = Number binary64
@@ -66,6 +68,29 @@ outer-left r c e = rw (pick-false _ (greatestOf r (c .inner .«lower_mm»)) (c .
 pub inner-left : (r : Float) (c : TurnCell) → lt (c .inner .«upper_mm») (leastOf r (c .outer .«upper_mm»)) ≡ false → cutCell Inner c (low r) ≡ c
 unfolding cutCell cutBy ownOf withPair deeper shallower deepOf sureOf limitOf greatestOf
 inner-left r c e = rw (pick-false _ (leastOf r (c .outer .«upper_mm»)) (c .inner .«upper_mm») e) refl
+
+-- else it is another, which is told by the deep bound
+below-other : (x y : Float) → lt x y ≡ true → eq y x ≡ false
+below-other x y e = fails (eq y x) (λ t. clash x y (so e) (eq-le y x t))
+
+above-other : (x y : Float) → lt x y ≡ true → eq x y ≡ false
+above-other x y e = fails (eq x y) (λ t. clash x y (so e) (eq-turns x y t))
+
+and-false : (a : Bool) → (a && false) ≡ false
+and-false true = refl
+and-false false = refl
+
+outer-moves : (r : Float) (c : TurnCell) → lt (greatestOf r (c .inner .«lower_mm»)) (c .outer .«lower_mm») ≡ true → sameCell c (cutCell Outer c (low r)) ≡ false
+unfolding cutCell cutBy ownOf withPair deeper shallower deepOf sureOf limitOf leastOf
+outer-moves r c e =
+    let own = greatestOf r (c .inner .«lower_mm») in
+    rw (pick-true _ own (c .outer .«lower_mm») e, below-other own (c .outer .«lower_mm») e) refl
+
+inner-moves : (r : Float) (c : TurnCell) → lt (c .inner .«upper_mm») (leastOf r (c .outer .«upper_mm»)) ≡ true → sameCell c (cutCell Inner c (low r)) ≡ false
+unfolding cutCell cutBy ownOf withPair deeper shallower deepOf sureOf limitOf greatestOf
+inner-moves r c e =
+    let own = leastOf r (c .outer .«upper_mm») in
+    rw (pick-true _ own (c .inner .«upper_mm») e, above-other (c .inner .«upper_mm») own e, and-false)
 
 -- ---- a drill
 
@@ -140,11 +165,17 @@ drill-left r c H hc e b tip cone =
     rw (sure, deep, order) refl
 
 -- ---- as the tests say it
-pub outer-told : (σ : TurnSide) (r : Float) (c : TurnCell) (g : Float) → σ ≡ Outer → g ≡ greatestOf r (c .inner .«lower_mm») → not (lt g (c .outer .«lower_mm»)) ≡ true → cutCell σ c (low r) ≡ c
+outer-told : (σ : TurnSide) (r : Float) (c : TurnCell) (g : Float) → σ ≡ Outer → g ≡ greatestOf r (c .inner .«lower_mm») → not (lt g (c .outer .«lower_mm»)) ≡ true → cutCell σ c (low r) ≡ c
 outer-told σ r c g e q t = rw e (outer-left r c (ap (λ (x : Float). lt x (c .outer .«lower_mm»)) (sym q) ∙ not-true _ t))
 
-pub inner-told : (σ : TurnSide) (r : Float) (c : TurnCell) (g : Float) → σ ≡ Inner → g ≡ leastOf r (c .outer .«upper_mm») → not (lt (c .inner .«upper_mm») g) ≡ true → cutCell σ c (low r) ≡ c
+inner-told : (σ : TurnSide) (r : Float) (c : TurnCell) (g : Float) → σ ≡ Inner → g ≡ leastOf r (c .outer .«upper_mm») → not (lt (c .inner .«upper_mm») g) ≡ true → cutCell σ c (low r) ≡ c
 inner-told σ r c g e q t = rw e (inner-left r c (ap (lt (c .inner .«upper_mm»)) (sym q) ∙ not-true _ t))
+
+pub outer-leaves : (σ : TurnSide) (r : Float) (c : TurnCell) (g : Float) → σ ≡ Outer → g ≡ greatestOf r (c .inner .«lower_mm») → Leaves (not (lt g (c .outer .«lower_mm»))) c (cutCell σ c (low r))
+outer-leaves σ r c g e q = record { stays = outer-told σ r c g e q; moves = λ t. rw e (outer-moves r c (ap (λ (x : Float). lt x (c .outer .«lower_mm»)) (sym q) ∙ not-false _ t)) }
+
+pub inner-leaves : (σ : TurnSide) (r : Float) (c : TurnCell) (g : Float) → σ ≡ Inner → g ≡ leastOf r (c .outer .«upper_mm») → Leaves (not (lt (c .inner .«upper_mm») g)) c (cutCell σ c (low r))
+inner-leaves σ r c g e q = record { stays = inner-told σ r c g e q; moves = λ t. rw e (inner-moves r c (ap (lt (c .inner .«upper_mm»)) (sym q) ∙ not-false _ t)) }
 
 pub drill-told : (r : Float) (c : TurnCell) (m : Float) → Held r → HeldCell c → m ≡ leastOf r (c .outer .«upper_mm»)
     → (le zero64 r && le (c .inner .«lower_mm») (c .inner .«upper_mm») && le m (c .inner .«lower_mm»)) ≡ true

@@ -1,28 +1,33 @@
 -- A cut that is taken in some bins only: the bins before them and behind them add no change, so that a loop over them lists all. Assumes nothing.
 use mathlib.Core.Path.{_≡_, refl, sym, ap, _∙_, subst}
-use mathlib.Core.Bool.{Bool, true, false, _||_}
+use mathlib.Core.Bool.{Bool, true, false, false≢true, _&&_, _||_}
 use mathlib.Core.List.{List, []}
-use Prim.Native.Nat.{ℕ, zero, suc, _+_, _-_, _≤_, _<_}
+use Prim.Native.Nat.{ℕ, zero, suc, _+_, _-_, _*_, _/_, _≤_, _<_}
 use native.Mathlib.Nat.{add-zero}
 use native.Mathlib.Numerals.{add-one}
 use native.Mathlib.Decide.{decLe}
 use native.Mathlib.Omega.{arith}
 use borrow.Author.Tests.{le-leb, lt-leb, lt-ltb, le-ltb, not-true, not-false}
 use lib.Dec.{leb}
-use lib.ListN.{length, length-append}
-use lib.Ieee.{Float, le}
+use lib.ListN.{length, getD, length-append, List·getD-eq-default}
+use lib.Ieee.{Float, nan, le, eq}
 use Rattle.refusals.specs.Lent.{over}
 use Rattle.floats.specs.Pick.{pick, pick-true, pick-false}
 use Rattle.floats.specs.Numbers.{leastOf, greatestOf}
 use Rattle.stock.specs.declared.TurnStockSpec.{TurnStockSpec}
 use Rattle.stock.specs.declared.TurnCell.{TurnCell}
+use Rattle.stock.specs.declared.TurnSide.{TurnSide}
 use Rattle.stock.specs.Bin.{binOf}
+use Rattle.stock.proofs.Count.{and-both}
 use Rattle.reach.specs.Reach.{Reached, passed, low, lowOf, Act, actCell}
-use Rattle.changes.specs.Change.{changeAt, changeOf, changesTo, numbersOf, Listing}
+use Rattle.changes.specs.Change.{roomOf, changeAt, changeOf, changesTo, numbersOf, Listing}
+use Rattle.changes.proofs.Placed.{listing-lengths}
 use Rattle.changes.proofs.Rising.{kept, changes-more}
 use Rattle.cuts.specs.Cut.{misses, threadReach, drillReach}
 use Rattle.cuts.specs.Rows.{passedOf, Split, Between}
-use Rattle.cuts.specs.Source.{drillBoth, spanReach, spanAct, SameTo}
+use Rattle.cuts.specs.declared.list.Source.{Source}
+use Rattle.cuts.specs.declared.list.Source.the-variants as source
+use Rattle.cuts.specs.Source.{sourceSide, sourceReach, lowAct, drillBoth, spanReach, spanAct, spanCell, SameTo, SameBelow, RoomOver}
 use Rattle.cuts.proofs.EachBin.{bin-passed, one-at-most}
 
 -- ---- which bins are visited
@@ -93,10 +98,24 @@ module _ (first last : ℕ) (a : Act) (cs : List Float) where
       omega (arith, m, o, h)
 
   -- at most one a bin that is visited
+  pub span-count : (i : ℕ) → first ≤ i → ((j : ℕ) → j < first → SameTo cs j) → length (changesTo (actCell (spanAct first last a)) cs i) ≤ i - first
+  span-count i h t =
+      let e : first + (i - first) ≡ i = omega arith in
+      subst (λ (m : ℕ). length (changesTo (actCell (spanAct first last a)) cs m) ≤ i - first) e (by-first (i - first) t)
+
   pub span-most : first ≤ last → ((j : ℕ) → j < first → SameTo cs j) → length (changesTo (actCell (spanAct first last a)) cs last) ≤ last - first
-  span-most h t =
-      let e : first + (last - first) ≡ last = omega arith in
-      subst (λ (m : ℕ). length (changesTo (actCell (spanAct first last a)) cs m) ≤ last - first) e (by-first (last - first) t)
+  span-most h t = span-count last h t
+
+  -- so where there is room for each of those bins there is room for all changes, and behind those written for one more
+  module _ (is₀ is : List ℕ) (xs₀ xs : List Float) (h : first ≤ last) (t : (j : ℕ) → j < last → SameTo cs j) (room : RoomOver first last is₀ xs₀) where
+    pub span-room : length (changesTo (actCell (spanAct first last a)) cs last) ≤ roomOf (length is₀) (length xs₀)
+    span-room = let m = span-most h (λ j l. t j (omega arith)) in omega (arith, m)
+
+    pub span-next : (i k : ℕ) → first ≤ i → i < last → Listing (actCell (spanAct first last a)) cs i k is₀ is xs₀ xs → k < roomOf (length is) (length xs)
+    span-next i k f l g =
+        let m = span-count i f (λ j l. t j (omega arith)) in
+        let s = listing-lengths (actCell (spanAct first last a)) cs i last k is₀ is xs₀ xs span-room (omega arith) g in
+        omega (arith, m, s .0, s .1, g .count)
 
   -- in a bin that is visited it is the cut
   pub change-in : (i : ℕ) → first ≤ i → i < last → changeAt (actCell a) cs i ≡ changeAt (actCell (spanAct first last a)) cs i
@@ -106,6 +125,29 @@ module _ (first last : ℕ) (a : Act) (cs : List Float) where
   pub change-of-in : (i : ℕ) → first ≤ i → i < last → changeOf (actCell a) cs i ≡ changeOf (actCell (spanAct first last a)) cs i
   change-of-in i h l = let e = span-in first last (a .at) i h l in rw e refl
 
+-- ---- cells without a NaN lie whole in the list
+no-nan : eq nan nan ≡ true → ⊥
+unfolding eq
+no-nan e = false≢true e
+
+same-held : (cs : List Float) (i : ℕ) → SameTo cs i → i < length cs / 4
+same-held cs i t = go (decLe (4 * i + 4) (length cs))
+  where
+    n : ℕ → Float
+    n j = getD cs j nan
+
+    go : Dec (4 * i + 4 ≤ length cs) → i < length cs / 4
+    go (yes p) = omega arith
+    go (no p) =
+        let at = 4 * i in
+        let e : getD cs (at + 3) nan ≡ nan = List·getD-eq-default cs nan (omega arith) in
+        let w = and-both (eq (n at) (n at) && eq (n (at + 1)) (n (at + 1)) && eq (n (at + 2)) (n (at + 2))) (eq (n (at + 3)) (n (at + 3))) t .1 in
+        absurd (no-nan (subst (λ (x : Float). eq x x ≡ true) e w))
+
+pub all-held : (cs : List Float) (n : ℕ) → SameBelow cs n → n ≤ length cs / 4
+all-held cs zero t = omega arith
+all-held cs (suc n) t = let h = same-held cs n (t n (omega arith)) in omega (arith, h)
+
 -- ---- the list in lent memory
 pub listing-start : (f : ℕ → TurnCell → TurnCell) (cs : List Float) (i : ℕ) (is : List ℕ) (xs : List Float) → changesTo f cs i ≡ [] → Listing f cs i 0 is is xs xs
 unfolding numbersOf over
@@ -113,6 +155,12 @@ listing-start f cs i is xs e = record { count = rw e refl; indices = rw e refl; 
 
 pub listing-end : (f : ℕ → TurnCell → TurnCell) (cs : List Float) (i n k : ℕ) (is is' : List ℕ) (xs xs' : List Float) → changesTo f cs n ≡ changesTo f cs i → Listing f cs i k is is' xs xs' → Listing f cs n k is is' xs xs'
 listing-end f cs i n k is is' xs xs' e g = record { count = rw e (g .count); indices = rw e (g .indices); numbers = rw e (g .numbers) }
+
+-- a thread reaches the same low in every bin
+pub thread-listed : (first last : ℕ) (s : TurnStockSpec) (src : Source) (values : List Float) (there : List Bool) (σ : TurnSide) (r : Float) (cs : List Float) (i k : ℕ) (is is' : List ℕ) (xs xs' : List Float) → src ≡ source.Thread σ r
+    → Listing (actCell (spanAct first last (lowAct σ r))) cs i k is is' xs xs' → Listing (spanCell first last s src values there) cs i k is is' xs xs'
+unfolding sourceSide sourceReach
+thread-listed first last s src values there σ r cs i k is is' xs xs' e g = rw e g
 
 -- ---- a thread and a drill
 or-true : (b : Bool) → (b || true) ≡ true

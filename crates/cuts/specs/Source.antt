@@ -1,10 +1,11 @@
 -- Proved equal to `cutAct`, `noseAct` and `polygonAct` by the proofs of the previews; need not be believed.
 -- Where the loop over the bins takes from what a cut reaches: from the numbers of a thread or a drill, or from rows that were filled before; and which bins it visits. Assumes nothing.
 use mathlib.Core.Path.{_≡_}
-use mathlib.Core.Bool.{Bool, true, _&&_}
+use mathlib.Core.Bool.{Bool, true, false, _&&_}
 use mathlib.Core.List.{List}
-use Prim.Native.Nat.{ℕ, _<_}
+use Prim.Native.Nat.{ℕ, _-_, _≤_, _<_}
 use lib.Dec.{leb, ltb}
+use lib.ListN.{length}
 use lib.Ieee.{Float, lt, le}
 use Rattle.floats.specs.Pick.{pick}
 use Rattle.floats.specs.Numbers.{zero64, usable}
@@ -18,6 +19,7 @@ use Rattle.stock.specs.Bin.{binOf}
 use Rattle.stock.specs.Cell.{cellAt, sameCell}
 use Rattle.reach.specs.declared.Reach.{Reach}
 use Rattle.reach.specs.Reach.{Reached, passed, low, both, reachPaper, reachFrom, cutCell, Act, actCell}
+use Rattle.changes.specs.Change.{roomOf}
 use Rattle.cuts.specs.declared.list.Source.{Source}
 use Rattle.cuts.specs.declared.list.Source.the-variants as source
 use Rattle.cuts.specs.Cut.{drillAt, threadReach, drillReach}
@@ -44,6 +46,15 @@ sourceReach s (source.Rows side) values there i = reachFrom side (rowAt values t
 -- the cut
 abbrev pub sourceAct : TurnStockSpec → Source → List Float → List Bool → Act
 sourceAct s src values there = record { side = sourceSide src; at = sourceReach s src values there }
+
+-- a cut that reaches the same low in every bin
+abbrev pub lowAct : TurnSide → Float → Act
+lowAct side r = record { side = side; at = λ i. low r }
+
+-- a test says whether a cell stays the same
+pub record Leaves (r : Bool) (c after : TurnCell) : Type 0 where
+  pub stays : r ≡ true → after ≡ c
+  pub moves : r ≡ false → sameCell c after ≡ false
 
 -- the cut leaves this cell, whatever bin it is of
 abbrev pub LeavesCell : Source → TurnCell → Type 0
@@ -72,6 +83,10 @@ drillAct s tip r cone = record { side = Inner; at = λ i. drillReach (binOf s i)
 abbrev pub cutChange : TurnSide → TurnCell → Reach → ℕ → TurnChange
 cutChange side before reached i = record { index = i; before = before; after = cutCell side before (reachPaper reached) }
 
+-- the change that a thread makes of the cell of bin i
+abbrev pub threadChange : TurnSide → Float → TurnCell → ℕ → TurnChange
+threadChange side r before i = record { index = i; before = before; after = cutCell side before (low r) }
+
 -- the cell of bin i is the same as itself: none of its numbers is a NaN
 abbrev pub SameTo : List Float → ℕ → Type 0
 SameTo cs i = sameCell (cellAt cs i) (cellAt cs i) ≡ true
@@ -83,3 +98,7 @@ SameBelow cs n = (i : ℕ) → i < n → SameTo cs i
 -- a stock whose n cells are checked is ready for the loops
 abbrev pub ReadyFor : TurnStockSpec → ℕ → List Float → Type 0
 ReadyFor s n cs = Graded s n × SameBelow cs n
+
+-- there is room for a change of each bin from first to before last
+abbrev pub RoomOver : ℕ → ℕ → List ℕ → List Float → Type 0
+RoomOver first last is xs = last - first ≤ roomOf (length is) (length xs)

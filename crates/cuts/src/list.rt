@@ -1,12 +1,14 @@
 // The changes of a cut over the bins: counted, and written out. One loop of each serves every kind.
 ghost use mathlib.Core.Path.{_≡_};
-ghost use Prim.Native.Nat.{_+_, _≤_};
+ghost use mathlib.Core.Bool.{true};
+ghost use Prim.Native.Nat.{_+_, _≤_, _<_};
 ghost use lib.ListN.{length};
 ghost use Rattle.refusals.specs.Limits.{cellLimit};
 ghost use Rattle.stock.specs.declared.TurnSide.the-variants.{Outer, Inner};
 ghost use Rattle.reach.specs.Reach.{reachPaper, reachFrom, actCell};
-ghost use Rattle.changes.specs.Change.{changeAt, changeOf, changesTo, ListsChange, ListsBelow, RoomFor, Tallies};
-ghost use Rattle.cuts.specs.Source.{sourceSide, sourceReach, sourceAct, spanAct, spanCell, cutChange, SameTo, SameBelow};
+ghost use Rattle.stock.specs.Cell.{sameCell};
+ghost use Rattle.changes.specs.Change.{roomOf, changeAt, changeOf, changesTo, PutsChange, ListsChange, ListsBelow, RoomFor, Tallies};
+ghost use Rattle.cuts.specs.Source.{sourceSide, sourceReach, sourceAct, lowAct, spanAct, spanCell, cutChange, threadChange, SameTo, SameBelow, RoomOver};
 ghost use Rattle.cuts.specs.Rows.{rowAt};
 ghost use Rattle.cuts.specs.Preview.{proposing};
 use crate::rows;
@@ -237,6 +239,107 @@ fn write(
     k
 }
 
+// Change k, written at its place.
+fn put(indices: &mut [usize], records: &mut [f64], k: usize, change: TurnChange)
+    requires { ⌜ k < roomOf (length (now indices)) (length (now records)) ⌝ }
+    ensures { λ _. ⌜ PutsChange k change indices records ⌝ }
+{
+    let at = 8 * k;
+    indices[k] = change.index;
+    records[at] = change.before.outer.lower_mm;
+    records[at + 1] = change.before.outer.upper_mm;
+    records[at + 2] = change.before.inner.lower_mm;
+    records[at + 3] = change.before.inner.upper_mm;
+    records[at + 4] = change.after.outer.lower_mm;
+    records[at + 5] = change.after.outer.upper_mm;
+    records[at + 6] = change.after.inner.lower_mm;
+    records[at + 7] = change.after.inner.upper_mm;
+}
+
+// What a thread makes of the cell of bin i, written behind k others where it goes deeper; how many
+// there are then.
+fn thread_bin(
+    side: TurnSide,
+    radius: f64,
+    before: TurnCell,
+    i: usize,
+    indices: &mut [usize],
+    records: &mut [f64],
+    k: usize,
+) -> usize
+    requires { ⌜ (k < roomOf (length (now indices)) (length (now records))) × (sameCell before before ≡ true) ⌝ }
+    ensures { λ r. ⌜ ListsChange k r (threadChange side radius before i) indices records ⌝ }
+{
+    if unchanged::thread_leaves(side, radius, before) {
+        return k;
+    }
+    let after = reach::cut_cell(side, before, Reach::Low(radius));
+    let change = TurnChange {
+        index: i,
+        before,
+        after,
+    };
+    put(indices, records, k, change);
+    k + 1
+}
+
+// The changes of a thread, written out where there is room for each of its bins; how many they are.
+// The bound of the loop is the list's own too, so that the compiler asks no place of a cell.
+fn write_thread(
+    side: TurnSide,
+    radius: f64,
+    cells: &[f64],
+    first: usize,
+    last: usize,
+    indices: &mut [usize],
+    records: &mut [f64],
+) -> usize
+    requires { ⌜ (first ≤ last) × SameBelow (now cells) last × RoomOver first last (now indices) (now records) ⌝ }
+    ensures { λ r. ⌜ ListsBelow (actCell (spanAct first last (lowAct side radius))) (now (cells .entry)) last r indices records ⌝ }
+{
+    let top = numbers::lesser(last, cells.len() / 4);
+    let mut k: usize = 0;
+    let mut i: usize = first;
+    while i < top {
+        let before = stock::cell_at(cells, i);
+        k = thread_bin(side, radius, before, i, indices, records, k);
+        i += 1;
+    }
+    k
+}
+
+// The changes of the cut, written out where there is room for each of its bins: each kind has its own
+// loop.
+fn write_each(
+    s: TurnStockSpec,
+    source: Source,
+    values: &[f64],
+    there: &[bool],
+    cells: &[f64],
+    first: usize,
+    last: usize,
+    indices: &mut [usize],
+    records: &mut [f64],
+) -> usize
+    requires { ⌜ (first ≤ last) × (last ≤ cellLimit) × SameBelow (now cells) last × RoomOver first last (now indices) (now records) ⌝ }
+    ensures { λ r. ⌜ ListsBelow (spanCell first last s source (now (values .entry)) (now (there .entry))) (now (cells .entry)) last r indices records ⌝ }
+{
+    if let Source::Thread { side, radius } = source {
+        return write_thread(side, radius, cells, first, last, indices, records);
+    }
+    write(
+        s,
+        source,
+        values,
+        there,
+        cells,
+        first,
+        last,
+        indices,
+        records,
+    )
+}
+
 // The changes that the cut makes in n cells, where it is taken in the bins from first to before last
 // only, and where there is room for them: in one pass where there is room for all of those bins.
 pub fn list(
@@ -256,7 +359,7 @@ pub fn list(
 {
     let room = changes::room(indices.len(), records.len());
     if last - first <= room {
-        return Tally::Changes(write(
+        return Tally::Changes(write_each(
             s,
             source,
             values,

@@ -6,14 +6,14 @@ ghost use lib.Ieee.{Float};
 ghost use Rattle.stock.specs.declared.TurnSide.the-variants.{Inner};
 ghost use Rattle.stock.specs.declared.ZRange.{ZRange};
 ghost use Rattle.reach.specs.Reach.{low, cutCell};
-ghost use Rattle.cuts.specs.Source.{drillBoth, LeavesCell};
+ghost use Rattle.cuts.specs.Source.{drillBoth, Leaves, LeavesCell};
 use crate::list::Source;
 use stock::TurnCell;
 use stock::TurnSide;
 
-// A thread to this radius goes no deeper than the cell's deep bound.
-fn thread_leaves(side: TurnSide, radius: f64, c: TurnCell) -> bool
-    ensures { λ r. ⌜ (r ≡ true → cutCell side c (low radius) ≡ c) ⌝ }
+// A thread to this radius goes no deeper than the cell's deep bound; else it makes another cell.
+pub fn thread_leaves(side: TurnSide, radius: f64, c: TurnCell) -> bool
+    ensures { λ r. ⌜ Leaves r c (cutCell side c (low radius)) ⌝ }
 {
     match side {
         TurnSide::Outer => !(floats::greatest(radius, c.inner.lower_mm) < c.outer.lower_mm),

@@ -10,14 +10,11 @@ use Rattle.cuts.proofs.list.list.Statement.{statement}
 use Rattle.cuts.proofs.list.list.Tie as tie
 
 -- there is room for every bin that is visited
-write-requires : tie.Need-write-requires
-write-requires c κs =
+write-each-requires : tie.Need-write-each-requires
+write-each-requires c κs =
     let r = c .before .before .before in
-    let s = r .before .before .before .before .before .before in
-    let a = s .args in
-    let p = s .pre in
-    let most = span-most (a .first) (a .last) (sourceAct (a .s) (a .source) (a .values .now) (a .there .now)) (a .cells .now) (p .0) (λ j h. p .3 j (omega (arith, p .0, p .1))) in
-    (p .0, omega (arith, p .1, p .2), λ j h. p .3 j (omega (arith, p .1)), omega (arith, most, r .room .ensures))
+    let p = r .before .before .before .before .before .before .pre in
+    (p .0, omega (arith, p .1, p .2), λ j h. p .3 j (omega (arith, p .1)), omega (arith, r .room .ensures))
 
 returns : tie.Need-returns
 returns c =
@@ -29,7 +26,7 @@ returns c =
     let u = sourceAct (a .s) (a .source) (a .values .now) (a .there .now) in
     let e = none-behind (a .first) (a .last) u (a .cells .now) (a .n) (p .1) (p .3) in
     let most = span-most (a .first) (a .last) u (a .cells .now) (p .0) (λ j h. p .3 j (omega (arith, p .0, p .1))) in
-    settled-listed _ _ _ _ _ _ _ _ _ (omega (arith, ap length e, most, r .room .ensures)) (listing-end _ _ _ _ _ _ _ _ _ e (b .write .ensures))
+    settled-listed _ _ _ _ _ _ _ _ _ (omega (arith, ap length e, most, r .room .ensures)) (listing-end _ _ _ _ _ _ _ _ _ e (b .write-each .ensures))
 
 count-requires : tie.Need-count-requires
 count-requires c κs =
@@ -37,8 +34,8 @@ count-requires c κs =
     (p .0, omega (arith, p .1, p .2), λ j h. p .3 j (omega (arith, p .1)))
 
 -- there is room for those that change
-write-requires-2 : tie.Need-write-requires-2
-write-requires-2 c κs =
+write-requires : tie.Need-write-requires
+write-requires c κs =
     let k = c .before .before .before in
     let r = k .before .before in
     let p = r .before .before .before .before .before .before .pre in
@@ -53,7 +50,7 @@ returns-2 c =
     let a = s .args in
     let p = s .pre in
     let e = none-behind (a .first) (a .last) (sourceAct (a .s) (a .source) (a .values .now) (a .there .now)) (a .cells .now) (a .n) (p .1) (p .3) in
-    settled-listed _ _ _ _ _ _ _ _ _ (omega (arith, ap length e, k .count .ensures, r .room .ensures)) (listing-end _ _ _ _ _ _ _ _ _ e (b .write2 .ensures))
+    settled-listed _ _ _ _ _ _ _ _ _ (omega (arith, ap length e, k .count .ensures, r .room .ensures)) (listing-end _ _ _ _ _ _ _ _ _ e (b .write .ensures))
 
 returns-3 : tie.Need-returns-3
 returns-3 c =
@@ -70,12 +67,12 @@ list-spec =
     (tie.spec
     (λ c κs. search needs)
     (λ c. search needs)
-    write-requires
+    write-each-requires
     (λ c. search needs)
     (λ c. search needs)
     returns
     count-requires
-    write-requires-2
+    write-requires
     (λ c. search needs)
     (λ c. search needs)
     returns-2

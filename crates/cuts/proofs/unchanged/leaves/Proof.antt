@@ -6,7 +6,7 @@ use Rattle.cuts.proofs.unchanged.leaves.Statement.{statement}
 use Rattle.cuts.proofs.unchanged.leaves.Tie as tie
 
 returns : tie.Need-returns
-returns c t = thread-source _ _ _ _ (c .before .before .source .given .1) (c .thread-leaves .ensures t)
+returns c t = thread-source _ _ _ _ (c .before .before .source .given .1) (c .thread-leaves .ensures .stays t)
 
 returns-2 : tie.Need-returns-2
 returns-2 c t = drill-source _ _ _ _ _ (c .before .before .source2 .given .1) (c .drill-leaves .ensures t)

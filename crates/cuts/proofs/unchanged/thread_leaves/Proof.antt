@@ -1,14 +1,14 @@
 -- `cuts::unchanged::thread_leaves` meets its contract. Assumes nothing.
 use borrow.Author.Needs.{needs}
-use Rattle.cuts.proofs.Left.{outer-told, inner-told}
+use Rattle.cuts.proofs.Left.{outer-leaves, inner-leaves}
 use Rattle.cuts.proofs.unchanged.thread_leaves.Statement.{statement}
 use Rattle.cuts.proofs.unchanged.thread_leaves.Tie as tie
 
 returns : tie.Need-returns
-returns c t = outer-told _ _ _ _ (c .before .before .enum-told .given .1) (c .before .greatest .ensures) t
+returns c = outer-leaves _ _ _ _ (c .before .before .enum-told .given .1) (c .before .greatest .ensures)
 
 returns-2 : tie.Need-returns-2
-returns-2 c t = inner-told _ _ _ _ (c .before .before .enum-told2 .given .1) (c .before .least .ensures) t
+returns-2 c = inner-leaves _ _ _ _ (c .before .before .enum-told2 .given .1) (c .before .least .ensures)
 
 pub thread-leaves-spec : {M : Type 1} → statement M
 thread-leaves-spec =
