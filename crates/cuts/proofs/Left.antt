@@ -22,7 +22,7 @@ use Rattle.stock.specs.declared.ZRange.{ZRange}
 use Rattle.stock.specs.Bin.{binOf}
 use Rattle.stock.specs.Cell.{cellAt, sameCell}
 use Rattle.stock.proofs.Count.{and-both}
-use Rattle.reach.specs.Reach.{low, deeper, shallower, deepOf, sureOf, limitOf, withPair, ownOf, cutBy, cutCell, actCell}
+use Rattle.reach.specs.Reach.{low, both, deeper, shallower, deepOf, sureOf, limitOf, withPair, ownOf, cutBy, cutCell, actCell}
 use Rattle.stock.proofs.Passes.{HeldCell}
 use Rattle.cuts.specs.Cut.{drillAt}
 use Rattle.cuts.specs.declared.list.Source.{Source}
@@ -163,6 +163,23 @@ drill-left r c H hc e b tip cone =
     let deep = under r (drillAt (b .zb) tip r cone) ou iu R (held r R z (b .zb) tip cone) (hc .outer-upper) IU (most r R z (b .zb) tip cone) (le-trans M IL IU m o) in
     let order : greatestOf iu il ≡ iu = kept iu il (fails (lt iu il) (λ t. lt-never IU (lt-le-trans IU IL IU t o))) in
     rw (sure, deep, order) refl
+
+-- a cut of the inside keeps the outer bounds, so that the inner ones tell whether the cell is another
+inner-keeps : (c : TurnCell) (x y : Float) → cutCell Inner c (both x y) .outer ≡ c .outer
+unfolding cutCell cutBy ownOf withPair
+inner-keeps c x y = refl
+
+inner-same : (c a : TurnCell) → sameCell c c ≡ true → a .outer ≡ c .outer → sameCell c a ≡ (eq (c .inner .«lower_mm») (a .inner .«lower_mm») && eq (c .inner .«upper_mm») (a .inner .«upper_mm»))
+inner-same c a t e =
+    let lower = eq (c .outer .«lower_mm») (c .outer .«lower_mm») in
+    let upper = eq (c .outer .«upper_mm») (c .outer .«upper_mm») in
+    let il = eq (c .inner .«lower_mm») (c .inner .«lower_mm») in
+    let t2 = and-both (lower && upper && il) (eq (c .inner .«upper_mm») (c .inner .«upper_mm»)) t .0 in
+    let t1 = and-both lower upper (and-both (lower && upper) il t2 .0) in
+    rw (e, t1 .0, t1 .1) refl
+
+pub drill-same : (c a : TurnCell) (x y : Float) → sameCell c c ≡ true → a ≡ cutCell Inner c (both x y) → (t : Bool) → (eq (c .inner .«lower_mm») (a .inner .«lower_mm») && eq (c .inner .«upper_mm») (a .inner .«upper_mm»)) ≡ t → sameCell c (cutCell Inner c (both x y)) ≡ t
+drill-same c a x y s e t q = ap (sameCell c) (sym e) ∙ inner-same c a s (ap (λ (z : TurnCell). z .outer) e ∙ inner-keeps c x y) ∙ q
 
 -- ---- as the tests say it
 outer-told : (σ : TurnSide) (r : Float) (c : TurnCell) (g : Float) → σ ≡ Outer → g ≡ greatestOf r (c .inner .«lower_mm») → not (lt g (c .outer .«lower_mm»)) ≡ true → cutCell σ c (low r) ≡ c

@@ -27,7 +27,7 @@ use Rattle.cuts.specs.Cut.{misses, threadReach, drillReach}
 use Rattle.cuts.specs.Rows.{passedOf, Split, Between}
 use Rattle.cuts.specs.declared.list.Source.{Source}
 use Rattle.cuts.specs.declared.list.Source.the-variants as source
-use Rattle.cuts.specs.Source.{sourceSide, sourceReach, lowAct, drillBoth, spanReach, spanAct, spanCell, SameTo, SameBelow, RoomOver}
+use Rattle.cuts.specs.Source.{sourceSide, sourceReach, lowAct, boreAct, drillBoth, spanReach, spanAct, spanCell, SameTo, SameBelow, RoomOver}
 use Rattle.cuts.proofs.EachBin.{bin-passed, one-at-most}
 
 -- ---- which bins are visited
@@ -156,11 +156,18 @@ listing-start f cs i is xs e = record { count = rw e refl; indices = rw e refl; 
 pub listing-end : (f : ℕ → TurnCell → TurnCell) (cs : List Float) (i n k : ℕ) (is is' : List ℕ) (xs xs' : List Float) → changesTo f cs n ≡ changesTo f cs i → Listing f cs i k is is' xs xs' → Listing f cs n k is is' xs xs'
 listing-end f cs i n k is is' xs xs' e g = record { count = rw e (g .count); indices = rw e (g .indices); numbers = rw e (g .numbers) }
 
--- a thread reaches the same low in every bin
-pub thread-listed : (first last : ℕ) (s : TurnStockSpec) (src : Source) (values : List Float) (there : List Bool) (σ : TurnSide) (r : Float) (cs : List Float) (i k : ℕ) (is is' : List ℕ) (xs xs' : List Float) → src ≡ source.Thread σ r
-    → Listing (actCell (spanAct first last (lowAct σ r))) cs i k is is' xs xs' → Listing (spanCell first last s src values there) cs i k is is' xs xs'
-unfolding sourceSide sourceReach
-thread-listed first last s src values there σ r cs i k is is' xs xs' e g = rw e g
+-- by the kind of a source: a thread reaches the same low in every bin, a drill its two radii
+module _ (first last : ℕ) (s : TurnStockSpec) (src : Source) (values : List Float) (there : List Bool) (cs : List Float) (i k : ℕ) (is is' : List ℕ) (xs xs' : List Float) where
+  pub thread-listed : (σ : TurnSide) (r : Float) → src ≡ source.Thread σ r → Listing (actCell (spanAct first last (lowAct σ r))) cs i k is is' xs xs' → Listing (spanCell first last s src values there) cs i k is is' xs xs'
+  unfolding sourceSide sourceReach
+  thread-listed σ r e g = rw e g
+
+  pub drill-listed : (tip r cone : Float) → src ≡ source.Drill tip r cone → Listing (actCell (spanAct first last (boreAct s tip r cone))) cs i k is is' xs xs' → Listing (spanCell first last s src values there) cs i k is is' xs xs'
+  unfolding sourceSide sourceReach
+  drill-listed tip r cone e g = rw e g
+
+  pub rows-listed : (σ : TurnSide) → src ≡ source.Rows σ → Listing (spanCell first last s (source.Rows σ) values there) cs i k is is' xs xs' → Listing (spanCell first last s src values there) cs i k is is' xs xs'
+  rows-listed σ e g = rw e g
 
 -- ---- a thread and a drill
 or-true : (b : Bool) → (b || true) ≡ true

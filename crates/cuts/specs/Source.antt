@@ -51,6 +51,10 @@ sourceAct s src values there = record { side = sourceSide src; at = sourceReach 
 abbrev pub lowAct : TurnSide → Float → Act
 lowAct side r = record { side = side; at = λ i. low r }
 
+-- a drill in bins that do not end before its tip
+abbrev pub boreAct : TurnStockSpec → Float → Float → Float → Act
+boreAct s tip r cone = record { side = Inner; at = λ i. drillBoth (binOf s i) tip r cone }
+
 -- a test says whether a cell stays the same
 pub record Leaves (r : Bool) (c after : TurnCell) : Type 0 where
   pub stays : r ≡ true → after ≡ c
@@ -86,6 +90,10 @@ cutChange side before reached i = record { index = i; before = before; after = c
 -- the change that a thread makes of the cell of bin i
 abbrev pub threadChange : TurnSide → Float → TurnCell → ℕ → TurnChange
 threadChange side r before i = record { index = i; before = before; after = cutCell side before (low r) }
+
+-- the change that a drill makes of it, by its radius at the lower and the upper end
+abbrev pub drillChange : Float → Float → TurnCell → ℕ → TurnChange
+drillChange x y before i = record { index = i; before = before; after = cutCell Inner before (both x y) }
 
 -- the cell of bin i is the same as itself: none of its numbers is a NaN
 abbrev pub SameTo : List Float → ℕ → Type 0

@@ -1,4 +1,5 @@
-// The changes of a cut over the bins: counted, and written out. One loop of each serves every kind.
+// The changes of a cut over the bins: counted, and written out. One loop of each serves every kind; a
+// thread and a drill with room for each of their bins have a shorter one.
 ghost use mathlib.Core.Path.{_≡_};
 ghost use mathlib.Core.Bool.{true};
 ghost use Prim.Native.Nat.{_+_, _≤_, _<_};
@@ -8,7 +9,8 @@ ghost use Rattle.stock.specs.declared.TurnSide.the-variants.{Outer, Inner};
 ghost use Rattle.reach.specs.Reach.{reachPaper, reachFrom, actCell};
 ghost use Rattle.stock.specs.Cell.{sameCell};
 ghost use Rattle.changes.specs.Change.{roomOf, changeAt, changeOf, changesTo, PutsChange, ListsChange, ListsBelow, RoomFor, Tallies};
-ghost use Rattle.cuts.specs.Source.{sourceSide, sourceReach, sourceAct, lowAct, spanAct, spanCell, cutChange, threadChange, SameTo, SameBelow, RoomOver};
+ghost use Rattle.cuts.specs.Source.{sourceSide, sourceReach, sourceAct, lowAct, boreAct, spanAct, spanCell, cutChange, threadChange, drillChange, SameTo, SameBelow, RoomOver};
+ghost use Rattle.cuts.specs.Cut.{drillAt};
 ghost use Rattle.cuts.specs.Rows.{rowAt};
 ghost use Rattle.cuts.specs.Preview.{proposing};
 use crate::rows;
@@ -308,6 +310,106 @@ fn write_thread(
     k
 }
 
+// What a drill makes of the cell of bin i, by its radius at the two ends of the bin, written behind k
+// others where it is another cell, which the inner bounds tell; how many there are then.
+fn put_drill(
+    low: f64,
+    high: f64,
+    before: TurnCell,
+    i: usize,
+    indices: &mut [usize],
+    records: &mut [f64],
+    k: usize,
+) -> usize
+    requires { ⌜ (k < roomOf (length (now indices)) (length (now records))) × (sameCell before before ≡ true) ⌝ }
+    ensures { λ r. ⌜ ListsChange k r (drillChange low high before i) indices records ⌝ }
+{
+    let after = reach::cut_cell(TurnSide::Inner, before, Reach::Both(low, high));
+    let lower = before.inner.lower_mm == after.inner.lower_mm;
+    let upper = before.inner.upper_mm == after.inner.upper_mm;
+    if lower & upper {
+        return k;
+    }
+    let change = TurnChange {
+        index: i,
+        before,
+        after,
+    };
+    put(indices, records, k, change);
+    k + 1
+}
+
+// How many changes of a drill are written, with its radius at the height that it was asked for last.
+struct Drilled {
+    k: usize,
+    at: f64,
+    low: f64,
+}
+
+// The drill's radius at z, which is in hand where it was asked for last.
+fn kept(d: Drilled, tip: f64, radius: f64, cone: f64, z: f64) -> f64
+    requires { ⌜ d .low ≡ drillAt (d .at) tip radius cone ⌝ }
+    ensures { λ r. ⌜ r ≡ drillAt z tip radius cone ⌝ }
+{
+    if nose::alike(d.at, z) {
+        return d.low;
+    }
+    single::drill_at(z, tip, radius, cone)
+}
+
+// Bin i of a drill, where it is no bin that the drill leaves. The index is below 2^32: so told, the
+// compiler turns it into a float in fewer steps.
+fn drill_bin(
+    s: TurnStockSpec,
+    tip: f64,
+    radius: f64,
+    cone: f64,
+    cells: &[f64],
+    i: usize,
+    indices: &mut [usize],
+    records: &mut [f64],
+    d: Drilled,
+) -> Drilled
+    requires { ⌜ (i ≤ cellLimit) × SameTo (now cells) i × (d .k < roomOf (length (now indices)) (length (now records))) × (d .low ≡ drillAt (d .at) tip radius cone) ⌝ }
+    ensures { λ r. ⌜ ListsChange (d .k) (r .k) (changeOf (actCell (boreAct s tip radius cone)) (now (cells .entry)) i) indices records × (r .low ≡ drillAt (r .at) tip radius cone) ⌝ }
+{
+    let before = stock::cell_at(cells, i);
+    if unchanged::drill_leaves(radius, before) {
+        return d;
+    }
+    let bin = stock::bin_of(s, i % 4294967296);
+    let high = kept(d, tip, radius, cone, bin.za);
+    let low = single::drill_at(bin.zb, tip, radius, cone);
+    let k = put_drill(low, high, before, i, indices, records, d.k);
+    Drilled { k, at: bin.zb, low }
+}
+
+// The changes of a drill, written out where there is room for each of its bins; how many they are.
+fn write_drill(
+    s: TurnStockSpec,
+    tip: f64,
+    radius: f64,
+    cone: f64,
+    cells: &[f64],
+    first: usize,
+    last: usize,
+    indices: &mut [usize],
+    records: &mut [f64],
+) -> usize
+    requires { ⌜ (first ≤ last) × (last ≤ cellLimit) × SameBelow (now cells) last × RoomOver first last (now indices) (now records) ⌝ }
+    ensures { λ r. ⌜ ListsBelow (actCell (spanAct first last (boreAct s tip radius cone))) (now (cells .entry)) last r indices records ⌝ }
+{
+    let top = numbers::lesser(last, cells.len() / 4);
+    let low = single::drill_at(tip, tip, radius, cone);
+    let mut d = Drilled { k: 0, at: tip, low };
+    let mut i: usize = first;
+    while i < top {
+        d = drill_bin(s, tip, radius, cone, cells, i, indices, records, d);
+        i += 1;
+    }
+    d.k
+}
+
 // The changes of the cut, written out where there is room for each of its bins: each kind has its own
 // loop.
 fn write_each(
@@ -324,20 +426,27 @@ fn write_each(
     requires { ⌜ (first ≤ last) × (last ≤ cellLimit) × SameBelow (now cells) last × RoomOver first last (now indices) (now records) ⌝ }
     ensures { λ r. ⌜ ListsBelow (spanCell first last s source (now (values .entry)) (now (there .entry))) (now (cells .entry)) last r indices records ⌝ }
 {
-    if let Source::Thread { side, radius } = source {
-        return write_thread(side, radius, cells, first, last, indices, records);
+    match source {
+        Source::Thread { side, radius } => {
+            write_thread(side, radius, cells, first, last, indices, records)
+        }
+        Source::Drill {
+            tip_z,
+            radius,
+            cone,
+        } => write_drill(s, tip_z, radius, cone, cells, first, last, indices, records),
+        Source::Rows(side) => write(
+            s,
+            Source::Rows(side),
+            values,
+            there,
+            cells,
+            first,
+            last,
+            indices,
+            records,
+        ),
     }
-    write(
-        s,
-        source,
-        values,
-        there,
-        cells,
-        first,
-        last,
-        indices,
-        records,
-    )
 }
 
 // The changes that the cut makes in n cells, where it is taken in the bins from first to before last

@@ -22,10 +22,13 @@ pub fn thread_leaves(side: TurnSide, radius: f64, c: TurnCell) -> bool
 }
 
 // A drill of this radius goes no deeper than the cell's sure bound, wherever its tip is.
-fn drill_leaves(radius: f64, c: TurnCell) -> bool
+pub fn drill_leaves(radius: f64, c: TurnCell) -> bool
     ensures { λ r. ⌜ (r ≡ true → (b : ZRange) (tip cone : Float) → cutCell Inner c (drillBoth b tip radius cone) ≡ c) ⌝ }
 {
     let most = floats::least(radius, c.outer.upper_mm);
+    if c.inner.lower_mm < most {
+        return false;
+    }
     (0.0 <= radius) & (c.inner.lower_mm <= c.inner.upper_mm) & (most <= c.inner.lower_mm)
 }
 
