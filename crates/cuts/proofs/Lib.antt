@@ -9,3 +9,4 @@ pub mod Spans
 pub mod Singles
 mod Drills
 mod Left
+mod Rests

@@ -109,6 +109,20 @@ pub record Between (P Q : ℕ → Bool) (n first last : ℕ) : Type 0 where
 abbrev pub stepped : TurnStockSpec → Track → ℕ → Found → Found
 stepped s t j acc = stepOf acc (t .low) (t .shy) (binOf s j) (sampleAt t (binOf s j .za)) (sampleAt t (binOf s j .zb))
 
+-- a radius that is there, and no more than top
+abbrev pub AtMost : Float → Option Float → Type 0
+AtMost top none = ⊥
+AtMost top (some x) = T (le x top)
+
+-- low and high are there, and top is not less
+abbrev pub Topped : Float → Found → Type 0
+Topped top f = AtMost top (f .low) × AtMost top (f .high)
+
+-- one segment leaves the bins from first to before last as they are
+pub record Rested (s : TurnStockSpec) (t : Track) (first last : ℕ) (old : ℕ → Found) : Type 0 where
+  pub ordered : first ≤ last
+  pub inside : (j : ℕ) → first ≤ j → j < last → stepped s t j (old j) ≡ old j
+
 -- one segment over the bins from first to before last
 pub record Stepped (s : TurnStockSpec) (t : Track) (first last : ℕ) (old new : ℕ → Found) : Type 0 where
   pub inside : (j : ℕ) → first ≤ j → j < last → new j ≡ stepped s t j (old j)

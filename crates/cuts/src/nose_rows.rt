@@ -1,22 +1,40 @@
 // A nose over all bins, segment by segment: only the bins that a segment reaches are visited, and
 // what no bin changes is worked out once a segment.
 ghost use mathlib.Core.Path.{_≡_};
+ghost use mathlib.Core.Bool.{true};
+ghost use mathlib.Core.Option.{none};
 ghost use Prim.Native.Nat.{_+_, _≤_};
 ghost use lib.ListN.{length};
+ghost use lib.Ieee.{Float};
 ghost use Rattle.refusals.specs.Limits.{cellLimit};
-ghost use Rattle.reach.specs.Low.{sweptPaper};
+ghost use Rattle.reach.specs.Low.{lowPaper, sweptPaper};
+ghost use Rattle.reach.specs.Kinds.{SomeOf};
 ghost use Rattle.nose.specs.Nose.{segmentCount};
-ghost use Rattle.nose.specs.Track.{samplePaper, sampleAt, stepOf};
-ghost use Rattle.cuts.specs.Rows.{rowAt, rowsFound, rowsLeft, Room, PutRow, Unfilled, Graded, Stepped, Passed, RowFilled, Idle};
+ghost use Rattle.nose.specs.Track.{endOn, sideOn, capsuleAt, samplePaper, sampleAt, stepOf, Over};
+ghost use Rattle.cuts.specs.Rows.{rowAt, rowsFound, rowsLeft, Room, PutRow, Unfilled, Graded, Topped, Rested, Stepped, Passed, RowFilled, Idle};
 use crate::ends;
 use crate::rows;
+use nose::Capsule;
 use nose::Point;
 use nose::Sample;
 use nose::Track;
+use reach::Low;
+use reach::Swept;
 use stock::BinRange;
 use stock::TurnSide;
 use stock::TurnStockSpec;
 use stock::ZRange;
+
+// How far below a centre a circle may reach lies between 2^-400 and 1e100 and is a little less than
+// the room, or the test says nothing.
+const FAR_LEAST: f64 = 3.8725919148493183e-121;
+
+const FAR_MOST: f64 = 1e100;
+
+const NEARLY: f64 = 0.999999;
+
+// So many bins are swept before it is asked again which rest.
+const PART: usize = 64;
 
 // The sample on the line c, by way of the one on the line at.
 fn kept(t: Track, at: f64, held: Sample, c: f64) -> Sample
@@ -74,6 +92,123 @@ fn sweep(
     }
 }
 
+// Whether the circle about p stays over top on the line z = c; rr is its radius's square. `false` says
+// nothing. Where the square of far is no less than what is rooted, far is no less than the root.
+fn over(p: Point, rr: f64, c: f64, top: f64) -> bool
+    ensures { λ r. ⌜ (r ≡ true → (rn : Float) → Over top (endOn p rn rr c)) ⌝ }
+{
+    let dz = p.z - c;
+    let far = (p.r - top) * NEARLY;
+    (rr - dz * dz <= far * far) & (top < p.r - far) & (FAR_LEAST <= far) & (far <= FAR_MOST)
+}
+
+// Whether the straight side of a capsule misses the line z = c. `false` says nothing.
+fn beside(w: Capsule, c: f64) -> bool
+    ensures { λ r. ⌜ (r ≡ true → sideOn w c ≡ none) ⌝ }
+{
+    let t = (c - w.p.z) / w.dz;
+    w.sloped & !((0.0 <= t) & (t <= 1.0))
+}
+
+// Whether a capsule stays over top on both lines of a bin. `false` says nothing.
+fn stays(w: Capsule, bin: ZRange, top: f64) -> bool
+    ensures { λ r. ⌜ (r ≡ true → Over top (capsuleAt w (bin .za)) × Over top (capsuleAt w (bin .zb))) ⌝ }
+{
+    if over(w.a, w.rr, bin.za, top)
+        & over(w.b, w.rr, bin.za, top)
+        & over(w.a, w.rr, bin.zb, top)
+        & over(w.b, w.rr, bin.zb, top)
+    {
+        return beside(w, bin.za) & beside(w, bin.zb);
+    }
+    false
+}
+
+// The greater of low and high, where both are there.
+fn top_of(row: Swept) -> Low
+    ensures { λ r. ⌜ SomeOf (λ x. Topped x (sweptPaper row)) (lowPaper r) ⌝ }
+{
+    let l = row.low;
+    let h = row.high;
+    let Low::At(low) = l else {
+        return Low::Nowhere;
+    };
+    let Low::At(high) = h else {
+        return Low::Nowhere;
+    };
+    if low <= high {
+        return Low::At(high);
+    }
+    if high <= low {
+        return Low::At(low);
+    }
+    Low::Nowhere
+}
+
+// Whether a segment leaves a bin as it is, by low and high of the bin. `false` says nothing.
+fn rests(t: Track, bin: ZRange, row: Swept) -> bool
+    ensures { λ r. ⌜ (r ≡ true → stepOf (sweptPaper row) (t .low) (t .shy) bin (sampleAt t (bin .za)) (sampleAt t (bin .zb)) ≡ sweptPaper row) ⌝ }
+{
+    if (bin.za <= t.low.z) & (t.low.z <= bin.zb) {
+        return false;
+    }
+    let found = top_of(row);
+    let Low::At(top) = found else {
+        return false;
+    };
+    if !stays(t.grown, bin, top) {
+        return false;
+    }
+    if t.same {
+        return true;
+    }
+    stays(t.shrunk, bin, top)
+}
+
+// The first bin from first on that a segment may change, or last.
+fn rested(
+    s: TurnStockSpec,
+    t: Track,
+    first: usize,
+    last: usize,
+    values: &[f64],
+    there: &[bool],
+) -> usize
+    requires { ⌜ (first ≤ last) × (last ≤ cellLimit) ⌝ }
+    ensures { λ r. ⌜ (r ≤ last) × Rested s t first r (rowAt (now (values .entry)) (now (there .entry))) ⌝ }
+{
+    let mut i = first;
+    while i < last {
+        if !rests(t, stock::bin_of(s, i), rows::row_at(values, there, i)) {
+            return i;
+        }
+        i += 1;
+    }
+    i
+}
+
+// A segment over the bins from first to before last, a part at a time: the bins before a part that it
+// leaves as they are cost no root.
+fn swept(
+    s: TurnStockSpec,
+    t: Track,
+    first: usize,
+    last: usize,
+    values: &mut [f64],
+    there: &mut [bool],
+)
+    requires { ⌜ (first ≤ last) × (last ≤ cellLimit) × Room last (now values) (now there) ⌝ }
+    ensures { λ _. ⌜ Stepped s t first last (rowsFound values there) (rowsLeft values there) ⌝ }
+{
+    let mut i = first;
+    while i < last {
+        let from = rested(s, t, i, last, values, there);
+        let to = numbers::lesser(from + PART, last);
+        sweep(s, t, from, to, values, there);
+        i = to;
+    }
+}
+
 // A segment over all n bins: those that its span does not reach stay as they are; the bins that were
 // visited with those before.
 fn pass(
@@ -92,7 +227,7 @@ fn pass(
     if last <= first {
         return seen;
     }
-    sweep(s, t, first, last, values, there);
+    swept(s, t, first, last, values, there);
     ends::wider(seen, first, last)
 }
 

@@ -2,12 +2,14 @@
 -- A segment with what no bin changes worked out once: the form the fast passes take. Assumes nothing.
 use mathlib.Core.Bool.{Bool, true, false, _&&_, _||_}
 use mathlib.Core.Option.{Option, none, some}
+use lib.Dec.{T}
 use lib.Ieee.{Float, lt, le, eq, ne}
 use Rattle.floats.specs.Pick.{pick}
 use Rattle.floats.specs.Numbers.{_+₆₄_, _-₆₄_, _*₆₄_, _/₆₄_, zero64, one64, leastOf, greatestOf, sizeOf}
 use Rattle.numbers.specs.Root.{rootOf}
 use Rattle.stock.specs.declared.ZRange.{ZRange}
 use Rattle.reach.specs.Low.{Found, lowPaper, lowerOf, upperOf}
+use Rattle.reach.specs.Kinds.{SomeOf}
 use Rattle.nose.specs.declared.Point.{Point}
 use Rattle.nose.specs.declared.Segment.{Segment}
 use Rattle.nose.specs.declared.Normal.{Normal}
@@ -64,6 +66,10 @@ unfoldable pub capsuleAt : Capsule → Float → Option Float
 capsuleAt w c =
     let ends = lowerOf (endOn (w .a) (w .rn) (w .rr) c) (endOn (w .b) (w .rn) (w .rr) c) in
     pick (w .long) (lowerOf ends (sideOn w c)) ends
+
+-- a radius that is over top, or none
+abbrev pub Over : Float → Option Float → Type 0
+Over top = SomeOf (λ x. T (lt top x))
 
 -- ---- a segment
 -- the same number, and no zero

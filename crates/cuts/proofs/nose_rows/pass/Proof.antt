@@ -11,8 +11,8 @@ returns c = (
   c .before .before .before .before .before .pre .2,
 )
 
-sweep-requires : tie.Need-sweep-requires
-sweep-requires c κs =
+swept-requires : tie.Need-swept-requires
+swept-requires c κs =
     let b = c .before .before .before in
     let p = b .before .before .before .before .pre in
     let w = b .find2 .ensures .within in
@@ -24,8 +24,8 @@ returns-2 c =
     let w = c .before .before .before .before .before in
     let d = w .before .before .before .before in
     let p = d .before .before .before .before .pre in (
-      all-passed _ _ _ _ _ (d .before .find .ensures) (d .find2 .ensures) (w .sweep .ensures),
-      idle-more _ _ (d .find2 .ensures .within) (p .2) (w .sweep .ensures) (c .wider .ensures .0) (c .wider .ensures .1),
+      all-passed _ _ _ _ _ (d .before .find .ensures) (d .find2 .ensures) (w .swept .ensures),
+      idle-more _ _ (d .find2 .ensures .within) (p .2) (w .swept .ensures) (c .wider .ensures .0) (c .wider .ensures .1),
     )
 
 pub pass-spec : {M : Type 1} → statement M
@@ -35,7 +35,7 @@ pass-spec =
     (λ c κs. search needs)
     (λ c κs. search needs)
     returns
-    sweep-requires
+    swept-requires
     (λ c κs. tt)
     (λ c. search needs)
     (λ c. search needs)
