@@ -5,5 +5,6 @@ pub mod Chain
 pub mod Counted
 pub mod Loops
 pub mod Narrow
+pub mod Aside
 pub mod Rules
 pub mod Finite

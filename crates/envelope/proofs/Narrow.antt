@@ -166,7 +166,7 @@ module _ {lo hi : Float} (nlo : Number binary64 lo) (nhi : Number binary64 hi) {
           let q = a .to in
           omega (arith, lt-key binary64 hi (g .from .u) nhi p .0 (d .0), lt-key binary64 hi (g .to .u) nhi q .0 (d .1), key-greatest p q, key-least p q, key-least (greatest-number p q) nhi, key-greatest (least-number p q) nlo)
 
-  adds-nothing : le lo hi ≡ true → (r : Option Radii) → segmentIn r (g .from) (g .to) lo hi ≡ r
+  pub adds-nothing : le lo hi ≡ true → (r : Option Radii) → segmentIn r (g .from) (g .to) lo hi ≡ r
   unfolding segmentIn segmentOver pick left right
   adds-nothing h r = rw (crossed h)
 
@@ -193,7 +193,7 @@ module _ {u : Float} (nu : Number binary64 u) {g : Segment} (a : Apart u u g) wh
   adds-none none = refl
   adds-none (some x) = refl
 
-  adds-no-higher : (r : Option Float) → higher r (segmentAt (g .from) (g .to) u) ≡ r
+  pub adds-no-higher : (r : Option Float) → higher r (segmentAt (g .from) (g .to) u) ≡ r
   adds-no-higher r = ap (higher r) nowhere ∙ adds-none r
 
 module _ (ps : List Float) (num : Numbered ps) where

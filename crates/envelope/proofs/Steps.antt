@@ -2,7 +2,7 @@
 use mathlib.Core.Path.{_≡_, refl, sym, ap, _∙_}
 use mathlib.Core.Bool.{Bool, true, false, _&&_, false≢true}
 use mathlib.Core.List.{List}
-use Prim.Native.Nat.{ℕ, suc, _+_, _-_, _*_, _<_}
+use Prim.Native.Nat.{ℕ, suc, _+_, _-_, _*_, _≤_}
 use native.Mathlib.Numerals.{add-one}
 use native.Mathlib.Omega.{arith}
 use lib.Dec.{T}
@@ -37,22 +37,20 @@ pub falls-more : (ps : List Float) (i : ℕ) → fallsTo ps (i + 1) ≡ (fallsTo
 unfolding fallsTo allTo
 falls-more ps i = ap (fallsTo ps) (add-one i)
 
--- the next segment ends with point j
-pub highest-more : (ps : List Float) (u : Float) (a j : ℕ) → a < j → highestTo ps u a (j - a) ≡ higher (highestTo ps u a (j - 1 - a)) (segmentAt (pointAt ps (j - 1)) (pointAt ps j) u)
+-- the next segment starts with point i
+pub highest-more : (ps : List Float) (u : Float) (a i : ℕ) → a ≤ i → highestTo ps u a (i + 1 - a) ≡ higher (highestTo ps u a (i - a)) (segmentAt (pointAt ps i) (pointAt ps (i + 1)) u)
 unfolding highestTo
-highest-more ps u a j h =
-    let e : j - a ≡ suc (j - 1 - a) = omega arith in
-    let g : a + (j - 1 - a) ≡ j - 1 = omega arith in
-    let k : j - 1 + 1 ≡ j = omega arith in
-    ap (highestTo ps u a) e ∙ ap (λ i. higher (highestTo ps u a (j - 1 - a)) (segmentAt (pointAt ps i) (pointAt ps (i + 1)) u)) g ∙ ap (λ i. higher (highestTo ps u a (j - 1 - a)) (segmentAt (pointAt ps (j - 1)) (pointAt ps i) u)) k
+highest-more ps u a i h =
+    let e : i + 1 - a ≡ suc (i - a) = omega arith in
+    let g : a + (i - a) ≡ i = omega arith in
+    ap (highestTo ps u a) e ∙ ap (λ k. higher (highestTo ps u a (i - a)) (segmentAt (pointAt ps k) (pointAt ps (k + 1)) u)) g
 
-pub radii-more : (ps : List Float) (lo hi : Float) (a j : ℕ) → a < j → radiiTo ps lo hi a (j - a) ≡ segmentIn (radiiTo ps lo hi a (j - 1 - a)) (pointAt ps (j - 1)) (pointAt ps j) lo hi
+pub radii-more : (ps : List Float) (lo hi : Float) (a i : ℕ) → a ≤ i → radiiTo ps lo hi a (i + 1 - a) ≡ segmentIn (radiiTo ps lo hi a (i - a)) (pointAt ps i) (pointAt ps (i + 1)) lo hi
 unfolding radiiTo
-radii-more ps lo hi a j h =
-    let e : j - a ≡ suc (j - 1 - a) = omega arith in
-    let g : a + (j - 1 - a) ≡ j - 1 = omega arith in
-    let k : j - 1 + 1 ≡ j = omega arith in
-    ap (radiiTo ps lo hi a) e ∙ ap (λ i. segmentIn (radiiTo ps lo hi a (j - 1 - a)) (pointAt ps i) (pointAt ps (i + 1)) lo hi) g ∙ ap (λ i. segmentIn (radiiTo ps lo hi a (j - 1 - a)) (pointAt ps (j - 1)) (pointAt ps i) lo hi) k
+radii-more ps lo hi a i h =
+    let e : i + 1 - a ≡ suc (i - a) = omega arith in
+    let g : a + (i - a) ≡ i = omega arith in
+    ap (radiiTo ps lo hi a) e ∙ ap (λ k. segmentIn (radiiTo ps lo hi a (i - a)) (pointAt ps k) (pointAt ps (k + 1)) lo hi) g
 
 -- ---- a comparison does not see whether -0.0 was read as +0.0
 module _ {x y : Float} (p : Number binary64 x) (q : Number binary64 y) where

@@ -8,7 +8,7 @@ use Prim.Native.Nat.{ℕ, zero, suc, _+_, _/_, _-_}
 use lib.Dec.{ltb, leb, eqb}
 use lib.ListN.{length}
 use lib.IntN.{ℤ, pos, negsuc}
-use lib.Ieee.{Float, le}
+use lib.Ieee.{Float, le, lt}
 use Rattle.floats.specs.Pick.{pick}
 use Rattle.floats.specs.Numbers.{cleanOf, usable, usableTo}
 use Rattle.refusals.specs.Paper.{Paper, answers, demand}
@@ -17,6 +17,7 @@ use Rattle.envelope.specs.declared.Test.{Test}
 use Rattle.envelope.specs.declared.Test.the-variants.{Below, AtMost, Above, AtLeast}
 use Rattle.envelope.specs.declared.Radius.{Radius}
 use Rattle.envelope.specs.declared.Radius.the-variants as radius
+use Rattle.envelope.specs.declared.segments.Found.{Found}
 use Rattle.envelope.specs.declared.segments.Extent.{Extent}
 use Rattle.envelope.specs.declared.segments.Extent.the-variants as extent
 use Rattle.envelope.specs.declared.Scanned.{Scanned}
@@ -122,6 +123,14 @@ keptAt ps z u = demand (accepted z && usable u) 14 (answers (halvedAt ps z (clea
 -- what the highest radius's promise says
 abbrev pub RadiusAtKept : List Float → ℤ → Float → RadiusAt → Type 0
 RadiusAtKept ps z u r = Kept ps z (radiusAtPaper r) (keptAt ps z u) (radiusAtOf ps u)
+
+-- both lent u's lie before lo, or both behind hi
+unfoldable pub aside : Float → Float → Float → Float → Bool
+aside x y lo hi = pick (lt x lo) (lt y lo) (pick (lt hi x) (lt hi y) false)
+
+-- the radii found so far
+unfoldable pub foundRadii : Found → Option Radii
+foundRadii r = pick (eqb (r .many) 0) none (some (record { lowest = r .lowest; highest = r .highest }))
 
 -- two radii, or none
 unfoldable pub extentRadii : Extent → Option Radii

@@ -20,7 +20,7 @@ extent-in-requires : tie.Need-extent-in-requires
 extent-in-requires c κs =
     let s = c .before .before .before .before in
     let a = s .args in
-    wider-fits (now (a .points)) (a .order) (a .lo) (a .hi) (c .before .span-of .result) (c .wider .result) (c .before .span-of .ensures ∙ ap (λ z. halvedSpan (now (a .points)) z (a .lo) (a .hi)) (toZ-ofZ (s .fits .order))) (c .wider .ensures)
+    (wider-fits (now (a .points)) (a .order) (a .lo) (a .hi) (c .before .span-of .result) (c .wider .result) (c .before .span-of .ensures ∙ ap (λ z. halvedSpan (now (a .points)) z (a .lo) (a .hi)) (toZ-ofZ (s .fits .order))) (c .wider .ensures), c .before .before .if1 .taken)
 
 returns : tie.Need-returns
 unfolding halvedRadii

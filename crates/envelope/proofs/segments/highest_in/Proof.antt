@@ -2,19 +2,21 @@
 use borrow.Author.Needs.{needs}
 use Prim.Native.Nat.{_+_, _-_, _≤_, _<_}
 use mathlib.Core.Path.{_≡_, ap, sym, _∙_}
+use mathlib.Core.Option.{Option}
+use lib.Ieee.{Float}
 use denote.Ref.{now}
 use native.Mathlib.Omega.{arith}
-use Rattle.envelope.specs.Envelope.{pointAt, highestTo}
+use Rattle.envelope.specs.Envelope.{pointAt, higher, segmentAt, highestTo}
 use Rattle.envelope.specs.Halving.{radiusOf}
 use Rattle.envelope.proofs.Steps.{highest-more}
 use Rattle.envelope.proofs.segments.highest_in.Statement.{statement}
 use Rattle.envelope.proofs.segments.highest_in.Tie as tie
 
 abbrev Inv-loop : tie.InvT-loop
-Inv-loop points u start end found₀ p₀ j₀ found p j = (start < j) × (j ≤ end) × (p ≡ pointAt points (j - 1)) × (radiusOf found ≡ highestTo points u start (j - 1 - start))
+Inv-loop points u start end found₀ i₀ found i = (start ≤ i) × (i < end) × (radiusOf found ≡ highestTo points u start (i - start))
 
 abbrev μ-loop : tie.MeasureT-loop
-μ-loop points u start end found₀ p₀ j₀ found p j = end - j
+μ-loop points u start end found₀ i₀ found i = end - i
 
 returns : tie.Need-returns Inv-loop μ-loop
 unfolding highestTo radiusOf
@@ -23,48 +25,37 @@ returns c =
     let e : a .s .end - a .s .start - 1 ≡ 0 = omega arith in
     rw e
 
-point-at-requires : tie.Need-point-at-requires Inv-loop μ-loop
-point-at-requires c κs = search needs
-
-add-j : tie.Need-add-j Inv-loop μ-loop
-add-j c = search needs
-
 loop-holds : tie.Need-loop-holds Inv-loop μ-loop
 unfolding highestTo radiusOf
 loop-holds c =
-    let a = c .before .before .before .args in
-    let e : a .s .start + 1 - 1 ≡ a .s .start = omega arith in
+    let a = c .before .before .args in
     let g : a .s .start - a .s .start ≡ 0 = omega arith in
-    (search needs, search needs, c .point-at .ensures ∙ ap (pointAt (now (a .points))) (sym e), rw (e, g))
+    (search needs, search needs, rw g)
 
-point-at-requires-2 : tie.Need-point-at-requires-2 Inv-loop μ-loop
-point-at-requires-2 c κs = search needs
+add-loop : tie.Need-add-loop Inv-loop μ-loop
+add-loop c = search needs
 
-segment-at-requires : tie.Need-segment-at-requires Inv-loop μ-loop
-segment-at-requires c κs = search needs
+higher-at-requires : tie.Need-higher-at-requires Inv-loop μ-loop
+higher-at-requires c κs = search needs
 
-higher-requires : tie.Need-higher-requires Inv-loop μ-loop
-higher-requires c κs = search needs
-
-add-j-2 : tie.Need-add-j-2 Inv-loop μ-loop
-add-j-2 c = search needs
+add-i : tie.Need-add-i Inv-loop μ-loop
+add-i c = search needs
 
 loop-less : tie.Need-loop-less Inv-loop μ-loop
 loop-less c = search needs
 
 loop-again : tie.Need-loop-again Inv-loop μ-loop
 loop-again c =
-    let a = c .before .before .before .before .before .before .before .before .args in
-    let j = c .before .before .before .before .loop .j in
-    let inv = c .before .before .before .before .loop .inv in
-    let e : j + 1 - 1 ≡ j = omega arith in
-    (search needs, search needs, c .before .before .point-at2 .ensures ∙ ap (pointAt (now (a .points))) (sym e), rw (e, highest-more (now (a .points)) (a .u) (a .s .start) j (inv .0), ← inv .3, ← inv .2, ← c .before .before .point-at2 .ensures, ← c .before .segment-at .ensures) (c .higher .ensures))
+    let a = c .before .before .before .before .before .args in
+    let i = c .before .before .loop .i in
+    let inv = c .before .before .loop .inv in
+    (search needs, search needs, c .higher-at .ensures ∙ ap (λ (o : Option Float). higher o (segmentAt (pointAt (now (a .points)) i) (pointAt (now (a .points)) (i + 1)) (a .u))) (inv .2) ∙ sym (highest-more (now (a .points)) (a .u) (a .s .start) i (inv .0)))
 
 returns-2 : tie.Need-returns-2 Inv-loop μ-loop
 returns-2 c =
-    let a = c .before .before .before .before .before .args in
-    let e : c .before .loop .j - 1 - a .s .start ≡ a .s .end - a .s .start - 1 = omega arith in
-    c .before .loop .inv .3 ∙ ap (highestTo (now (a .points)) (a .u) (a .s .start)) e
+    let a = c .before .before .before .before .args in
+    let e : c .before .loop .i - a .s .start ≡ a .s .end - a .s .start - 1 = omega arith in
+    c .before .loop .inv .2 ∙ ap (highestTo (now (a .points)) (a .u) (a .s .start)) e
 
 pub highest-in-spec : {M : Type 1} → statement M
 highest-in-spec =
@@ -73,13 +64,10 @@ highest-in-spec =
     Inv-loop
     μ-loop
     returns
-    point-at-requires
-    add-j
     loop-holds
-    point-at-requires-2
-    segment-at-requires
-    higher-requires
-    add-j-2
+    add-loop
+    higher-at-requires
+    add-i
     loop-less
     loop-again
     returns-2)
