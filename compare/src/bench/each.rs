@@ -12,7 +12,7 @@ pub type Row = (
 );
 
 #[rustfmt::skip]
-pub const EACH: [Row; 76] = [
+pub const EACH: [Row; 79] = [
     ("root", "1,024 of shop size", 1024, sides::root),
     ("length", "1,024 of shop size", 1024, sides::length),
     ("validate", "4,096 bins", 4096, sides::validate),
@@ -29,6 +29,7 @@ pub const EACH: [Row; 76] = [
     ("changes_to", "2,048 of 4,096 bins differ", 4096, sides::changes_to),
     ("remove_ring", "64 stored, one apart", 64, sides::remove_ring),
     ("remove_ring", "64 stored, one empty after clipping", 64, sides::remove_nothing),
+    ("remove_ring", "60 in turn, some over others, into an empty store", 60, sides::rings_in_turn),
     ("apply_move", "64 stored, 3 apart", 64, sides::apply_move),
     ("from_parts", "64 rings apart, 8 bins", 64, sides::from_parts),
     ("volume", "4,096 bins, no ring", 4096, sides::volume_bins),
@@ -40,6 +41,8 @@ pub const EACH: [Row; 76] = [
     ("within", "1,024 points that rise", 1024, sides::within),
     ("radius_at", "1,024 points that rise", 1024, sides::radius_at),
     ("radius_range", "1,024 points that rise", 1024, sides::radius_range),
+    ("radius_at", "1,024 points in no order", 1024, sides::radius_at_no_order),
+    ("radius_range", "1,024 points in no order", 1024, sides::radius_range_no_order),
     ("segments", "an arc as 512 chords", 9, sides::segments),
     ("segments", "an arc as 1 chord", 0, sides::segments),
     ("excess", "64-point insert, 1,024 points that rise", 1024, sides::excess),

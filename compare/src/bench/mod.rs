@@ -75,10 +75,15 @@ pub fn counted_side(row: &str, side: usize) {
 /// The library's side of a call, which must be accepted. Its buffers are lent as the call before left
 /// them; only the number of rings and the generation are put back.
 fn library_side<'a>(call: Call) -> Option<Side<'a>> {
-    let mut memory = Memory::of(&call);
-    let fresh = memory.clone();
     assert!(oracle::answer(&call).is_ok(), "{}", call.name());
-    assert_eq!(library::run(&call, &mut memory), 0);
+    library_sides(vec![call])
+}
+
+/// The same of calls of one kind, one after the other on one stock, all of which must be accepted: they
+/// are timed as one.
+fn library_sides<'a>(calls: Vec<Call>) -> Option<Side<'a>> {
+    let mut memory = Memory::of(&calls[0]);
+    let fresh = memory.clone();
     // Only what a call reads and then writes is put back.
     let changed = ["rings_count", "generation"];
     let kept: Vec<usize> = (0..fresh.lent.len())
@@ -88,10 +93,11 @@ fn library_side<'a>(call: Call) -> Option<Side<'a>> {
         for k in &kept {
             memory.lent[*k].copy(&fresh.lent[*k]);
         }
-        library::run(black_box(&call), &mut memory)
+        let run = |call| library::run(call, &mut memory);
+        black_box(&calls).iter().map(run).sum::<u32>()
     };
     // Every go is accepted as the first was: a commit's list has the stock's stamp again.
-    assert_eq!(go(), 0);
+    assert_eq!([go(), go()], [0, 0]);
     side(1, go)
 }
 

@@ -45,6 +45,29 @@ pub fn radius_range(points: usize) -> Sides<'static> {
     pair(go, Call::RadiusRange { points, lo, hi })
 }
 
+/// As many points, the first two changed about, so that they have no order.
+fn in_no_order(points: usize) -> (Vec<[f64; 2]>, f64, f64) {
+    let (mut list, lo, hi) = rising(points);
+    list.swap(0, 1);
+    (list, lo, hi)
+}
+
+pub fn radius_at_no_order(points: usize) -> Sides<'static> {
+    let (list, u, _) = in_no_order(points);
+    let points = list.as_flattened().to_vec();
+    let made = Envelope::new(list);
+    let go = move || black_box(&made).radius_at(black_box(u));
+    pair(go, Call::RadiusAt { points, u })
+}
+
+pub fn radius_range_no_order(points: usize) -> Sides<'static> {
+    let (list, lo, hi) = in_no_order(points);
+    let points = list.as_flattened().to_vec();
+    let made = Envelope::new(list);
+    let go = move || black_box(&made).radius_range(black_box(lo), hi);
+    pair(go, Call::RadiusRange { points, lo, hi })
+}
+
 /// A square insert of so many points over the middle of as many that rise.
 fn insert(points: usize, count: usize) -> (Vec<[f64; 2]>, Vec<[f64; 2]>) {
     let (list, lo, hi) = rising(points);

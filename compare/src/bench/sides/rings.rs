@@ -1,9 +1,11 @@
 //! Rings, moves, stocks from their parts, volumes.
 use super::{bar_of, kept_of, lent, pair};
+use crate::bench::library_sides;
 use crate::bench::queries;
 use crate::bench::rows::spec;
 use crate::bench::time::{Sides, side};
-use crate::call::{Call, List, Stamp};
+use crate::call::{Call, List, Spec, Stamp};
+use crate::generate::Rng;
 use crate::oracle::stock::{Bar, bar, camlib_spec, camlib_stock, fresh, to_camlib};
 use plain::turning::stock::TurnStock;
 use std::hint::black_box;
@@ -35,6 +37,45 @@ pub fn ring_of(bar: &Bar, stored: usize, ring: [f64; 4]) -> Sides<'static> {
 /// A ring that meets none of those stored.
 pub fn remove_ring(stored: usize) -> Sides<'static> {
     ring(stored, [0., 1., 6., 7.])
+}
+
+/// So many rings anywhere on a bar, of a fiftieth to a fifth of its length and of its radius.
+fn scattered(spec: &Spec, count: usize) -> Vec<[f64; 4]> {
+    let mut rng = Rng::new(1);
+    let mut part = |whole: f64| {
+        let size = rng.between(0.02, 0.2) * whole;
+        let start = rng.between(0., whole - size);
+        [start, start + size]
+    };
+    (0..count)
+        .map(|_| {
+            let ([z0, z1], [r0, r1]) = (part(spec.z_max), part(spec.outer));
+            [z0, z1, r0, r1]
+        })
+        .collect()
+}
+
+/// So many rings anywhere, some over others, removed one by one from a bar without rings: all calls are
+/// one row.
+pub fn rings_in_turn(count: usize) -> Sides<'static> {
+    let bar = bar(&spec(8, 10., 0.)).unwrap();
+    let rings = scattered(&bar.spec, count);
+    let stock = camlib_stock(&bar, &fresh(&bar), &[]);
+    let call = |ring: &[f64; 4]| Call::RemoveRing {
+        spec: bar.spec,
+        store: queries::store(&[]),
+        generation: 0,
+        ring: *ring,
+    };
+    let calls: Vec<Call> = rings.iter().map(call).collect();
+    let go = move || {
+        let mut stock = stock.clone();
+        for [z0, z1, r0, r1] in black_box(&rings) {
+            stock.remove_ring([*z0, *z1], [*r0, *r1]);
+        }
+        stock
+    };
+    [side(1, go), None, library_sides(calls)]
 }
 
 /// A ring that is empty after clipping: of the library, the checks 1, 2, 4, 10 alone.
