@@ -17,7 +17,7 @@ use Rattle.stock.specs.declared.TurnChange.{TurnChange}
 use Rattle.stock.specs.declared.Stamp.{Stamp}
 use Rattle.stock.specs.declared.TurnStock.{TurnStock}
 use Rattle.stock.specs.Spec.{cleanSpec}
-use Rattle.stock.specs.Cell.{cellAt, sameCell, stockOf}
+use Rattle.stock.specs.Cell.{cellAt, cellFits, sameCell, stockOf}
 use Rattle.stock.specs.Stock.{sameStamp}
 use Rattle.changes.specs.declared.Applied.{Applied}
 use Rattle.changes.specs.declared.Applied.the-variants as applied
@@ -184,6 +184,21 @@ at-once n cs c e =
     let b = and-both (ltb (c .index) n && sameCell (cellAt cs (c .index)) (c .before)) (onlyRemoves (c .before) (c .after)) e in
     let a = and-both (ltb (c .index) n) (sameCell (cellAt cs (c .index)) (c .before)) (b .0) in
     demand-true _ _ _ (a .0) ∙ demand-true _ _ _ (a .1) ∙ demand-true _ _ _ (b .1)
+
+-- a change that fits and applies passes, and adds no refusal to those before it
+passes-by : (s : TurnStockSpec) (n : ℕ) (cs : List Float) (c : TurnChange) → cellFits s (c .after) ≡ true → applies n cs c ≡ true → passes s n cs c ≡ answers tt
+unfolding passes
+passes-by s n cs c f a = demand-true _ _ _ f ∙ at-once n cs c a
+
+goes-on : (i : ℕ) (p q : Paper (Unit {0})) → q ≡ answers tt → p ≡ answers tt → q ≡ onward q (λ _. placed i p)
+unfolding onward placed
+goes-on i p q e h = rw (e, h) refl
+
+pub each-passes : (cs : List Float) (s : TurnStockSpec) (n : ℕ) (is : List ℕ) (xs : List Float) (i : ℕ) (c : TurnChange) → eachFrom s n cs 0 (changesFrom is xs i) ≡ answers tt → i < roomOf (length is) (length xs) → c ≡ changeHeld is xs i → cellFits s (c .after) ≡ true → applies n cs c ≡ true
+    → eachFrom s n cs 0 (changesFrom is xs (i + 1)) ≡ answers tt
+each-passes cs s n is xs i c at h held f a =
+    let q = eachFrom s n cs 0 (changesFrom is xs i) in
+    sym (each-next cs s n is xs i q q c refl h held (goes-on i (passes s n cs c) q at (passes-by s n cs c f a))) ∙ at
 
 -- ---- the generation after changes that pass
 pub raised-stops : (r : Reason) (gen : ℕ) → raisedOf (refuses r) gen ≡ refuses r

@@ -18,6 +18,13 @@ use Rattle.changes.specs.Change.{changeFrom, changesFrom}
 use Rattle.changes.specs.Commit.{putAll}
 use Rattle.changes.specs.Decide.{risesAfter, rises}
 
+-- ---- where the two cells of change j start in the numbers
+pub before-at : (j : ℕ) → 8 * j ≡ 4 * (2 * j)
+before-at j = omega arith
+
+pub after-at : (j : ℕ) → 8 * j + 4 ≡ 4 * (2 * j + 1)
+after-at j = omega arith
+
 -- ---- the first changes of the lent lists
 module _ (is : List ℕ) (xs : List Float) where
   pub from-next : (j : ℕ) → changesFrom is xs (j + 1) ≡ changesFrom is xs j ++ (changeFrom is xs j ∷ [])

@@ -6,7 +6,7 @@ use Prim.Native.Nat.{ℕ, suc, _+_, _*_, _/_, _≤_, _<_, min}
 use native.Mathlib.Omega.{arith}
 use lib.Dec.{ltb}
 use lib.ListN.{length, set, length-map, length-append}
-use lib.Seq.{sets, length-sets}
+use lib.Seq.{sets}
 use lib.Ieee.{Float}
 use borrow.Author.Tests.{lt-ltb, le-ltb}
 use Rattle.refusals.specs.Lent.{over}
@@ -15,26 +15,8 @@ use Rattle.floats.specs.Pick.{pick-true, pick-false}
 use Rattle.stock.specs.declared.TurnCell.{TurnCell}
 use Rattle.stock.specs.declared.TurnChange.{TurnChange}
 use Rattle.stock.specs.Cell.{cellAt, fourOf, putCell, sameCell}
-use Rattle.stock.proofs.Cells.{put-room}
 use Rattle.changes.specs.Change.{changeOf, changesTo, indicesOf, rowOf, numbersOf, roomOf, PutChange, lists, ListedOne, Listing}
 use Rattle.changes.proofs.Rising.{kept, made, grows, grown}
-
--- no room: both lists stay
-pub put-none : (k : ℕ) (c : TurnChange) (is : List ℕ) (xs : List Float) → roomOf (length is) (length xs) ≤ k → PutChange k c is is xs xs
-put-none k c is xs h = record { indices = sym (pick-false _ _ _ (le-ltb _ _ h)); numbers = sym (pick-false _ _ _ (le-ltb _ _ h)) }
-
--- room: the index, then the two cells one after the other
-pub put-both : (k : ℕ) (c : TurnChange) (is : List ℕ) (xs ys zs : List Float) → k < roomOf (length is) (length xs) → ys ≡ putCell xs (2 * k) (c .before) → zs ≡ putCell ys (2 * k + 1) (c .after) → PutChange k c is (set is k (c .index)) xs zs
-put-both k c is xs ys zs h ey ez =
-    let e8 : 4 * (2 * k) ≡ 8 * k = omega arith in
-    let e4 : 4 * (2 * k + 1) ≡ suc (suc (suc (suc (8 * k)))) = omega arith in
-    let a = put-room xs (2 * k) (c .before) (omega arith) in
-    let l : length ys ≡ length xs = ap length (ey ∙ a) ∙ length-sets xs (4 * (2 * k)) (fourOf (c .before)) in
-    let b = put-room ys (2 * k + 1) (c .after) (omega arith) in
-    record {
-      indices = sym (pick-true _ _ _ (lt-ltb _ _ h));
-      numbers = ez ∙ b ∙ (simp (e4, ey, a, e8)) ∙ sym (pick-true _ _ _ (lt-ltb _ _ h));
-    }
 
 -- ---- one change more behind those written
 

@@ -11,12 +11,14 @@
 // of the blocks in which they lie are worked out again, and the generation rises by one, also with no
 // changes.
 ghost use mathlib.Core.Path.{_≡_};
+ghost use mathlib.Core.Bool.{true};
 ghost use Prim.Native.Nat.{_+_, _*_, _≤_, _<_, min};
 ghost use lib.ListN.{length};
 ghost use Rattle.refusals.specs.Limits.{lastPlace};
-ghost use Rattle.refusals.specs.Paper.{placeOr, placed, onward};
+ghost use Rattle.refusals.specs.Paper.{answers, placeOr, placed, onward};
 ghost use Rattle.floats.specs.Pick.{pick};
 ghost use Rattle.stock.specs.Spec.{cleanSpec, countedPaper};
+ghost use Rattle.stock.specs.Cell.{cellFrom};
 ghost use Rattle.changes.specs.Change.{roomOf, changeHeld, changesFrom, changesTo, settled, PutsChange, ListsChange, ListsBelow, RoomFor, tallyPaper, previewedPaper, stamped, Tallies, Proposes};
 ghost use Rattle.changes.specs.Commit.{onlyRemoves, appliesTo, passes, passingPaper, eachFrom, firstFall, firstRefusal, putHeld, commitHeld, askedStock, applyOf, appliedPaper, stockAt, Commits, CommitsKept};
 ghost use Rattle.changes.specs.Decide.{applies, rises, decidingPaper, onCells, stepOf, outcomeOf, raisedOf, isAccepted, CommitsThen};
@@ -25,6 +27,7 @@ use refusals::LAST_GENERATION;
 use refusals::LAST_PLACE;
 use refusals::Refusal;
 use stock::Counted;
+use stock::RadiusBounds;
 use stock::Stamp;
 use stock::TurnCell;
 use stock::TurnChange;
@@ -67,17 +70,21 @@ pub fn room(indices: usize, records: usize) -> usize
     if indices < whole { indices } else { whole }
 }
 
-// Change k, written at its place; nothing where there is no room for it.
+// Change k, written at its place.
 fn put_change(indices: &mut [usize], records: &mut [f64], k: usize, change: TurnChange)
+    requires { ⌜ k < roomOf (length (now indices)) (length (now records)) ⌝ }
     ensures { λ _. ⌜ PutsChange k change indices records ⌝ }
 {
-    if room(indices.len(), records.len()) <= k {
-        return;
-    }
-    let at = 2 * k;
+    let at = 8 * k;
     indices[k] = change.index;
-    stock::put_cell(records, at, change.before);
-    stock::put_cell(records, at + 1, change.after);
+    records[at] = change.before.outer.lower_mm;
+    records[at + 1] = change.before.outer.upper_mm;
+    records[at + 2] = change.before.inner.lower_mm;
+    records[at + 3] = change.before.inner.upper_mm;
+    records[at + 4] = change.after.outer.lower_mm;
+    records[at + 5] = change.after.outer.upper_mm;
+    records[at + 6] = change.after.inner.lower_mm;
+    records[at + 7] = change.after.inner.upper_mm;
 }
 
 // The change, written behind k others where its cells differ and there is room; how many there are
@@ -325,6 +332,23 @@ pub fn raised(found: Passing, stock: TurnStock) -> Applied
     }
 }
 
+// The cell whose four numbers start at a place.
+fn cell_from(list: &[f64], at: usize) -> TurnCell
+    requires { ⌜ at + 4 ≤ length (now list) ⌝ }
+    ensures { λ r. ⌜ r ≡ cellFrom (now (list .entry)) at ⌝ }
+{
+    TurnCell {
+        outer: RadiusBounds {
+            lower_mm: list[at],
+            upper_mm: list[at + 1],
+        },
+        inner: RadiusBounds {
+            lower_mm: list[at + 2],
+            upper_mm: list[at + 3],
+        },
+    }
+}
+
 // Change j of the lent lists; one of no numbers where they hold none.
 pub fn change_at(indices: &[usize], records: &[f64], j: usize) -> TurnChange
     ensures { λ r. ⌜ r ≡ changeHeld (now (indices .entry)) (now (records .entry)) j ⌝ }
@@ -337,10 +361,9 @@ pub fn change_at(indices: &[usize], records: &[f64], j: usize) -> TurnChange
             after: none,
         };
     }
-    let at = 2 * j;
     let index = indices[j];
-    let before = stock::cell_at(records, at);
-    let after = stock::cell_at(records, at + 1);
+    let before = cell_from(records, 8 * j);
+    let after = cell_from(records, 8 * j + 4);
     TurnChange {
         index,
         before,
@@ -408,6 +431,30 @@ fn first_found(
     found
 }
 
+// Each of k changes passes, asked without a branch; which one does not is asked only where one does not.
+fn all_pass(
+    s: TurnStockSpec,
+    n: usize,
+    cells: &[f64],
+    indices: &[usize],
+    records: &[f64],
+    k: usize,
+) -> bool
+    requires { ⌜ k ≤ roomOf (length (now indices)) (length (now records)) ⌝ }
+    ensures { λ r. ⌜ (r ≡ true → eachFrom s n (now (cells .entry)) 0 (changesFrom (now (indices .entry)) (now (records .entry)) k) ≡ answers tt) ⌝ }
+{
+    let mut ok = true;
+    let mut i: usize = 0;
+    while i < k {
+        let change = change_at(indices, records, i);
+        let after = change.after;
+        let fits = stock::cell_fits(s, after);
+        ok = ok & fits & applies_to(n, cells, change);
+        i += 1;
+    }
+    ok
+}
+
 // Of k changes, as many as lists of these lengths hold.
 pub fn held_of(indices: usize, records: usize, k: usize) -> usize
     ensures { λ r. ⌜ r ≡ min k (roomOf indices records) ⌝ }
@@ -432,6 +479,9 @@ pub fn first_refusal(
         let at = first_fall(indices, records, held);
         return Passing::RefusedAt(Refusal::IndicesDoNotRise, at);
     }
+    if all_pass(s, n, cells, indices, records, held) {
+        return Passing::Pass;
+    }
     first_found(s, n, cells, indices, records, held)
 }
 
@@ -443,7 +493,7 @@ pub fn put_after(cells: &mut [f64], indices: &[usize], records: &[f64], k: usize
     let mut i: usize = 0;
     while i < held {
         let index = indices[i];
-        let after = stock::cell_at(records, 2 * i + 1);
+        let after = cell_from(records, 8 * i + 4);
         stock::put_cell(cells, index, after);
         i += 1;
     }
@@ -550,7 +600,8 @@ fn count_differences(cells: &[f64], after: &[f64], n: usize) -> usize
     k
 }
 
-// The differing cells of the first n, written out; how many they are.
+// The differing cells of the first n, written out; how many they are. The bound of the loop is that of
+// both lists too, so that the compiler asks no place of a cell.
 fn write_differences(
     cells: &[f64],
     after: &[f64],
@@ -558,12 +609,14 @@ fn write_differences(
     indices: &mut [usize],
     records: &mut [f64],
 ) -> usize
-    requires { ⌜ RoomFor (otherCell (now after)) (now cells) n (now indices) (now records) ⌝ }
+    requires { ⌜ (4 * n ≤ length (now cells)) × (4 * n ≤ length (now after)) × RoomFor (otherCell (now after)) (now cells) n (now indices) (now records) ⌝ }
     ensures { λ r. ⌜ ListsBelow (otherCell (now (after .entry))) (now (cells .entry)) n r indices records ⌝ }
 {
+    let held = numbers::lesser(cells.len() / 4, after.len() / 4);
+    let top = numbers::lesser(n, held);
     let mut k: usize = 0;
     let mut i: usize = 0;
-    while i < n {
+    while i < top {
         let change = TurnChange {
             index: i,
             before: stock::cell_at(cells, i),
@@ -583,6 +636,7 @@ fn list_differences(
     indices: &mut [usize],
     records: &mut [f64],
 ) -> Tally
+    requires { ⌜ (4 * n ≤ length (now cells)) × (4 * n ≤ length (now after)) ⌝ }
     ensures { λ r. ⌜ Tallies (λ room. settled room (changesTo (otherCell (now (after .entry))) (now (cells .entry)) n)) r indices records ⌝ }
 {
     let room = room(indices.len(), records.len());

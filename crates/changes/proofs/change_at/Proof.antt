@@ -4,12 +4,14 @@ use Prim.Native.Nat.{_*_, _≤_, _<_}
 use native.Mathlib.Omega.{arith}
 use borrow.Author.Needs.{needs}
 use borrow.Author.Tests.{lt-ltb, le-ltb}
-use lib.ListN.{length}
+use lib.ListN.{length, getD}
 use Rattle.floats.specs.Pick.{pick-true, pick-false}
 use Rattle.stock.specs.declared.TurnCell.{TurnCell}
 use Rattle.stock.specs.declared.TurnChange.{TurnChange}
+use Rattle.stock.specs.Cell.{cellFrom}
 use Rattle.stock.proofs.Cells.{no-cell}
-use Rattle.changes.specs.Change.{roomOf, changeFrom}
+use Rattle.changes.specs.Change.{roomOf}
+use Rattle.changes.proofs.Passed.{before-at, after-at}
 use Rattle.changes.proofs.change_at.Statement.{statement}
 use Rattle.changes.proofs.change_at.Tie as tie
 
@@ -27,9 +29,12 @@ returns c =
 returns-2 : tie.Need-returns-2
 returns-2 c =
     let a = c .before .before .before .before .before .before .before .args in
+    let xs = a .records .now in
     let r = c .before .before .before .before .room .ensures in
-    let h : a .j < roomOf (length (a .indices .now)) (length (a .records .now)) = omega arith in
-    rw (pick-true _ (changeFrom (a .indices .now) (a .records .now) (a .j)) _ (lt-ltb _ _ h)) (simp (c .cell-at3 .ensures, c .before .cell-at2 .ensures))
+    let h : a .j < roomOf (length (a .indices .now)) (length xs) = omega arith in
+    let before = c .before .cell-from .ensures ∙ ap (cellFrom xs) (before-at (a .j)) in
+    let after = c .cell-from2 .ensures ∙ ap (cellFrom xs) (after-at (a .j)) in
+    (λ k. record { index = getD (a .indices .now) (a .j) 0; before = before k; after = after k }) ∙ sym (pick-true _ _ _ (lt-ltb _ _ h))
 
 pub change-at-spec : {M : Type 1} → statement M
 change-at-spec =
@@ -39,9 +44,10 @@ change-at-spec =
     (λ c κs. search needs)
     returns
     (λ c. omega (arith, c .before .room .ensures))
-    (λ c. omega (arith, c .before .room .ensures))
     (λ c. omega (arith, c .before .before .room .ensures))
-    (λ c κs. search needs)
+    (λ c. omega (arith, c .before .before .room .ensures))
+    (λ c κs. omega (arith, c .before .before .room .ensures))
     (λ c. omega (arith, c .before .before .before .room .ensures))
-    (λ c κs. search needs)
+    (λ c. omega (arith, c .before .before .before .room .ensures))
+    (λ c κs. omega (arith, c .before .before .before .room .ensures))
     returns-2)

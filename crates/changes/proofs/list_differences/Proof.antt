@@ -14,7 +14,7 @@ use Rattle.changes.proofs.list_differences.Tie as tie
 write-differences-requires : tie.Need-write-differences-requires
 write-differences-requires c κs =
     let s = c .before .before .before .before .before .before .before .before in
-    omega (arith, at-most (otherCell (s .args .after .now)) (s .args .cells .now) (s .args .n), c .before .before .before .room .ensures)
+    (s .pre .0, s .pre .1, omega (arith, at-most (otherCell (s .args .after .now)) (s .args .cells .now) (s .args .n), c .before .before .before .room .ensures))
 
 returns : tie.Need-returns
 returns c =
@@ -24,7 +24,9 @@ returns c =
 
 -- there is room for those that differ
 write-differences-requires-2 : tie.Need-write-differences-requires-2
-write-differences-requires-2 c κs = omega (arith, c .before .before .before .count-differences .ensures, c .before .before .before .before .before .room .ensures)
+write-differences-requires-2 c κs =
+    let p = c .before .before .before .before .before .before .before .before .before .before .pre in
+    (p .0, p .1, omega (arith, c .before .before .before .count-differences .ensures, c .before .before .before .before .before .room .ensures))
 
 returns-2 : tie.Need-returns-2
 returns-2 c =

@@ -4,9 +4,10 @@ use Prim.Native.Nat.{ℕ, _≤_, _-_, min}
 use native.Mathlib.Omega.{arith}
 use borrow.Author.Needs.{needs}
 use lib.ListN.{length}
+use Rattle.stock.specs.Cell.{cellFrom}
 use Rattle.changes.specs.Change.{changesFrom, roomOf}
 use Rattle.changes.specs.Commit.{putAll}
-use Rattle.changes.proofs.Passed.{put-next, put-length}
+use Rattle.changes.proofs.Passed.{after-at, put-next, put-length}
 use Rattle.changes.proofs.put_after.Statement.{statement}
 use Rattle.changes.proofs.put_after.Tie as tie
 
@@ -26,7 +27,7 @@ loop-again c =
     let s = b .before .before .before .before .before in (
       omega arith,
       b .loop .inv .1,
-      c .before .before .put-cell .ensures ∙ (simp (c .before .before .before .before .cell-at .ensures, b .loop .inv .2)) ∙ sym (put-next (s .args .cells .now) (s .args .indices .now) (s .args .records .now) (b .loop .i)),
+      c .before .before .put-cell .ensures ∙ (simp (c .before .before .before .before .cell-from .ensures ∙ ap (cellFrom (s .args .records .now)) (after-at (b .loop .i)), b .loop .inv .2)) ∙ sym (put-next (s .args .cells .now) (s .args .indices .now) (s .args .records .now) (b .loop .i)),
     )
 
 same-length : tie.Need-same-length Inv-loop μ-loop
@@ -52,7 +53,7 @@ put-after-spec =
     (λ c. omega arith)
     (λ c. omega arith)
     (λ c. omega arith)
-    (λ c κs. search needs)
+    (λ c κs. omega arith)
     (λ c κs. search needs)
     (λ c. search needs)
     (λ c. search needs)

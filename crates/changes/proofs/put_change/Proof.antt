@@ -1,37 +1,60 @@
 -- `changes::put_change` meets its contract. Assumes nothing.
-use mathlib.Core.Path.{_∙_, sym, subst}
-use Prim.Native.Nat.{ℕ, _<_, _≤_}
+use mathlib.Core.Path.{_≡_, sym}
+use mathlib.Core.Bool.{true}
+use Prim.Native.Nat.{suc, _+_, _*_}
 use native.Mathlib.Omega.{arith}
 use borrow.Author.Needs.{needs}
-use Rattle.changes.proofs.Placed.{put-none, put-both}
+use borrow.Author.Tests.{lt-ltb}
+use lib.Dec.{ltb}
+use lib.ListN.{length, length-set}
+use Rattle.floats.specs.Pick.{picks, pick-true}
+use Rattle.changes.specs.Change.{roomOf}
 use Rattle.changes.proofs.put_change.Statement.{statement}
 use Rattle.changes.proofs.put_change.Tie as tie
 
 returns : tie.Need-returns
 returns c =
-    let s = c .before .before .before .before in
-    put-none (s .args .k) (s .args .change) _ _ (subst (λ (n : ℕ). n ≤ s .args .k) (c .before .room .ensures) (c .if1 .taken))
-
-returns-2 : tie.Need-returns-2
-returns-2 c =
-    let b = c .before .before .before .before .before .before .before .before in
-    let s = b .before .before .before .before in
-    put-both (s .args .k) (s .args .change) _ _ _ _ (subst (λ (n : ℕ). s .args .k < n) (b .before .room .ensures) (b .if1 .left))
-    (c .before .before .before .before .before .before .put-cell .ensures)
-    (c .before .before .put-cell2 .ensures)
+    let at = 8 * c .args .k in
+    let e1 : at + 1 ≡ suc at = omega arith in
+    let e2 : at + 2 ≡ suc (suc at) = omega arith in
+    let e3 : at + 3 ≡ suc (suc (suc at)) = omega arith in
+    let e4 : at + 4 ≡ suc (suc (suc (suc at))) = omega arith in
+    let e5 : at + 5 ≡ suc (suc (suc (suc (suc at)))) = omega arith in
+    let e6 : at + 6 ≡ suc (suc (suc (suc (suc (suc at))))) = omega arith in
+    let e7 : at + 7 ≡ suc (suc (suc (suc (suc (suc (suc at)))))) = omega arith in
+    let w : ltb (c .args .k) (roomOf (length (c .args .indices .now)) (length (c .args .records .now))) ≡ true = lt-ltb _ _ (c .pre) in
+    record { indices = sym (pick-true _ _ _ w); numbers = simp (picks, w, e1, e2, e3, e4, e5, e6, e7) }
 
 pub put-change-spec : {M : Type 1} → statement M
 put-change-spec =
     tie.close
     (tie.spec
-    (λ c κs. search needs)
-    returns
     (λ c. search needs)
     (λ c. search needs)
     (λ c. search needs)
-    (λ c κs. search needs)
-    (λ c. search needs)
-    (λ c κs. search needs)
     (λ c. search needs)
     (λ c. search needs)
-    returns-2)
+    (λ c. search needs)
+    (λ c. search needs)
+    (λ c. simp length-set (omega arith))
+    (λ c. search needs)
+    (λ c. search needs)
+    (λ c. simp length-set (omega arith))
+    (λ c. search needs)
+    (λ c. search needs)
+    (λ c. simp length-set (omega arith))
+    (λ c. search needs)
+    (λ c. search needs)
+    (λ c. simp length-set (omega arith))
+    (λ c. search needs)
+    (λ c. search needs)
+    (λ c. simp length-set (omega arith))
+    (λ c. search needs)
+    (λ c. search needs)
+    (λ c. simp length-set (omega arith))
+    (λ c. search needs)
+    (λ c. search needs)
+    (λ c. simp length-set (omega arith))
+    (λ c. search needs)
+    (λ c. simp length-set)
+    returns)

@@ -4,9 +4,17 @@ use borrow.Author.Needs.{needs}
 use Rattle.refusals.specs.Number.{reasonOf}
 use Rattle.stock.specs.Spec.{countedPaper}
 use Rattle.changes.proofs.Proposals.{left, same-proposal}
-use Rattle.changes.proofs.Differences.{differ-refused, differ-other, differ-is}
+use Rattle.changes.proofs.Differences.{both-held, differ-refused, differ-other, differ-is}
 use Rattle.changes.proofs.tally_differences.Statement.{statement}
 use Rattle.changes.proofs.tally_differences.Tie as tie
+
+list-differences-requires : tie.Need-list-differences-requires
+list-differences-requires c κs =
+    let d = c .before .before in
+    let first = d .before .before .before .counted2 .given in
+    let told = d .enum-told .given in
+    let b = d .before .before .before .before .before in
+    both-held _ _ _ (first .0 .0) (told .0 .0) (sym (b .before .cells-fit .ensures) ∙ ap countedPaper (first .1)) (sym (b .cells-fit2 .ensures) ∙ ap countedPaper (told .1))
 
 returns : tie.Need-returns
 returns c =
@@ -40,7 +48,7 @@ tally-differences-spec =
     (λ c. search needs)
     (λ c. search needs)
     (λ c. search needs)
-    (λ c κs. search needs)
+    list-differences-requires
     returns
     returns-2
     (λ c. search needs)
