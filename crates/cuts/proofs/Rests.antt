@@ -1,49 +1,33 @@
 -- A segment that leaves bins as they are: one bin, by low and high of it and what the segment reaches on its lines; and many, one after the other. Assumes nothing.
 use mathlib.Core.Path.{_≡_, refl, sym, ap, _∙_, subst}
-use mathlib.Core.Bool.{Bool, true, false, not, _&&_, true≢false}
+use mathlib.Core.Bool.{Bool, true, false, not, _&&_}
 use mathlib.Core.Option.{Option, none, some}
 use Prim.Native.Nat.{ℕ, _+_, _≤_, _<_}
 use native.Mathlib.Decide.{decLe}
 use native.Mathlib.Omega.{arith}
 use lib.Dec.{T}
 use borrow.Author.Tests.{not-true}
-use lib.Ieee.{Float, binary64, fits, lt, le}
+use lib.Ieee.{Float, lt, le}
 use Rattle.floats.specs.Pick.{pick, pick-true, pick-false}
-use Rattle.floats.specs.Numbers.{_-₆₄_, _*₆₄_, _/₆₄_, zero64, one64, leastOf}
-use Rattle.floats.proofs.Bools.{so, to-false}
+use Rattle.floats.specs.Numbers.{_-₆₄_, _/₆₄_, zero64, one64, leastOf}
+use Rattle.floats.proofs.Bools.{to-false}
 use Rattle.floats.proofs.Bounding.{clash, lt-le, le-lt-chain}
 use Rattle.stock.specs.declared.TurnStockSpec.{TurnStockSpec}
 use Rattle.stock.specs.declared.ZRange.{ZRange}
 use Rattle.stock.specs.Bin.{binOf}
-use Rattle.numbers.specs.Length.{tinyBelow}
 use Rattle.reach.specs.declared.Low.{Low}
 use Rattle.reach.specs.declared.Low.the-variants.{At}
 use Rattle.reach.specs.Low.{Found, lowPaper, lowerOf, upperOf}
 use Rattle.reach.specs.Kinds.{SomeOf}
 use Rattle.reach.proofs.Reaches.{upper-keeps}
-use Rattle.nose.specs.declared.Point.{Point}
 use Rattle.nose.specs.declared.Capsule.{Capsule}
 use Rattle.nose.specs.declared.Track.{Track}
 use Rattle.nose.specs.Nose.{inBin}
-use Rattle.nose.specs.Track.{endOn, sideOn, capsuleAt, sampleAt, stepOf, Over}
-use Rattle.nose.proofs.Overs.{farMost, end-over}
+use Rattle.nose.specs.Track.{sideOn, capsuleAt, sampleAt, stepOf, Over}
+use Rattle.nose.proofs.Overs.{both}
 use Rattle.cuts.specs.Rows.{AtMost, Topped, stepped, Rested, Stepped}
 
 -- ---- tests
-pub both : (a b : Bool) → (a && b) ≡ true → (a ≡ true) × (b ≡ true)
-both true b e = (refl, e)
-both false b e = absurd (true≢false (sym e))
-
--- what is asked of `far` tells that a circle stays over top
-pub over-test : (p : Point) (rr c top far : Float) → T (fits binary64 (p .r)) → T (fits binary64 far) → (le (rr -₆₄ (p .z -₆₄ c) *₆₄ (p .z -₆₄ c)) (far *₆₄ far) && lt top (p .r -₆₄ far) && le tinyBelow far && le far farMost) ≡ true → (rn : Float) → Over top (endOn p rn rr c)
-over-test p rr c top far f g e rn =
-    let a = le (rr -₆₄ (p .z -₆₄ c) *₆₄ (p .z -₆₄ c)) (far *₆₄ far) in
-    let b = lt top (p .r -₆₄ far) in
-    let x = both (a && b && le tinyBelow far) (le far farMost) e in
-    let y = both (a && b) (le tinyBelow far) (x .0) in
-    let z = both a b (y .0) in
-    end-over far g (so (y .1)) (so (x .1)) p rn rr c top f (so (z .0)) (so (z .1))
-
 -- a straight side goes from its start to its end
 pub side-test : (w : Capsule) (c : Float) → (w .sloped && not (le zero64 ((c -₆₄ w .p .z) /₆₄ w .dz) && le ((c -₆₄ w .p .z) /₆₄ w .dz) one64)) ≡ true → sideOn w c ≡ none
 unfolding sideOn

@@ -15,6 +15,9 @@ ghost use Rattle.cuts.specs.Rows.{rowAt, rowsFound, rowsLeft, Room, PutR
 use crate::ends;
 use crate::rows;
 use nose::Capsule;
+use nose::FAR_LEAST;
+use nose::FAR_MOST;
+use nose::NEARLY;
 use nose::Point;
 use nose::Sample;
 use nose::Track;
@@ -24,14 +27,6 @@ use stock::BinRange;
 use stock::TurnSide;
 use stock::TurnStockSpec;
 use stock::ZRange;
-
-// How far below a centre a circle may reach lies between 2^-400 and 1e100 and is a little less than
-// the room, or the test says nothing.
-const FAR_LEAST: f64 = 3.8725919148493183e-121;
-
-const FAR_MOST: f64 = 1e100;
-
-const NEARLY: f64 = 0.999999;
 
 // So many bins are swept before it is asked again which rest.
 const PART: usize = 64;

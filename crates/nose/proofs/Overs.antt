@@ -1,6 +1,6 @@
 -- A circle that stays over a radius on a line, told without its root: where the square of `far` is no less than what is rooted, `far` is no less than the root (`end-over`). Assumes nothing.
 use mathlib.Core.Path.{_≡_, refl, sym, ap, _∙_, subst}
-use mathlib.Core.Bool.{Bool, true, false, not, _&&_}
+use mathlib.Core.Bool.{Bool, true, false, _&&_, true≢false}
 use mathlib.Core.Option.{Option, none, some}
 use Prim.Native.Nat.{ℕ, _^_, _≤_}
 use native.Mathlib.Nat.{le-of-eq}
@@ -13,9 +13,9 @@ use lib.Ieee.Fits.{sub-fits}
 use lib.Ieee.Scale.{finite}
 use Rattle.refusals.specs.Paper.{Paper, answers}
 use Rattle.floats.specs.Pick.{pick, pick-true, pick-false}
-use Rattle.floats.specs.Numbers.{_-₆₄_, _*₆₄_, zero64, one64, greatestOf, sizeOf}
+use Rattle.floats.specs.Numbers.{_-₆₄_, _*₆₄_, leastOf, greatestOf, sizeOf}
 use Rattle.floats.specs.Kinds.{Number, Finite, Within}
-use Rattle.floats.proofs.Bools.{to-false}
+use Rattle.floats.proofs.Bools.{so, to-false}
 use Rattle.floats.proofs.Bounding.{clash, lt-le-chain}
 use Rattle.floats.proofs.Keys.{mag}
 use Rattle.floats.proofs.Lattice.{greatest-number, greatest-ge-r, greatest-le}
@@ -28,7 +28,9 @@ use Rattle.numbers.proofs.Units.{square-nonneg}
 use Rattle.numbers.proofs.Sizes.{root-answers, root-finite, root-mono, size-order}
 use Rattle.numbers.proofs.Squares.{root-of-square}
 use Rattle.numbers.proofs.Tiny.{below-size}
-use Rattle.reach.specs.Low.{lowerOf}
+use Rattle.reach.specs.declared.Low.{Low}
+use Rattle.reach.specs.declared.Low.the-variants.{At}
+use Rattle.reach.specs.Low.{lowPaper, lowerOf}
 use Rattle.reach.proofs.Reaches.{lower-keeps, some-pick}
 use Rattle.nose.specs.declared.Point.{Point}
 use Rattle.nose.specs.declared.Capsule.{Capsule}
@@ -116,6 +118,34 @@ module _ (far : Float) (held : T (fits binary64 far)) (low : T (le tinyBelow far
       some-pick (λ y. T (lt top y)) (le (sizeOf dz) rn) (lessRoot (p .r) (rootOf g)) none
       (subst (λ (q : Paper Float). Over top (lessRoot (p .r) q)) (sym (a .1)) (less-over (p .r) (a .0) far top f (root-finite G (a .1)) far-finite (root-under g (a .0) G n k (a .1)) l))
       tt
+
+-- ---- the test
+pub both : (a b : Bool) → (a && b) ≡ true → (a ≡ true) × (b ≡ true)
+both true b e = (refl, e)
+both false b e = absurd (true≢false (sym e))
+
+-- what is asked of `far` tells that a circle stays over top
+pub over-test : (p : Point) (rr c top far : Float) → T (fits binary64 (p .r)) → T (fits binary64 far) → (le (rr -₆₄ (p .z -₆₄ c) *₆₄ (p .z -₆₄ c)) (far *₆₄ far) && lt top (p .r -₆₄ far) && le tinyBelow far && le far farMost) ≡ true → (rn : Float) → Over top (endOn p rn rr c)
+over-test p rr c top far f g e rn =
+    let a = le (rr -₆₄ (p .z -₆₄ c) *₆₄ (p .z -₆₄ c)) (far *₆₄ far) in
+    let b = lt top (p .r -₆₄ far) in
+    let x = both (a && b && le tinyBelow far) (le far farMost) e in
+    let y = both (a && b) (le tinyBelow far) (x .0) in
+    let z = both a b (y .0) in
+    end-over far g (so (y .1)) (so (x .1)) p rn rr c top f (so (z .0)) (so (z .1))
+
+-- a radius hides what stays over it
+pub hides : (l : Low) (top : Float) (o : Option Float) → l ≡ At top → Over top o → lowerOf o (lowPaper l) ≡ lowPaper l
+unfolding lowPaper
+hides l top o e h = subst (λ (z : Low). lowerOf o (lowPaper z) ≡ lowPaper z) (sym e) (go o h)
+  where
+    is-true : (b : Bool) → T b → b ≡ true
+    is-true true t = refl
+    is-true false t = absurd t
+
+    go : (o : Option Float) → Over top o → lowerOf o (some top) ≡ some top
+    go none h = unfold lowerOf in refl
+    go (some y) h = unfold lowerOf leastOf in ap some (pick-true (lt top y) top y (is-true (lt top y) h))
 
 -- ---- a capsule whose straight side misses the line
 pub capsule-over : (w : Capsule) (c top : Float) → Over top (endOn (w .a) (w .rn) (w .rr) c) → Over top (endOn (w .b) (w .rn) (w .rr) c) → sideOn w c ≡ none → Over top (capsuleAt w c)

@@ -11,12 +11,14 @@
 // What of a segment no bin changes is worked out once, in its track; what a bin's line needs of a
 // track is a sample, and two samples make a step.
 ghost use mathlib.Core.Path.{_≡_};
+ghost use mathlib.Core.Bool.{true};
 ghost use Prim.Native.Nat.{_+_, _*_, _≤_};
 ghost use lib.ListN.{length};
-ghost use Rattle.reach.specs.Low.{lowPaper, sweptPaper};
+ghost use lib.Ieee.{Float};
+ghost use Rattle.reach.specs.Low.{lowPaper, lowerOf, sweptPaper};
 ghost use Rattle.nose.specs.Capsule.{facing, shifted, normalOf, leastPoint, capsuleLowest};
 ghost use Rattle.nose.specs.Nose.{cleanAt, segmentAt, noSegment, segmentGood, goodTo, segmentsGood, inBin};
-ghost use Rattle.nose.specs.Track.{noNormal, normalHeld, capsuleOf, endOn, sideOn, capsuleAt, alikeOf, trackOf, samplePaper, sampleAt, stepOf};
+ghost use Rattle.nose.specs.Track.{noNormal, normalHeld, capsuleOf, endOn, sideOn, capsuleAt, Over, alikeOf, trackOf, samplePaper, sampleAt, stepOf};
 use numbers::Rooted;
 use reach::Low;
 use reach::Swept;
@@ -26,6 +28,14 @@ use stock::ZRange;
 
 // How far a line may lie from a side that stands on it and still meet it.
 const ON_LINE: f64 = 1e-12;
+
+// How far below a centre a circle may reach lies between 2^-400 and 1e100 and is a little less than
+// the room, or a test without roots says nothing.
+pub const FAR_LEAST: f64 = 3.8725919148493183e-121;
+
+pub const FAR_MOST: f64 = 1e100;
+
+pub const NEARLY: f64 = 0.999999;
 
 // Five numbers a segment are lent: the radius and z of a, those of b, and the sag.
 const SEGMENT_NUMBERS: usize = 5;
@@ -234,6 +244,38 @@ fn end_on(p: Point, rn: f64, rr: f64, c: f64) -> Low
     Low::Nowhere
 }
 
+// Whether the circle about p stays over top on the line z = c; rr is its radius's square. `false` says
+// nothing. Where the square of far is no less than what is rooted, far is no less than the root.
+fn over(p: Point, rr: f64, c: f64, top: f64) -> bool
+    ensures { λ r. ⌜ (r ≡ true → (rn : Float) → Over top (endOn p rn rr c)) ⌝ }
+{
+    let dz = p.z - c;
+    let far = (p.r - top) * NEARLY;
+    (rr - dz * dz <= far * far) & (top < p.r - far) & (FAR_LEAST <= far) & (far <= FAR_MOST)
+}
+
+// Whether the circle about p stays over a radius that is there. `false` says nothing.
+fn hidden(x: Low, p: Point, rr: f64, c: f64) -> bool
+    ensures { λ r. ⌜ (r ≡ true → (rn : Float) → lowerOf (endOn p rn rr c) (lowPaper x) ≡ lowPaper x) ⌝ }
+{
+    let Low::At(top) = x else {
+        return false;
+    };
+    over(p, rr, c, top)
+}
+
+// The circles about both ends, on the line z = c. Ahead of a move its end is the nearer, and hides the
+// circle about its start.
+fn ends_on(w: Capsule, c: f64) -> Low
+    ensures { λ r. ⌜ lowPaper r ≡ lowerOf (endOn (w .a) (w .rn) (w .rr) c) (endOn (w .b) (w .rn) (w .rr) c) ⌝ }
+{
+    let x = end_on(w.b, w.rn, w.rr, c);
+    if hidden(x, w.a, w.rr, c) {
+        return x;
+    }
+    reach::lower(end_on(w.a, w.rn, w.rr, c), x)
+}
+
 // The straight side, on the line z = c.
 fn side_on(w: Capsule, c: f64) -> Low
     ensures { λ r. ⌜ lowPaper r ≡ sideOn w c ⌝ }
@@ -255,7 +297,7 @@ fn side_on(w: Capsule, c: f64) -> Low
 fn capsule_at(w: Capsule, c: f64) -> Low
     ensures { λ r. ⌜ lowPaper r ≡ capsuleAt w c ⌝ }
 {
-    let ends = reach::lower(end_on(w.a, w.rn, w.rr, c), end_on(w.b, w.rn, w.rr, c));
+    let ends = ends_on(w, c);
     if w.long {
         return reach::lower(ends, side_on(w, c));
     }

@@ -2,7 +2,7 @@
 use borrow.Author.Needs.{needs}
 use lib.Ieee.{binary64}
 use lib.Ieee.Fits.{mul-fits}
-use Rattle.cuts.proofs.Rests.{over-test}
+use Rattle.nose.proofs.Overs.{over-test}
 use Rattle.cuts.proofs.nose_rows.over.Statement.{statement}
 use Rattle.cuts.proofs.nose_rows.over.Tie as tie
 

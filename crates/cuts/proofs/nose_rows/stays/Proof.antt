@@ -1,8 +1,7 @@
 -- `cuts::nose_rows::stays` meets its contract. Assumes nothing.
 use mathlib.Core.Path.{sym}
 use mathlib.Core.Bool.{true≢false}
-use Rattle.nose.proofs.Overs.{capsule-over}
-use Rattle.cuts.proofs.Rests.{both}
+use Rattle.nose.proofs.Overs.{both, capsule-over}
 use Rattle.cuts.proofs.nose_rows.stays.Statement.{statement}
 use Rattle.cuts.proofs.nose_rows.stays.Tie as tie
 
