@@ -11,3 +11,4 @@ pub mod Boxes
 pub mod Covering
 pub mod Taken
 pub mod Listed
+pub mod Sweeping

@@ -6,3 +6,4 @@ pub mod Tests
 pub mod Hand
 pub mod Block
 pub mod Counted
+pub mod Swept

@@ -1,15 +1,19 @@
 // What refusal 4 asks of the stored rings: each fits, and no two overlap.
 //
 // A box is kept about each block of 16 rings, so that a ring which is apart from the box is found apart
-// from the whole block at once.
+// from the whole block at once. Rings that come in no order make boxes about all: a sweep is tried
+// first (`swept`).
 ghost use mathlib.Core.Path.{_≡_};
+ghost use mathlib.Core.Bool.{true};
 ghost use Prim.Native.Nat.{_+_, _*_, _/_, _≤_, min};
 ghost use lib.ListN.{length};
 ghost use Rattle.rings.specs.Store.{ringsOf, ringFits, apartAll, storeFits, countFits};
+ghost use Rattle.rings.specs.Swept.{Each};
 ghost use Rattle.rings.specs.Block.{boxWith, boxesWith, BoxAbout, Boxed};
 use crate::Ring;
 use crate::lent;
 use crate::shape;
+use crate::swept;
 
 // So many rings have one box about them.
 const BLOCK: usize = 16;
@@ -99,12 +103,58 @@ fn store_fits(e: Ring, rings: &[f64], n: usize) -> bool
     ok
 }
 
+// z0 falls nowhere from one of every four rings to the next.
+fn rises(rings: &[f64], n: usize) -> bool
+    requires { ⌜ (4 * n ≤ length (now rings)) × (n ≤ 256) ⌝ }
+{
+    let mut i: usize = 4;
+    while i < n {
+        if rings[4 * i] < rings[4 * (i - 4)] {
+            return false;
+        }
+        i += 4;
+    }
+    true
+}
+
+// Each of the first n rings fits.
+fn all_fit(e: Ring, rings: &[f64], n: usize) -> bool
+    requires { ⌜ 4 * n ≤ length (now rings) ⌝ }
+    ensures { λ r. ⌜ (r ≡ true → Each e (now (rings .entry)) n) ⌝ }
+{
+    let mut ok = true;
+    let mut i: usize = 0;
+    while i < n {
+        ok = ok & ring_fits(e, lent::ring_at(rings, i));
+        i += 1;
+    }
+    ok
+}
+
+// Of rings that come in no order: a sweep finds that they are as `store_fits` asks.
+fn sweep_fits(e: Ring, rings: &[f64], n: usize) -> bool
+    requires { ⌜ (4 * n ≤ length (now rings)) × (n ≤ 256) ⌝ }
+    ensures { λ r. ⌜ (r ≡ true → storeFits e (ringsOf n (now (rings .entry))) ≡ true) ⌝ }
+{
+    if n <= BLOCK {
+        return false;
+    }
+    if rises(rings, n) {
+        return false;
+    }
+    let fits = all_fit(e, rings, n);
+    fits & swept::is_clear(e, rings, n)
+}
+
 // What refusal 4 asks of the store.
 pub fn count_fits(e: Ring, rings: &[f64], count: usize) -> bool
     ensures { λ r. ⌜ r ≡ countFits e (now (rings .entry)) count ⌝ }
 {
     if lent::room_of(rings.len()) < count {
         return false;
+    }
+    if sweep_fits(e, rings, count) {
+        return true;
     }
     store_fits(e, rings, count)
 }

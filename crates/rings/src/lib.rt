@@ -27,6 +27,7 @@ mod hand;
 mod lent;
 mod shape;
 mod store;
+mod swept;
 
 // z0 <= z < z1, r0 <= r < r1.
 pub struct Ring {
