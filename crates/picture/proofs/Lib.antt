@@ -1,0 +1,4 @@
+mod Drawing
+mod Runs
+mod Texts
+mod Contours

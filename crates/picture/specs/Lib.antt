@@ -1,0 +1,4 @@
+pub mod Drawn
+pub mod Runs
+pub mod Decimals
+pub mod Steps
