@@ -50,6 +50,7 @@ pub struct Step {
     pub next: usize,
 }
 
+// What certainly remains of a cell.
 fn sure(c: TurnCell) -> Band
     ensures { λ r. ⌜ r ≡ sureOf c ⌝ }
 {
@@ -59,6 +60,7 @@ fn sure(c: TurnCell) -> Band
     }
 }
 
+// What may remain of it.
 fn most(c: TurnCell) -> Band
     ensures { λ r. ⌜ r ≡ mostOf c ⌝ }
 {

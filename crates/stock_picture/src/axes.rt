@@ -1,6 +1,7 @@
 // The axis as a chain line, and rulers of z and of the radius, with round ticks.
 use crate::page::Frame;
 use crate::pen::number;
+use crate::pen::number_after;
 use crate::pen::say;
 use crate::pen::step_for;
 use streams::GATHERED;
@@ -20,24 +21,18 @@ fn first_tick(z: f64, step: f64) -> f64 {
 
 // A tick of the z ruler at x on paper.
 fn z_tick(out: Out, gathered: &mut [u8; GATHERED], x: f64, z: f64) -> Out {
-    let a = say(out, gathered, b"<path d=\"M");
-    let b = number(a, gathered, x);
-    let c = say(b, gathered, b" 4.5v2\"/><text x=\"");
-    let d = number(c, gathered, x);
-    let e = say(d, gathered, b"\" y=\"10.3\">");
-    let f = number(e, gathered, z);
-    say(f, gathered, b"</text>\n")
+    let a = number_after(out, gathered, b"<path d=\"M", x);
+    let b = number_after(a, gathered, b" 4.5v2\"/><text x=\"", x);
+    let c = number_after(b, gathered, b"\" y=\"10.3\">", z);
+    say(c, gathered, b"</text>\n")
 }
 
 // A tick of the radius' ruler at y on paper.
 fn r_tick(out: Out, gathered: &mut [u8; GATHERED], y: f64, r: f64) -> Out {
-    let a = say(out, gathered, b"<path d=\"M-5 ");
-    let b = number(a, gathered, y);
-    let c = say(b, gathered, b"h-2\"/><text x=\"-8\" y=\"");
-    let d = number(c, gathered, y);
-    let e = say(d, gathered, b"\" dy=\"1.2\">");
-    let f = number(e, gathered, r);
-    say(f, gathered, b"</text>\n")
+    let a = number_after(out, gathered, b"<path d=\"M-5 ", y);
+    let b = number_after(a, gathered, b"h-2\"/><text x=\"-8\" y=\"", y);
+    let c = number_after(b, gathered, b"\" dy=\"1.2\">", r);
+    say(c, gathered, b"</text>\n")
 }
 
 // A tick of the z ruler, where it is within the bar.
@@ -48,6 +43,7 @@ fn z_tick_at(out: Out, gathered: &mut [u8; GATHERED], frame: Frame, z: f64) -> O
     z_tick(out, gathered, (z - frame.spec.z_min_mm) * frame.along, z)
 }
 
+// A tick of the radius' ruler, where it is within the bar.
 fn r_tick_at(out: Out, gathered: &mut [u8; GATHERED], frame: Frame, r: f64) -> Out {
     if frame.spec.outer_radius_mm < r {
         return out;
@@ -64,6 +60,7 @@ fn label_room(frame: Frame) -> f64 {
     18.0
 }
 
+// The ticks of the z ruler.
 fn z_ticks(out: Out, gathered: &mut [u8; GATHERED], frame: Frame) -> Out {
     let step = step_for(frame.along, label_room(frame));
     let base = first_tick(frame.spec.z_min_mm, step);
@@ -77,6 +74,7 @@ fn z_ticks(out: Out, gathered: &mut [u8; GATHERED], frame: Frame) -> Out {
     o
 }
 
+// The ticks of the radius' ruler.
 fn r_ticks(out: Out, gathered: &mut [u8; GATHERED], frame: Frame) -> Out {
     let step = step_for(frame.up, 7.0);
     let mut o = out;
@@ -99,26 +97,28 @@ fn line(out: Out, gathered: &mut [u8; GATHERED], frame: Frame, opening: &[u8]) -
 fn lines(out: Out, gathered: &mut [u8; GATHERED], frame: Frame) -> Out {
     let a = line(out, gathered, frame, b"<path class=\"case\" d=\"M-4 0H");
     let b = line(a, gathered, frame, b"<path class=\"axis\" d=\"M-4 0H");
-    let c = say(b, gathered, b"<path class=\"rule\" d=\"M0 4.5H");
-    let d = number(c, gathered, frame.wide);
-    let e = say(d, gathered, b"M-5 0V-");
-    let f = number(e, gathered, frame.high);
-    say(f, gathered, b"\"/>\n")
+    let c = number_after(b, gathered, b"<path class=\"rule\" d=\"M0 4.5H", frame.wide);
+    let d = number_after(c, gathered, b"M-5 0V-", frame.high);
+    say(d, gathered, b"\"/>\n")
 }
 
 // What the rulers measure.
 fn names(out: Out, gathered: &mut [u8; GATHERED], frame: Frame) -> Out {
-    let a = say(out, gathered, b"<text x=\"-24\" y=\"-");
-    let b = number(a, gathered, frame.high + 4.5);
-    let c = say(b, gathered, b"\">radius in mm</text>\n<text x=\"");
-    let d = number(c, gathered, frame.wide);
+    let a = number_after(out, gathered, b"<text x=\"-24\" y=\"-", frame.high + 4.5);
+    let b = number_after(
+        a,
+        gathered,
+        b"\">radius in mm</text>\n<text x=\"",
+        frame.wide,
+    );
     say(
-        d,
+        b,
         gathered,
         b"\" y=\"15\" text-anchor=\"end\">z in mm</text>\n",
     )
 }
 
+// The axis and both rulers.
 pub fn both(out: Out, gathered: &mut [u8; GATHERED], frame: Frame) -> Out {
     let a = lines(out, gathered, frame);
     let b = say(a, gathered, b"<g class=\"rule\" text-anchor=\"middle\">\n");

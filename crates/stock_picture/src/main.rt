@@ -197,6 +197,7 @@ fn gather_files(gathered: &mut [u8; GATHERED], files: usize, first: &[u8], secon
     }
 }
 
+// Draws the files that the arguments name.
 fn main() {
     if !streams::hold_standard() {
         return;

@@ -2,9 +2,11 @@
 //
 // On paper a unit is a millimetre. The place 0, 0 is the axis at z_min.
 use crate::pen::count;
+use crate::pen::count_after;
 use crate::pen::edition;
 use crate::pen::length;
 use crate::pen::number;
+use crate::pen::number_after;
 use crate::pen::say;
 use crate::pen::scale_for;
 use queries::Measured;
@@ -35,6 +37,7 @@ const LOW: f64 = 8.0;
 // The words find room in so much beside the bar.
 const WORDS: f64 = 170.0;
 
+// A bar by two scales.
 fn framed(spec: TurnStockSpec, along: f64, up: f64) -> Frame {
     Frame {
         spec,
@@ -64,16 +67,13 @@ fn whole(x: f64) -> f64 {
 
 // The numbers of the view: where it begins above the axis, and how wide and high it is.
 fn view(out: Out, gathered: &mut [u8; GATHERED], top: f64, wide: f64, high: f64) -> Out {
-    let a = say(out, gathered, b"mm\" viewBox=\"-26 ");
-    let b = number(a, gathered, 0.0 - top);
-    let c = say(b, gathered, b" ");
-    let d = number(c, gathered, wide);
-    let e = say(d, gathered, b" ");
-    let f = number(e, gathered, high);
+    let a = number_after(out, gathered, b"mm\" viewBox=\"-26 ", 0.0 - top);
+    let b = number_after(a, gathered, b" ", wide);
+    let c = number_after(b, gathered, b" ", high);
     say(
-        f,
+        c,
         gathered,
-        b"\" role=\"img\" aria-labelledby=\"title desc\">\n",
+        b"\" style=\"background:#fff\" role=\"img\" aria-labelledby=\"title desc\">\n",
     )
 }
 
@@ -81,34 +81,26 @@ fn view(out: Out, gathered: &mut [u8; GATHERED], top: f64, wide: f64, high: f64)
 pub fn opening(out: Out, gathered: &mut [u8; GATHERED], frame: Frame, below: f64) -> Out {
     let top = whole(frame.high) + 11.0;
     let wide = whole(floats::greatest(frame.wide + 12.0, WORDS)) + 26.0;
-    let a = say(
+    let a = number_after(
         out,
         gathered,
         b"<svg xmlns=\"http://www.w3.org/2000/svg\" width=\"",
+        wide,
     );
-    let b = number(a, gathered, wide);
-    let c = say(b, gathered, b"mm\" height=\"");
-    let d = number(c, gathered, top + below);
-    view(d, gathered, top, wide, top + below)
+    let b = number_after(a, gathered, b"mm\" height=\"", top + below);
+    view(b, gathered, top, wide, top + below)
 }
 
 // ---- patterns
 
+// How lines, areas and words look.
 fn style(out: Out, gathered: &mut [u8; GATHERED]) -> Out {
-    let a = say(
+    say(
         out,
         gathered,
-        b"<style>text{font-family:sans-serif;font-size:3.4px}.name{font-size:5px;font-weight:bold}.stock path,.key{stroke:#000;stroke-width:1;vector-effect:non-scaling-stroke}\n",
-    );
-    let b = say(
-        a,
-        gathered,
-        b".metal{fill:#7c8a96}.stock .hole{fill:#fff;stroke:none}.stock .part{stroke:none}.ring{fill:none}.both{fill:#a4a4a4}\n",
-    );
-    say(
-        b,
-        gathered,
-        b".axis{stroke:#000;stroke-width:.35;stroke-dasharray:8 1.5 1 1.5;fill:none}.case{stroke:#fff;stroke-width:1;fill:none}.rule path,path.rule{stroke:#000;stroke-width:.25;fill:none}</style>\n",
+        b"<style>text{font-family:sans-serif;font-size:3.4px}.name{font-size:5px;font-weight:bold}.stock path,.key{stroke:#000;stroke-width:1.2;paint-order:stroke;vector-effect:non-scaling-stroke}\n\
+         .metal{fill:#7c8a96}.stock .hole{fill:#fff;stroke:none}.stock .part{stroke:none}.ring{fill:none}.both{fill:#a4a4a4}\n\
+         .axis{stroke:#000;stroke-width:.35;stroke-dasharray:8 1.5 1 1.5;fill:none}.case{stroke:#fff;stroke-width:1;fill:none}.rule path,path.rule{stroke:#000;stroke-width:.25;fill:none}</style>\n",
     )
 }
 
@@ -123,16 +115,15 @@ fn pattern(
 ) -> Out {
     let a = say(out, gathered, b"<pattern id=\"");
     let b = say(a, gathered, name);
-    let c = say(
+    let c = number_after(
         b,
         gathered,
         b"\" width=\"2\" height=\"2\" patternUnits=\"userSpaceOnUse\" patternTransform=\"scale(",
+        x,
     );
-    let d = number(c, gathered, x);
-    let e = say(d, gathered, b",");
-    let f = number(e, gathered, y);
-    let g = say(f, gathered, b")");
-    say(g, gathered, rest)
+    let d = number_after(c, gathered, b",", y);
+    let e = say(d, gathered, b")");
+    say(e, gathered, rest)
 }
 
 // A pattern for the stock, whose group is scaled, and the same for the key.
@@ -155,6 +146,7 @@ fn pattern_pair(
     pattern(a, gathered, key, 1.0, 1.0, rest)
 }
 
+// The look and the hatch of one stock.
 pub fn patterns_one(out: Out, gathered: &mut [u8; GATHERED], frame: Frame) -> Out {
     let a = style(out, gathered);
     pattern_pair(
@@ -167,6 +159,7 @@ pub fn patterns_one(out: Out, gathered: &mut [u8; GATHERED], frame: Frame) -> Ou
     )
 }
 
+// The look and the hatches of two.
 pub fn patterns_two(out: Out, gathered: &mut [u8; GATHERED], frame: Frame) -> Out {
     let a = style(out, gathered);
     let b = pattern_pair(
@@ -199,23 +192,18 @@ pub fn patterns_two(out: Out, gathered: &mut [u8; GATHERED], frame: Frame) -> Ou
 
 // The bins and the rings.
 fn bins(out: Out, gathered: &mut [u8; GATHERED], spec: TurnStockSpec, n: usize) -> Out {
-    let a = say(out, gathered, b"z ");
-    let b = number(a, gathered, spec.z_min_mm);
-    let c = say(b, gathered, b" to ");
-    let d = number(c, gathered, spec.z_max_mm);
-    let e = say(d, gathered, b" mm, ");
-    let f = count(e, gathered, n as u64);
-    let g = say(f, gathered, b" bins, cell ");
-    let h = number(g, gathered, spec.cell_mm);
-    say(h, gathered, b" mm")
+    let a = number_after(out, gathered, b"z ", spec.z_min_mm);
+    let b = number_after(a, gathered, b" to ", spec.z_max_mm);
+    let c = count_after(b, gathered, b" mm; bins: ", n as u64);
+    let d = number_after(c, gathered, b"; cell ", spec.cell_mm);
+    say(d, gathered, b" mm")
 }
 
+// The radii of the bar.
 fn radii(out: Out, gathered: &mut [u8; GATHERED], spec: TurnStockSpec) -> Out {
-    let a = say(out, gathered, b"outer radius ");
-    let b = number(a, gathered, spec.outer_radius_mm);
-    let c = say(b, gathered, b" mm, bore radius ");
-    let d = number(c, gathered, spec.bore_radius_mm);
-    say(d, gathered, b" mm")
+    let a = number_after(out, gathered, b"outer radius ", spec.outer_radius_mm);
+    let b = number_after(a, gathered, b" mm, bore radius ", spec.bore_radius_mm);
+    say(b, gathered, b" mm")
 }
 
 // A volume.
@@ -235,8 +223,8 @@ fn amount(
     rings: &[f64],
 ) -> Out {
     let k = rings.len() / 4;
-    let a = count(out, gathered, k as u64);
-    let b = say(a, gathered, b" rings, volume ");
+    let a = count_after(out, gathered, b"rings: ", k as u64);
+    let b = say(a, gathered, b"; volume ");
     match queries::volume(spec, cells, rings, k) {
         Measured::Between(x, y) => {
             let c = volume(b, gathered, x);
@@ -251,13 +239,13 @@ fn amount(
 // A scale as drawings have it.
 fn scale(out: Out, gathered: &mut [u8; GATHERED], s: f64) -> Out {
     if s < 1.0 {
-        let a = say(out, gathered, b"1:");
-        return number(a, gathered, 1.0 / s);
+        return number_after(out, gathered, b"1:", 1.0 / s);
     }
     let a = number(out, gathered, s);
     say(a, gathered, b":1")
 }
 
+// The scale, or both, and how places are rounded.
 fn scales(out: Out, gathered: &mut [u8; GATHERED], frame: Frame) -> Out {
     if frame.along == frame.up {
         let a = say(out, gathered, b"scale ");
@@ -275,8 +263,7 @@ fn scales(out: Out, gathered: &mut [u8; GATHERED], frame: Frame) -> Out {
 fn stamp(out: Out, gathered: &mut [u8; GATHERED], stock: TurnStock) -> Out {
     let a = say(out, gathered, b"edition ");
     let b = edition(a, gathered, stock.stamp.edition);
-    let c = say(b, gathered, b", generation ");
-    count(c, gathered, stock.stamp.generation)
+    count_after(b, gathered, b", generation ", stock.stamp.generation)
 }
 
 // The bar and its scales, a line each, or in one.
@@ -297,6 +284,7 @@ fn bar(
 
 // ---- one stock
 
+// Its title and description, for who hears a picture.
 pub fn told_one(
     out: Out,
     gathered: &mut [u8; GATHERED],
@@ -322,6 +310,7 @@ pub fn told_one(
     )
 }
 
+// The words under the drawing.
 pub fn about_one(
     out: Out,
     gathered: &mut [u8; GATHERED],
@@ -346,31 +335,21 @@ pub fn about_one(
     say(f, gathered, b"</text>\n")
 }
 
+// What each area means, and the end of the picture.
 pub fn key_one(out: Out, gathered: &mut [u8; GATHERED]) -> Out {
-    let a = say(
+    say(
         out,
         gathered,
-        b"<path class=\"key metal\" d=\"M0 50h8v4H0z\"/><text x=\"10\" y=\"53.3\">certainly metal</text>\n",
-    );
-    let b = say(
-        a,
-        gathered,
-        b"<path class=\"key\" fill=\"url(#key-doubt)\" d=\"M0 56h8v4H0z\"/><text x=\"10\" y=\"59.3\">uncertain</text>\n",
-    );
-    let c = say(
-        b,
-        gathered,
-        b"<path class=\"key\" fill=\"#fff\" d=\"M54 50h8v4h-8z\"/><text x=\"64\" y=\"53.3\">ring, removed</text>\n",
-    );
-    say(
-        c,
-        gathered,
-        b"<path d=\"M54 57.1h8v1.8h-8z\"/><text x=\"64\" y=\"59.3\">bins in which no metal may remain</text>\n</svg>\n",
+        b"<path class=\"key metal\" d=\"M0 50h8v4H0z\"/><text x=\"10\" y=\"53.3\">certainly metal</text>\n\
+         <path class=\"key\" fill=\"url(#key-doubt)\" d=\"M0 56h8v4H0z\"/><text x=\"10\" y=\"59.3\">uncertain</text>\n\
+         <path class=\"key\" fill=\"#fff\" d=\"M54 50h8v4h-8z\"/><text x=\"64\" y=\"53.3\">ring, removed</text>\n\
+         <path d=\"M54 57.1h8v1.8h-8z\"/><text x=\"64\" y=\"59.3\">bins in which no metal may remain</text>\n</svg>\n",
     )
 }
 
 // ---- two stocks
 
+// Their title and description.
 pub fn told_two(
     out: Out,
     gathered: &mut [u8; GATHERED],
@@ -411,11 +390,12 @@ fn about(
 ) -> Out {
     let a = say(out, gathered, which);
     let b = stamp(a, gathered, stock);
-    let c = say(b, gathered, b", ");
+    let c = say(b, gathered, b"; ");
     let d = amount(c, gathered, stock.spec, cells, rings);
     say(d, gathered, b"</text>\n")
 }
 
+// The bar of both.
 pub fn about_bar(out: Out, gathered: &mut [u8; GATHERED], frame: Frame, n: usize) -> Out {
     let a = say(out, gathered, b"<text y=\"40\">");
     let b = bar(
@@ -429,6 +409,7 @@ pub fn about_bar(out: Out, gathered: &mut [u8; GATHERED], frame: Frame, n: usize
     say(b, gathered, b"</text>\n")
 }
 
+// The first of both.
 pub fn about_first(
     out: Out,
     gathered: &mut [u8; GATHERED],
@@ -446,6 +427,7 @@ pub fn about_first(
     )
 }
 
+// The second of both.
 pub fn about_second(
     out: Out,
     gathered: &mut [u8; GATHERED],
@@ -463,35 +445,16 @@ pub fn about_second(
     )
 }
 
+// What each area means, and the end of the picture.
 pub fn key_two(out: Out, gathered: &mut [u8; GATHERED]) -> Out {
-    let a = say(
+    say(
         out,
         gathered,
-        b"<path class=\"key both\" d=\"M0 55h8v4H0z\"/><text x=\"10\" y=\"58.3\">metal in both</text>\n",
-    );
-    let b = say(
-        a,
-        gathered,
-        b"<path class=\"key\" fill=\"url(#key-maybe)\" d=\"M0 61h8v4H0z\"/><text x=\"10\" y=\"64.3\">uncertain in one or both</text>\n",
-    );
-    let c = say(
-        b,
-        gathered,
-        b"<path class=\"key\" fill=\"url(#key-first)\" d=\"M58 55h8v4h-8z\"/><text x=\"68\" y=\"58.3\">only in the first</text>\n",
-    );
-    let d = say(
-        c,
-        gathered,
-        b"<path class=\"key\" fill=\"url(#key-second)\" d=\"M58 61h8v4h-8z\"/><text x=\"68\" y=\"64.3\">only in the second</text>\n",
-    );
-    let e = say(
-        d,
-        gathered,
-        b"<path class=\"key\" fill=\"#fff\" d=\"M108 55h8v4h-8z\"/><text x=\"118\" y=\"58.3\">ring, removed</text>\n",
-    );
-    say(
-        e,
-        gathered,
-        b"<path d=\"M108 62.1h8v1.8h-8z\"/><text x=\"118\" y=\"64.3\">bins that are unequal</text>\n</svg>\n",
+        b"<path class=\"key both\" d=\"M0 55h8v4H0z\"/><text x=\"10\" y=\"58.3\">metal in both</text>\n\
+         <path class=\"key\" fill=\"url(#key-maybe)\" d=\"M0 61h8v4H0z\"/><text x=\"10\" y=\"64.3\">uncertain in one or both</text>\n\
+         <path class=\"key\" fill=\"url(#key-first)\" d=\"M58 55h8v4h-8z\"/><text x=\"68\" y=\"58.3\">only in the first</text>\n\
+         <path class=\"key\" fill=\"url(#key-second)\" d=\"M58 61h8v4h-8z\"/><text x=\"68\" y=\"64.3\">only in the second</text>\n\
+         <path class=\"key\" fill=\"#fff\" d=\"M108 55h8v4h-8z\"/><text x=\"118\" y=\"58.3\">ring, removed</text>\n\
+         <path d=\"M108 62.1h8v1.8h-8z\"/><text x=\"118\" y=\"64.3\">bins that are unequal</text>\n</svg>\n",
     )
 }

@@ -81,6 +81,24 @@ pub fn edition(out: Out, gathered: &mut [u8; GATHERED], n: u32) -> Out {
     line(out, gathered, &own, k)
 }
 
+// Puts bytes, and behind them a number of the layout.
+pub fn number_after(out: Out, gathered: &mut [u8; GATHERED], bytes: &[u8], x: f64) -> Out {
+    let a = say(out, gathered, bytes);
+    number(a, gathered, x)
+}
+
+// Puts bytes, and behind them a length of a stock.
+pub fn length_after(out: Out, gathered: &mut [u8; GATHERED], bytes: &[u8], x: f64) -> Out {
+    let a = say(out, gathered, bytes);
+    length(a, gathered, x)
+}
+
+// Puts bytes, and behind them a whole number.
+pub fn count_after(out: Out, gathered: &mut [u8; GATHERED], bytes: &[u8], n: u64) -> Out {
+    let a = say(out, gathered, bytes);
+    count(a, gathered, n)
+}
+
 // The greatest nice scale by which an extent finds room.
 pub fn scale_for(extent: f64, room: f64) -> f64 {
     let mut k = LAST_SCALE;

@@ -1,8 +1,8 @@
 // The shapes of a stock: contours of what certainly remains and of what may, marks under bins, rings.
 use crate::page::Frame;
-use crate::pen::length;
+use crate::pen::length_after;
 use crate::pen::line;
-use crate::pen::number;
+use crate::pen::number_after;
 use crate::pen::say;
 use picture::Look;
 use picture::Stretch;
@@ -80,13 +80,10 @@ fn mark(out: Out, gathered: &mut [u8; GATHERED], spec: TurnStockSpec, s: Stretch
     }
     let za = stock::bin_of(spec, s.from).za;
     let zb = stock::bin_of(spec, s.to - 1).zb;
-    let a = say(out, gathered, b"M");
-    let b = length(a, gathered, za - spec.z_min_mm);
-    let c = say(b, gathered, b" 1H");
-    let d = length(c, gathered, zb - spec.z_min_mm);
-    let e = say(d, gathered, b"v1.8H");
-    let f = length(e, gathered, za - spec.z_min_mm);
-    say(f, gathered, b"z")
+    let a = length_after(out, gathered, b"M", za - spec.z_min_mm);
+    let b = length_after(a, gathered, b" 1H", zb - spec.z_min_mm);
+    let c = length_after(b, gathered, b"v1.8H", za - spec.z_min_mm);
+    say(c, gathered, b"z")
 }
 
 // A stretch as it is drawn.
@@ -148,19 +145,15 @@ fn band(
 
 // The path of a ring.
 fn ring(out: Out, gathered: &mut [u8; GATHERED], z_min: f64, q: Ring) -> Out {
-    let a = say(out, gathered, b"M");
-    let b = length(a, gathered, q.z0 - z_min);
-    let c = say(b, gathered, b" ");
-    let d = length(c, gathered, q.r0);
-    let e = say(d, gathered, b"H");
-    let f = length(e, gathered, q.z1 - z_min);
-    let g = say(f, gathered, b"V");
-    let h = length(g, gathered, q.r1);
-    let i = say(h, gathered, b"H");
-    let j = length(i, gathered, q.z0 - z_min);
-    say(j, gathered, b"z")
+    let a = length_after(out, gathered, b"M", q.z0 - z_min);
+    let b = length_after(a, gathered, b" ", q.r0);
+    let c = length_after(b, gathered, b"H", q.z1 - z_min);
+    let d = length_after(c, gathered, b"V", q.r1);
+    let e = length_after(d, gathered, b"H", q.z0 - z_min);
+    say(e, gathered, b"z")
 }
 
+// Ring i.
 fn ring_at(rings: &[f64], i: usize) -> Ring {
     let c = stock::cell_at(rings, i);
     Ring {
@@ -237,11 +230,14 @@ fn all_left(
 
 // The group in which a millimetre of the stock is a millimetre.
 fn open_group(out: Out, gathered: &mut [u8; GATHERED], frame: Frame) -> Out {
-    let a = say(out, gathered, b"<g class=\"stock\" transform=\"scale(");
-    let b = number(a, gathered, frame.along);
-    let c = say(b, gathered, b",-");
-    let d = number(c, gathered, frame.up);
-    say(d, gathered, b")\">\n")
+    let a = number_after(
+        out,
+        gathered,
+        b"<g class=\"stock\" transform=\"scale(",
+        frame.along,
+    );
+    let b = number_after(a, gathered, b",-", frame.up);
+    say(b, gathered, b")\">\n")
 }
 
 // Marks, in a group in which a millimetre of the stock is one along z only.
@@ -253,15 +249,15 @@ fn marked(
     cells1: &[f64],
     cells2: &[f64],
 ) -> Out {
-    let a = say(
+    let a = number_after(
         out,
         gathered,
         b"</g>\n<path class=\"mark\" transform=\"scale(",
+        frame.along,
     );
-    let b = number(a, gathered, frame.along);
-    let c = say(b, gathered, b",1)\" d=\"");
-    let d = stretches(c, gathered, look, frame.spec, cells1, cells2);
-    say(d, gathered, b"\"/>\n")
+    let b = say(a, gathered, b",1)\" d=\"");
+    let c = stretches(b, gathered, look, frame.spec, cells1, cells2);
+    say(c, gathered, b"\"/>\n")
 }
 
 // One stock.
