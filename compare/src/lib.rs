@@ -8,6 +8,7 @@ pub mod arcs;
 pub mod bench;
 pub mod call;
 pub mod count;
+pub mod exact;
 pub mod far;
 pub mod files;
 pub mod generate;

@@ -1,11 +1,12 @@
 //! compare whole [SECONDS] [SEED] [PROGRAM..]
 //! compare FAMILY|all [COUNT] [SEED] | thousandths [STEP] | far|arcs [COUNT] [SEED] | record [COUNT] [SEED] [FAMILY] | bench [WORD] [PICTURE]
 //! compare stack [COUNT] [SEED]
+//! compare exact KIND COUNT SEED [SIZE]
 //! compare jobs [COUNT] [SEED] PROGRAM [WORD..] | job | job_bench PROGRAM [WORD..] | parts_bench | files_bench
 //! compare pair FIRST SECOND | pairs_bench PROGRAM
 use compare::generate::{FAMILIES, FILE, JOB_PARTS, SEQUENCE};
 use compare::pairs::SIDE_BY_SIDE;
-use compare::{arcs, bench, far, files, jobs, pairs, record, run, stack, whole};
+use compare::{arcs, bench, exact, far, files, jobs, pairs, record, run, stack, whole};
 use std::io::{Read, Write};
 use std::process::ExitCode;
 
@@ -28,6 +29,11 @@ fn usage() -> ExitCode {
     eprintln!("compare bench [WORD] [PICTURE]  times both; only rows with WORD");
     eprintln!(
         "compare stack [COUNT] [SEED]    the stack that each call needs, over COUNT calls a family"
+    );
+    eprintln!("compare exact KIND COUNT SEED [SIZE]   bounds against exact geometry, so many bins");
+    eprintln!(
+        "  kinds: {}; sizes: job typed shop metre million",
+        exact::KINDS.join(" ")
     );
     eprintln!("compare count ROW SIDE          some goes of a row of the bench, for callgrind");
     eprintln!("compare jobs COUNT SEED PROGRAM..   so many jobs through a job program");
@@ -98,6 +104,16 @@ fn main() -> ExitCode {
     let Ok(seed) = number(2, SEED) else {
         return usage();
     };
+    if name == "exact" {
+        let (Some(kind), Some(Ok(count))) = (words.get(1), words.get(2).map(|w| w.parse())) else {
+            return usage();
+        };
+        let Ok(seed) = number(3, SEED) else {
+            return usage();
+        };
+        let known = exact::exact(kind, count, seed, words.get(4).map(String::as_str));
+        return if known { ExitCode::SUCCESS } else { usage() };
+    }
     if name == "whole" {
         let Ok(seconds) = number(1, 600) else {
             return usage();
