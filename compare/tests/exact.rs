@@ -5,6 +5,7 @@ use compare::exact::judge::{Exact, Report};
 use compare::exact::lent::{Cut, bin, cells_after, chords, volume};
 use compare::exact::number::{Long, ZERO};
 use compare::exact::shape::{Bin, Read, place};
+use compare::exact::sweep::Sweep;
 use compare::generate::Rng;
 use compare::oracle::stock::{Bar, bar, camlib_stock, fresh};
 use plain::motion::Curve;
@@ -234,6 +235,23 @@ fn an_arc() {
     assert_eq!(chords([10., 0., 0.5], [10., 8.], 1.).len(), 2);
 }
 
+/// A nose of radius 1 along that arc: arched up to r = 12 it leaves 11 at its crown, and bowled down to 8 it reaches 7.
+#[test]
+fn a_nose_along_an_arc() {
+    let (a, b) = (place(10., 0.), place(10., 8.));
+    let arch = Sweep::new(a, b, long(-0.5), long(1.)).unwrap();
+    assert_eq!(arch.at(long(4.)), Some(long(11.)));
+    assert_eq!(arch.at(long(0.)), Some(long(9.)));
+    assert_eq!(arch.at(long(-1.5)), None);
+    assert_eq!(arch.leaves(between(2., 6.)), Some(long(11.)));
+    assert_eq!(arch.lacks(between(2., 6.), long(10.5)), long(0.5));
+    let bowl = Sweep::new(a, b, long(0.5), long(1.)).unwrap();
+    assert_eq!(bowl.at(long(4.)), Some(long(7.)));
+    assert_eq!(bowl.deepest(between(2., 6.)), Some(long(7.)));
+    assert_eq!(bowl.enters(between(2., 6.), long(7.5)), long(0.5));
+    assert!(Sweep::new(a, b, long(0.5), long(6.)).is_none());
+}
+
 /// A tube of radii 1 and 3, 2 long, less a ring of radii 1 and 2, 1 long: 16 pi and 13 pi.
 #[test]
 fn a_volume() {
@@ -261,7 +279,7 @@ fn a_bent_bound_is_told() {
         let mut cells = good.clone();
         cells[i] = cell;
         let mut seen = Report::default();
-        seen.judge(&bar, &cut, &cut, &cells);
+        seen.judge(&bar, &read(&cut), &cut, &cells);
         seen
     };
     let seen = bent(0, [4., 5_f64.next_down(), 0., 0.]);

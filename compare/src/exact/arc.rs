@@ -1,8 +1,10 @@
 //! Chords of arcs against their exact circles, and volumes against exact sums.
 use super::draw::Draw;
-use super::lent;
+use super::judge::{Exact, Report};
+use super::lent::{self, Cut};
 use super::number::{Long, ZERO};
 use super::shape::{Place, place};
+use super::sweep::Sweep;
 use crate::oracle::stock::Bar;
 
 /// pi, its first 100 decimals.
@@ -93,6 +95,26 @@ impl Arcs {
             raise(&mut self.most, over, told);
         }
     }
+}
+
+/// One more nose along the chords of an arc, judged by the arc itself.
+pub fn scallop(draw: &mut Draw, report: &mut Report) {
+    let bar = draw.bar(12);
+    let (a, b, tolerance) = draw.arc(&bar);
+    let rn = draw.rng.pick(draw.size.noses);
+    let inside = draw.rng.once_in(2);
+    let side = if inside { -1. } else { 1. };
+    let chords = lent::chords(a, b, tolerance);
+    let (first, last) = (place(side * a[0], a[1]), place(side * b[0], b[1]));
+    if chords.is_empty() || chords.as_flattened().iter().any(|x| x.abs() > 1e6) {
+        return;
+    }
+    let Some(sweep) = Sweep::new(first, last, Long::from(side * a[2]), rn.into()) else {
+        return;
+    };
+    let made = Cut::Nose(inside as u32, rn, chords);
+    let cells = lent::cells_after(&bar, &made);
+    report.judge(&bar, &Exact::Arc(sweep), &made, &cells);
 }
 
 /// What was seen of volumes at one size.

@@ -202,6 +202,30 @@ impl Draw {
         Cut::Nose(self.rng.below(2) as u32, rn, segments)
     }
 
+    /// An arc near the bar: r, z and bulge of its start, r and z of its end, and a tolerance for its chords.
+    pub fn arc(&mut self, bar: &Bar) -> ([f64; 3], [f64; 2], f64) {
+        let outer = self.size.outer;
+        let long = bar.n as f64 * bar.spec.cell;
+        let a = [self.number(0., outer), self.near(bar, long)];
+        let b = [
+            self.number((a[0] - long).max(0.), a[0] + long),
+            self.near(bar, long),
+        ];
+        let bulge = (self.rng.between(0.02, 1.) * 1e6).round() / 1e6 * self.rng.pick(&[1., -1.]);
+        let half = (b[0] - a[0]).hypot(b[1] - a[1]) / 2.;
+        let part = self.rng.pick(&[1., 0.3, 0.1, 0.01, 0.001]) * bulge.abs() * half;
+        let tolerance = if self.size.whole {
+            self.snap(part).max(0.001)
+        } else {
+            part
+        };
+        (
+            [a[0], a[1], bulge],
+            b.map(|x| x.clamp(-1e6, 1e6)),
+            tolerance,
+        )
+    }
+
     /// A convex polygon: a rectangle, a triangle or what lies within some points.
     pub fn polygon(&mut self, bar: &Bar) -> Cut {
         let points = loop {

@@ -2,6 +2,7 @@
 use super::lent::{Cut, bin, cells_after};
 use super::number::Long;
 use super::shape::{Bin, Capsule, Drill, Polygon, Read};
+use super::sweep::Sweep;
 use crate::oracle::stock::Bar;
 
 /// What was seen of one of the two bounds of a surface.
@@ -65,6 +66,8 @@ pub enum Exact {
     Polygon(Polygon, Long),
     Thread(Long, Long, Long),
     Drill(Drill),
+    /// A nose along an arc, at some places of each bin.
+    Arc(Sweep),
 }
 
 /// A segment's capsules: the shrunk one, where the sag is no more than the radius, and the grown one.
@@ -122,6 +125,7 @@ impl Exact {
             Exact::Polygon(p, excess) => Some(p.leaves(bin)? + *excess),
             Exact::Thread(..) => None,
             Exact::Drill(d) => Some(-d.at(bin.za)),
+            Exact::Arc(s) => s.leaves(bin),
         }
     }
 
@@ -135,6 +139,7 @@ impl Exact {
             Exact::Polygon(p, _) => p.deepest(bin),
             Exact::Thread(lo, hi, r) => (bin.za.greatest(*lo) < bin.zb.least(*hi)).then_some(*r),
             Exact::Drill(d) => (d.tip < bin.zb).then(|| -d.at(bin.zb)),
+            Exact::Arc(s) => s.deepest(bin),
         }
     }
 
@@ -164,17 +169,21 @@ impl Exact {
                 let by = left.expect("a radius") - level;
                 Off::Radius(by, d.away(by))
             }
+            Exact::Arc(s) => match left {
+                Some(left) => Off::Radius(left - level, s.lacks(bin, level)),
+                None => Off::Strip(s.lacks(bin, level), s.lacks(bin, level)),
+            },
         }
     }
 
-    /// By how much it is too much to say that nothing below the level is touched. Of several segments the farthest in
-    /// counts; `still` says of a segment, by its number, that it does not move the bound.
+    /// By how much it is too much to say that nothing below the level is touched; `still` says of a segment, by its
+    /// number, that it does not move the bound. Of several segments the deepest one counts.
     fn deep(
         &self,
         bin: Bin,
         level: Long,
         reached: Option<Long>,
-        still: impl Fn(usize) -> bool,
+        still: impl Fn(Option<usize>) -> bool,
     ) -> Off {
         let by = match reached {
             Some(reached) if reached < level => level - reached,
@@ -182,16 +191,24 @@ impl Exact {
         };
         let (k, shared, away) = match self {
             Exact::Noses(all) => {
-                let each = all.iter().enumerate();
-                let each = each.map(|(k, c)| (k, c.grown.shared(bin), c.grown.enters(bin, level)));
-                each.max_by_key(|(_, _, away)| *away).expect("a capsule")
+                let away = all.iter().map(|c| c.grown.enters(bin, level)).max();
+                let each = all
+                    .iter()
+                    .enumerate()
+                    .filter_map(|(k, c)| Some((c.grown.deepest(bin)?, k)));
+                let (_, k) = each.min().expect("a capsule");
+                (Some(k), all[k].grown.shared(bin), away.expect("a capsule"))
             }
-            Exact::Polygon(p, _) => (0, p.shared(bin), p.enters(bin, level, level - by)),
+            Exact::Polygon(p, _) => (None, p.shared(bin), p.enters(bin, level, level - by)),
             Exact::Thread(lo, hi, _) => {
                 let shared = bin.zb.least(*hi) - bin.za.greatest(*lo);
-                (0, shared, by.least(shared))
+                (None, shared, by.least(shared))
             }
-            Exact::Drill(d) => (0, bin.zb - d.tip, d.away(by).least(bin.zb - d.tip)),
+            Exact::Drill(d) => (None, bin.zb - d.tip, d.away(by).least(bin.zb - d.tip)),
+            Exact::Arc(s) => {
+                let away = s.enters(bin, level);
+                (None, away, away)
+            }
         };
         if still(k) {
             Off::Strip(shared, away)
@@ -212,7 +229,12 @@ fn alone(cut: &Cut, k: usize) -> Cut {
 impl Report {
     /// One more cut on a fresh bar.
     pub fn take(&mut self, bar: &Bar, cut: &Cut) {
-        self.judge(bar, cut, cut, &cells_after(bar, cut));
+        self.judge(
+            bar,
+            &Exact::new(cut, self.read),
+            cut,
+            &cells_after(bar, cut),
+        );
     }
 
     /// One more nose with no sag, handed over with a sag as a margin and judged without it.
@@ -224,7 +246,12 @@ impl Report {
             .iter()
             .map(|[ar, az, br, bz, _]| [*ar, *az, *br, *bz, margin]);
         let wider = Cut::Nose(*side, *rn, wider.collect());
-        self.judge(bar, cut, &wider, &cells_after(bar, &wider));
+        self.judge(
+            bar,
+            &Exact::new(cut, self.read),
+            &wider,
+            &cells_after(bar, &wider),
+        );
     }
 
     /// A bin's ends: as the library rounds them, or of the numbers that were typed.
@@ -244,11 +271,10 @@ impl Report {
     }
 
     /// The cells that a cut is said to leave, by the library's call for `made`.
-    pub fn judge(&mut self, bar: &Bar, cut: &Cut, made: &Cut, cells: &[[f64; 4]]) {
+    pub fn judge(&mut self, bar: &Bar, exact: &Exact, made: &Cut, cells: &[[f64; 4]]) {
         let read = self.read;
-        let exact = Exact::new(cut, read);
         self.calls += 1;
-        let inside = cut.is_inside();
+        let inside = made.is_inside();
         let flip = |r: f64| read.answer(if inside { -r } else { r });
         // The surface before the cut, and how deep it can come.
         let (start, floor) = match inside {
@@ -269,7 +295,8 @@ impl Report {
                 let exactly = exactly.map_or("no radius".into(), |r| read.mm(r.abs()).digits(30));
                 let ends = bin(&bar.spec, i);
                 format!(
-                    "{made:?} on {:?}: {of} of bin {i}, {ends:?}, {bound:?}, exactly {exactly}",
+                    "{} on {:?}: {of} of bin {i}, {ends:?}, {bound:?}, exactly {exactly}",
+                    made.told(),
                     bar.spec
                 )
             };
@@ -281,9 +308,9 @@ impl Report {
             }
             self.deep.bins += (deep_at < start) as usize;
             let reached = exact.deepest(here).map(within);
-            let still = |k| {
-                deep_at == start || flip(bounds(&cells_after(bar, &alone(made, k))[i]).1) == start
-            };
+            let alone = |k| bounds(&cells_after(bar, &alone(made, k))[i]).1;
+            let still =
+                |k: Option<usize>| deep_at == start || k.is_some_and(|k| flip(alone(k)) == start);
             let off = exact.deep(here, deep_at, reached, still);
             self.deep
                 .take(off, read, || told("deep bound", deep, reached));

@@ -17,6 +17,20 @@ pub enum Cut {
 }
 
 impl Cut {
+    /// Its numbers; of many segments the first and the last.
+    pub fn told(&self) -> String {
+        match self {
+            Cut::Nose(side, rn, all) if all.len() > 4 => {
+                let (first, last) = (all[0], all[all.len() - 1]);
+                format!(
+                    "Nose({side}, {rn:?}, {} segments, {first:?} to {last:?})",
+                    all.len()
+                )
+            }
+            _ => format!("{self:?}"),
+        }
+    }
+
     pub fn is_inside(&self) -> bool {
         !matches!(
             self,

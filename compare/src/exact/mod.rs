@@ -14,6 +14,7 @@ pub mod judge;
 pub mod lent;
 pub mod number;
 pub mod shape;
+pub mod sweep;
 
 use arc::{Arcs, Volumes};
 use draw::{Draw, SIZES, Size};
@@ -21,8 +22,8 @@ use judge::{Report, Seen};
 use number::Long;
 use shape::Read;
 
-pub const KINDS: [&str; 8] = [
-    "nose", "sag", "margin", "polygon", "drill", "thread", "arcs", "volume",
+pub const KINDS: [&str; 9] = [
+    "nose", "sag", "margin", "polygon", "drill", "thread", "scallop", "arcs", "volume",
 ];
 
 /// The sag that a nose is given as a margin, mm.
@@ -45,6 +46,10 @@ fn cut(kind: &str, count: usize, seed: u64, size: Size) {
     let (mut draw, mut report) = (Draw::new(seed, size), Report::default());
     report.read = size.read;
     while report.sure.bins.max(report.deep.bins) < count {
+        if kind == "scallop" {
+            arc::scallop(&mut draw, &mut report);
+            continue;
+        }
         let bar = draw.bar(12);
         let cut = match kind {
             "nose" | "margin" => draw.nose(&bar, false),
@@ -150,8 +155,9 @@ pub fn exact(kind: &str, count: usize, seed: u64, size: Option<&str>) -> bool {
     if !KINDS.contains(&kind) || sizes.is_empty() {
         return false;
     }
-    // Of arcs and volumes the circle and the sum are those of the f64 numbers.
-    let as_typed = |s: &Size| s.read == Read::Typed && ["arcs", "volume"].contains(&kind);
+    // Of arcs and volumes circle and sum are those of the f64 numbers.
+    let as_typed =
+        |s: &Size| s.read == Read::Typed && ["scallop", "arcs", "volume"].contains(&kind);
     for size in sizes.into_iter().filter(|s| !as_typed(s)) {
         one(kind, count, seed, size);
     }
