@@ -79,10 +79,10 @@ impl Draw {
         }
     }
 
-    /// The number, or the nearest of whole micrometres, as a job reads it.
+    /// The number, or the nearest of whole micrometres, as a job reads it; never -0.0.
     pub fn snap(&self, x: f64) -> f64 {
         if self.size.whole {
-            (x * 1000.).round() / 1000.
+            (x * 1000.).round() / 1000. + 0.
         } else {
             x
         }
