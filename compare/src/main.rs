@@ -32,7 +32,7 @@ fn usage() -> ExitCode {
     );
     eprintln!("compare exact KIND COUNT SEED [SIZE]   bounds against exact geometry, so many bins");
     eprintln!(
-        "  kinds: {}; sizes: job typed shop metre million",
+        "  kinds: {}; sizes: job typed long shop metre million",
         exact::KINDS.join(" ")
     );
     eprintln!("compare count ROW SIDE          some goes of a row of the bench, for callgrind");

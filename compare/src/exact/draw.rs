@@ -1,4 +1,4 @@
-//! Cuts that are measured: bars of few bins with a cut near them, at four sizes.
+//! Cuts that are measured: bars with a cut near them, at several sizes.
 use super::lent::{Cut, bin};
 use super::shape::{Place, Polygon, Read, place};
 use crate::call::Spec;
@@ -16,9 +16,11 @@ pub struct Size {
     pub noses: &'static [f64],
     pub whole: bool,
     pub read: Read,
+    /// Bars of 200 to 512 bins, as a job can have; else of a dozen.
+    pub long: bool,
 }
 
-pub const SIZES: [Size; 5] = [
+pub const SIZES: [Size; 6] = [
     Size {
         name: "job",
         outer: 30.,
@@ -27,6 +29,7 @@ pub const SIZES: [Size; 5] = [
         noses: &[0.4, 0.8],
         whole: true,
         read: Read::Millimetres,
+        long: false,
     },
     Size {
         name: "typed",
@@ -36,6 +39,17 @@ pub const SIZES: [Size; 5] = [
         noses: &[0.4, 0.8],
         whole: true,
         read: Read::Typed,
+        long: false,
+    },
+    Size {
+        name: "long",
+        outer: 30.,
+        far: 40.,
+        cells: &[0.05, 0.1],
+        noses: &[0.4, 0.8],
+        whole: true,
+        read: Read::Typed,
+        long: true,
     },
     Size {
         name: "shop",
@@ -45,6 +59,7 @@ pub const SIZES: [Size; 5] = [
         noses: &[0.4, 0.8],
         whole: false,
         read: Read::Millimetres,
+        long: false,
     },
     Size {
         name: "metre",
@@ -54,6 +69,7 @@ pub const SIZES: [Size; 5] = [
         noses: &[0.4, 0.8, 5., 50.],
         whole: false,
         read: Read::Millimetres,
+        long: false,
     },
     Size {
         name: "million",
@@ -63,6 +79,7 @@ pub const SIZES: [Size; 5] = [
         noses: &[0.8, 50., 1000., 40000.],
         whole: false,
         read: Read::Millimetres,
+        long: false,
     },
 ];
 
@@ -107,13 +124,16 @@ impl Draw {
         x
     }
 
-    /// A bar of few bins.
+    /// A bar of few bins, or of many.
     pub fn bar(&mut self, most: usize) -> Bar {
         let Size {
             outer, far, cells, ..
         } = self.size;
         let cell = self.rng.pick(cells);
-        let n = 2 + self.rng.below(most - 1);
+        let n = match self.size.long {
+            true => 200 + self.rng.below(313),
+            false => 2 + self.rng.below(most - 1),
+        };
         let z_min = self.number(-far, far - n as f64 * cell);
         let z_max = self.snap(z_min + n as f64 * cell);
         let spec = Spec {
