@@ -10,3 +10,4 @@ pub mod Ranges
 pub mod Laws
 pub mod Whole
 pub mod Tested
+pub mod Lots

@@ -183,7 +183,7 @@ module _ (σ : Side) (k : Float) where
         eq-nan (fin s m e) = unfold eq in refl
 
 -- ---- the outer radius, and the bore
-level-of : (a b : Float) → T (le a b) → T (le b a) → T (eq a b)
+pub level-of : (a b : Float) → T (le a b) → T (le b a) → T (eq a b)
 unfolding le
 level-of a b p q = elim (or-of (lt a b) (eq a b) p) [
   | inl l ↦ absurd (clash a b l q)

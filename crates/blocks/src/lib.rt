@@ -15,7 +15,7 @@ ghost use Rattle.refusals.specs.Limits.{blockBins};
 ghost use Rattle.floats.specs.Numbers.{cleanOf};
 ghost use Rattle.stock.specs.Spec.{countedPaper};
 ghost use Rattle.queries.specs.Envelope.{seenPaper};
-ghost use Rattle.blocks.specs.Block.{blocksIn, blockEnd, blockOf, blocksOf, blockAt, sameBlock, matchTo, matchesOf, keptStock};
+ghost use Rattle.blocks.specs.Block.{blocksIn, blockEnd, blockTo, blockOf, blocksOf, blockAt, sameBlock, matchTo, matchesOf, keptStock};
 ghost use Rattle.blocks.specs.Range.{binsOver, rangeOf};
 ghost use Rattle.blocks.specs.Way.{joinFrom, keptOver, keptBetween, RangeKept};
 ghost use Rattle.blocks.specs.Renew.{renewedAll, Renews, putBlock, renewAt, renewOver, renewedFor, LeavesFor};
@@ -28,6 +28,7 @@ use stock::Counted;
 use stock::TurnStockSpec;
 
 mod bins;
+mod ends;
 mod matching;
 
 // How many blocks have bins below n.
@@ -85,18 +86,43 @@ fn put_block(blocks: &mut [f64], j: usize, b: Band)
     blocks[at + 1] = b.bore;
 }
 
+// The numbers `kept` are those of the bins from a up to e, of a list that has them.
+fn bins_match(s: TurnStockSpec, cells: &[f64], kept: Band, a: usize, e: usize) -> bool
+    requires { ⌜ 4 * e ≤ length (now cells) ⌝ }
+    ensures { λ r. ⌜ r ≡ sameBlock kept (blockTo s (now (cells .entry)) a (e - a)) ⌝ }
+{
+    let met = matching::met_over(kept, matching::met_none(s, kept), cells, a, e);
+    met.under & met.outer & met.bore
+}
+
+// The same of a whole block, by its ends where every bin has material.
+fn whole_matches(s: TurnStockSpec, cells: &[f64], kept: Band, a: usize) -> bool
+    requires { ⌜ 4 * a + 4 * blockBins ≤ length (now cells) ⌝ }
+    ensures { λ r. ⌜ r ≡ sameBlock kept (blockTo s (now (cells .entry)) a blockBins) ⌝ }
+{
+    let found = ends::of_block(cells, a);
+    if ends::all_held(s, found) {
+        let b = bins::join(bins::no_material(s), ends::span(found));
+        return (kept.outer == b.outer) & (kept.bore == b.bore);
+    }
+    bins_match(s, cells, kept, a, a + BLOCK)
+}
+
 // The numbers `kept` are those of block j of n bins.
 fn block_matches(s: TurnStockSpec, n: usize, cells: &[f64], kept: Band, j: usize) -> bool
     requires { ⌜ blockBins * j < n ⌝ }
     ensures { λ r. ⌜ r ≡ sameBlock kept (blockOf s n (now (cells .entry)) j) ⌝ }
 {
+    let from = BLOCK * j;
     let to = block_end(n, j);
-    if to <= cells.len() / 4 {
-        let met = matching::met_over(kept, matching::met_none(s, kept), cells, BLOCK * j, to);
-        return met.under & met.outer & met.bore;
+    if cells.len() / 4 < to {
+        let found = block_of(s, n, cells, j);
+        return (kept.outer == found.outer) & (kept.bore == found.bore);
     }
-    let found = block_of(s, n, cells, j);
-    (kept.outer == found.outer) & (kept.bore == found.bore)
+    if to - from == BLOCK {
+        return whole_matches(s, cells, kept, from);
+    }
+    bins_match(s, cells, kept, from, to)
 }
 
 // The first `count` blocks are those of the cells.
