@@ -2,3 +2,4 @@ mod Drawing
 mod Runs
 mod Texts
 mod Contours
+pub mod Solid

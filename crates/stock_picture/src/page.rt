@@ -206,8 +206,11 @@ fn radii(out: Out, gathered: &mut [u8; GATHERED], spec: TurnStockSpec) -> Out {
     say(b, gathered, b" mm")
 }
 
-// A volume.
+// A volume, with more decimals where it is small.
 fn volume(out: Out, gathered: &mut [u8; GATHERED], v: f64) -> Out {
+    if v < 1.0 {
+        return number(out, gathered, v);
+    }
     if v < 1000000000000.0 {
         return length(out, gathered, v);
     }
