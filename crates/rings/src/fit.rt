@@ -103,16 +103,16 @@ fn store_fits(e: Ring, rings: &[f64], n: usize) -> bool
     ok
 }
 
-// z0 falls nowhere from one of every four rings to the next.
+// z0 falls nowhere from one of every eight rings to the next.
 fn rises(rings: &[f64], n: usize) -> bool
     requires { ⌜ (4 * n ≤ length (now rings)) × (n ≤ 256) ⌝ }
 {
-    let mut i: usize = 4;
+    let mut i: usize = 8;
     while i < n {
-        if rings[4 * i] < rings[4 * (i - 4)] {
+        if rings[4 * i] < rings[4 * (i - 8)] {
             return false;
         }
-        i += 4;
+        i += 8;
     }
     true
 }

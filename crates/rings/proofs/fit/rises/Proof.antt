@@ -5,10 +5,10 @@ use Rattle.rings.proofs.fit.rises.Statement.{statement}
 use Rattle.rings.proofs.fit.rises.Tie as tie
 
 abbrev Inv-loop : tie.InvT-loop
-Inv-loop rings n i₀ i = (4 ≤ i) × (i ≤ n + 4)
+Inv-loop rings n i₀ i = (8 ≤ i) × (i ≤ n + 8)
 
 abbrev μ-loop : tie.MeasureT-loop
-μ-loop rings n i₀ i = n + 4 - i
+μ-loop rings n i₀ i = n + 8 - i
 
 loop-holds : tie.Need-loop-holds Inv-loop μ-loop
 loop-holds c = search needs
