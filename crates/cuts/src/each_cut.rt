@@ -92,8 +92,8 @@ fn swept_over(
     )
 }
 
-// A sweep over a stock of many bins at most. A stock of few has shorter rows, since rows are cleared for
-// each cut.
+// A sweep over a stock of many bins at most. A stock of few or of very few has shorter rows, since rows
+// are cleared for each cut.
 fn swept(
     s: TurnStockSpec,
     n: usize,
@@ -106,6 +106,21 @@ fn swept(
     requires { ⌜ ReadyFor s n (now cells) × (n ≤ 4096) ⌝ }
     ensures { λ r. ⌜ Tallies (proposing (sweepAct s sweep (now (beside .entry))) (now (cells .entry)) n) r indices records ⌝ }
 {
+    if n <= rows::SHORT_BINS {
+        let mut values = [0.0f64; rows::SHORT_PLACES];
+        let mut there = [false; rows::SHORT_PLACES];
+        return swept_over(
+            s,
+            n,
+            sweep,
+            beside,
+            cells,
+            indices,
+            records,
+            &mut values,
+            &mut there,
+        );
+    }
     if n <= rows::FEW_BINS {
         let mut values = [0.0f64; rows::FEW_PLACES];
         let mut there = [false; rows::FEW_PLACES];
