@@ -3,7 +3,7 @@ use mathlib.Core.Path.{_≡_, refl, sym, ap, _∙_, subst}
 use mathlib.Core.Bool.{Bool, true, false, not, _&&_, _||_}
 use mathlib.Core.List.{List}
 use mathlib.Core.Logic.{_⊎_, inl, inr}
-use Prim.Native.Nat.{ℕ, zero, suc, _+_, _*_, _-_, _≤_}
+use Prim.Native.Nat.{ℕ, zero, suc, _+_, _-_, _≤_}
 use native.Mathlib.Omega.{arith}
 use lib.Dec.{T}
 use lib.Ieee.{Float, nan, inf, fin, isNan, lt, le, eq}
@@ -18,9 +18,8 @@ use Rattle.floats.proofs.Bools.{so, same-tests, or-l, or-r}
 use Rattle.queries.specs.declared.Band.{Band}
 use Rattle.queries.specs.Material.{mostOf}
 use Rattle.blocks.specs.declared.matching.Met.{Met}
-use Rattle.refusals.specs.Limits.{blockBins}
 use Rattle.queries.specs.Envelope.{joinOf}
-use Rattle.blocks.specs.Block.{blockWith, foldFrom, blockTo, blockEnd, blockOf, sameBlock}
+use Rattle.blocks.specs.Block.{blockWith, foldFrom, blockTo, sameBlock}
 use Rattle.blocks.specs.Tested.{metNone, metWith, metFrom, allMet}
 
 -- ---- Bools
@@ -350,9 +349,3 @@ met-more k m₀ cs a i m r b h em eb er =
 pub met-start : (k : Band) (m : Met) (cs : List Float) (a n : ℕ) → n ≡ 0 → m ≡ metFrom k m cs a n
 unfolding metFrom
 met-start k m cs a n e = ap (λ (x : ℕ). metFrom k m cs a x) (sym e)
-
--- a block by tests, and by its fold
-pub block-tested : (s : TurnStockSpec) (n : ℕ) (cs : List Float) (k : Band) (j e : ℕ) (m₀ m : Met) → e ≡ blockEnd n j → m₀ ≡ metNone s k → m ≡ metFrom k m₀ cs (blockBins * j) (e - blockBins * j) → allMet m ≡ sameBlock k (blockOf s n cs j)
-unfolding blockOf
-block-tested s n cs k j e m₀ m ee e0 em =
-    ap allMet (em ∙ ap (λ (x : Met). metFrom k x cs (blockBins * j) (e - blockBins * j)) e0) ∙ tested-same s k cs (blockBins * j) (e - blockBins * j) ∙ ap (λ (x : ℕ). sameBlock k (blockTo s cs (blockBins * j) (x - blockBins * j))) ee
