@@ -54,6 +54,9 @@ impl Drop for Folder {
     }
 }
 
+/// What the program writes behind its pairs: of stocks of thousands of bins that it makes itself.
+const BEHIND: &str = "bins 4096\n";
+
 /// What the program writes of pairs of names, each with its names before it.
 fn written(program: &Path, folder: &Folder, pairs: &[(String, String)]) -> String {
     let names = pairs.iter().flat_map(|(a, b)| [a, b]);
@@ -64,7 +67,11 @@ fn written(program: &Path, folder: &Folder, pairs: &[(String, String)]) -> Strin
         .stderr(Stdio::null())
         .output()
         .expect("the program starts");
-    String::from_utf8_lossy(&output.stdout).into_owned()
+    let mut text = String::from_utf8_lossy(&output.stdout).into_owned();
+    // no line of a pair begins so; a program that breaks off before has nothing of it
+    let behind = text.find(&format!("\n{BEHIND}"));
+    text.truncate(behind.map_or(text.len(), |at| at + 1));
+    text
 }
 
 /// What stands between the names of a pair and those of the next.
