@@ -87,7 +87,12 @@ pub fn stock(cells: usize, rings: usize) -> (Spec, Vec<f64>, Store) {
         max_cells: cells,
     };
     let cell = |i: usize| [i as f64 / 1000. % 9., 10., 0., i as f64 / 3000. % 9.];
-    let ring = |i: usize| [i as f64, i as f64 + 1., 2. / 3., 1. + 1. / (i as f64 + 3.)];
+    // rings side by side within the bar
+    let long = (cells as f64 / rings.max(1) as f64).min(1.);
+    let ring = |i: usize| {
+        let z = i as f64 * long;
+        [z, z + long, 2. / 3., 1. + 1. / (i as f64 + 3.)]
+    };
     let list = |n: usize, of: &dyn Fn(usize) -> [f64; 4]| (0..n).flat_map(of).collect::<Vec<f64>>();
     let store = Store {
         rings: list(rings, &ring),
