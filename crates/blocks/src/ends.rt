@@ -9,7 +9,7 @@ use crate::bins;
 use queries::Band;
 use stock::TurnStockSpec;
 
-#[derive(Drop)]
+#[derive(Clone, Copy)]
 pub struct Ends {
     pub most: Band,
     pub least: Band,

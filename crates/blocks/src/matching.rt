@@ -9,7 +9,7 @@ use queries::Band;
 use stock::TurnStockSpec;
 
 // Whether kept numbers are those of the bins that were gone through.
-#[derive(Drop)]
+#[derive(Clone, Copy)]
 pub struct Met {
     // no bin with material has more
     pub under: bool,

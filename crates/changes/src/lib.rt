@@ -25,21 +25,21 @@ use refusals::{LAST_GENERATION, LAST_PLACE, Refusal};
 use stock::{Counted, RadiusBounds, Stamp, TurnCell, TurnChange, TurnStock, TurnStockSpec};
 
 // A list of so many changes, which are lent beside it, with the stamp of the stock that it is of.
-#[derive(Drop)]
+#[derive(Clone, Copy)]
 pub struct ChangeList {
     pub count: usize,
     pub stamp: Stamp,
 }
 
 // The changes that a call proposes.
-#[derive(Drop)]
+#[derive(Clone, Copy)]
 pub enum Previewed {
     Listed(ChangeList),
     Refused(Refusal),
 }
 
 // How many changes were written.
-#[derive(Drop)]
+#[derive(Clone, Copy)]
 pub enum Tally {
     Changes(usize),
     Refused(Refusal),
@@ -103,7 +103,7 @@ pub fn list_change(
 }
 
 // Whether changes pass.
-#[derive(Drop)]
+#[derive(Clone, Copy)]
 pub enum Passing {
     Pass,
     Refused(Refusal),
@@ -112,7 +112,7 @@ pub enum Passing {
 }
 
 // The stock after a commit.
-#[derive(Drop)]
+#[derive(Clone, Copy)]
 pub enum Applied {
     Stock(TurnStock),
     Refused(Refusal),
@@ -178,7 +178,7 @@ fn change_passes(s: TurnStockSpec, n: usize, cells: &[f64], change: TurnChange) 
 
 // How far a list of changes is decided: against n cells of a clean spec, with the last index seen,
 // if any.
-#[derive(Drop)]
+#[derive(Clone, Copy)]
 pub struct Deciding {
     s: TurnStockSpec,
     n: usize,

@@ -22,14 +22,14 @@ use streams::{GATHERED, Got, Out};
 const CHORD_NUMBERS: usize = 5 * refusals::SEGMENT_LIMIT;
 
 // A profile at the end of its input: its scan, and so many points.
-#[derive(Drop)]
+#[derive(Clone, Copy)]
 struct Read {
     scan: Scan,
     points: usize,
 }
 
 // A scan after a read, and what the read told.
-#[derive(Drop)]
+#[derive(Clone, Copy)]
 struct Turn {
     scan: Scan,
     points: usize,

@@ -10,7 +10,7 @@ ghost use Rattle.chop_lines.specs.Spelled.{micrometres, has_minus, micro_field, 
 
 use text::{LINE_ROOM, Whole, read_whole};
 
-#[derive(Drop)]
+#[derive(Clone, Copy)]
 pub enum Bulge {
     Is(f64),
     NoBulge,

@@ -18,7 +18,7 @@ pub const NUMBERS: usize = 3 * MOST;
 
 // What the first line says, how many lines were taken, and the number that refused the last of them, or
 // 0.
-#[derive(Drop)]
+#[derive(Clone, Copy)]
 pub struct Scan {
     pub side: TurnSide,
     pub rn: f64,
@@ -28,7 +28,7 @@ pub struct Scan {
 }
 
 // A scan after some bytes: so many points, and of the unfinished line so many bytes are held.
-#[derive(Drop)]
+#[derive(Clone, Copy)]
 pub struct Taken {
     pub scan: Scan,
     pub points: usize,

@@ -8,7 +8,7 @@ use crate::number::{Bulge, read_bulge};
 use job_words::{Number, read_number};
 use stock::TurnSide;
 
-#[derive(Drop)]
+#[derive(Clone, Copy)]
 pub enum Words {
     Head(TurnSide, f64, f64),
     Corner(f64, f64, f64),

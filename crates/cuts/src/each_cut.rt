@@ -14,7 +14,7 @@ use refusals::Refusal;
 use stock::{BinRange, TurnSide, TurnStockSpec};
 
 // What is swept over the bins, so that their rows are filled.
-#[derive(Drop)]
+#[derive(Clone, Copy)]
 pub enum Sweep {
     // along segments
     Nose { side: TurnSide, rn: f64 },

@@ -18,7 +18,7 @@ use refusals::Refusal;
 use stock::{TurnCell, TurnChange, TurnSide, TurnStockSpec};
 
 // Where what a cut reaches is taken from.
-#[derive(Drop)]
+#[derive(Clone, Copy)]
 pub enum Source {
     // the same low in every bin
     Thread { side: TurnSide, radius: f64 },
@@ -333,7 +333,7 @@ fn put_drill(
 }
 
 // How many changes of a drill are written, with its radius at the height that it was asked for last.
-#[derive(Drop)]
+#[derive(Clone, Copy)]
 struct Drilled {
     k: usize,
     at: f64,

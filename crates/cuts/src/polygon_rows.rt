@@ -12,7 +12,7 @@ use reach::Low;
 use stock::{BinRange, TurnSide, TurnStockSpec};
 
 // The lowest of the polygon on a line.
-#[derive(Drop)]
+#[derive(Clone, Copy)]
 struct Held {
     at: f64,
     low: Low,

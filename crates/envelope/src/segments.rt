@@ -7,14 +7,14 @@ ghost use Rattle.envelope.specs.Halving.{radius_of, aside, found_radii, extent_r
 
 use super::{Radius, Span};
 
-#[derive(Drop)]
+#[derive(Clone, Copy)]
 struct Point {
     u: f64,
     v: f64,
 }
 
 // The lowest and the highest of some radii, or none.
-#[derive(Drop)]
+#[derive(Clone, Copy)]
 pub enum Extent {
     From(f64, f64),
     Nowhere,
@@ -113,7 +113,7 @@ pub fn highest_in(points: &[f64], s: Span, u: f64) -> Radius
 
 // The radii of some segments, none where `many` is 0. That is a whole word: of a smaller one the bytes
 // beside it are copied at each turn of a loop, which takes longer than a segment does.
-#[derive(Drop)]
+#[derive(Clone, Copy)]
 struct Found {
     many: usize,
     lowest: f64,

@@ -14,7 +14,7 @@ use super::samples::{Look, offset};
 use envelope::Radius;
 
 // The tolerance, and the least and the greatest u of the polygon.
-#[derive(Drop)]
+#[derive(Clone, Copy)]
 pub struct Trial {
     pub tolerance: f64,
     pub lo: f64,

@@ -26,7 +26,7 @@ use candidates::Trial;
 use samples::Look;
 
 // How far an insert goes beyond; less than 0 is clear by so much.
-#[derive(Drop)]
+#[derive(Clone, Copy)]
 pub enum Touch {
     By(f64),
     Nothing,
@@ -34,7 +34,7 @@ pub enum Touch {
 }
 
 // The least throughout, for penetration, or the greatest, for excess.
-#[derive(Drop)]
+#[derive(Clone, Copy)]
 pub enum Which {
     Least,
     Greatest,

@@ -9,7 +9,7 @@ use super::{Which, chosen};
 use envelope::Radius;
 
 // The points' order, and the ends of a bore: the greatest and the least u. They are 0 where no bore is asked.
-#[derive(Drop)]
+#[derive(Clone, Copy)]
 pub struct Look {
     pub order: i8,
     pub front: f64,

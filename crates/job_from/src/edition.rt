@@ -3,7 +3,7 @@ use stock::{Stamp, TurnStock};
 use text::Eight;
 
 // What the third argument says: nothing, an edition, or what is none.
-#[derive(Drop)]
+#[derive(Clone, Copy)]
 pub enum Asked {
     AsRead,
     Given(u32),

@@ -17,7 +17,7 @@ mod say;
 
 // What a job begins on: a run, or a stock file that is refused with a number at a line, at 0 where the
 // number has none.
-#[derive(Drop)]
+#[derive(Clone, Copy)]
 enum Start {
     On(Run),
     Refused(u64, u64),

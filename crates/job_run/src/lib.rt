@@ -28,7 +28,7 @@ pub const RING_NUMBERS: usize = 4 * MAX_RINGS;
 pub const ANSWER_LINES: usize = MAX_CELLS + MAX_RINGS + 1;
 
 // A job, how many of its lines were taken, and the number that refused the last of them, or 0.
-#[derive(Drop)]
+#[derive(Clone, Copy)]
 pub struct Run {
     pub job: Job,
     pub lines: u64,
@@ -36,7 +36,7 @@ pub struct Run {
 }
 
 // A run after some bytes; of the unfinished line, so many are held.
-#[derive(Drop)]
+#[derive(Clone, Copy)]
 pub struct Taken {
     pub run: Run,
     pub len: usize,

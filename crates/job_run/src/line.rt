@@ -26,14 +26,14 @@ pub const INDICES: usize = MAX_CELLS;
 pub const NUMBERS: usize = 8 * MAX_CELLS;
 
 // A job between two lines. Before its bar it has no cells, and of its stock the edition alone counts.
-#[derive(Drop)]
+#[derive(Clone, Copy)]
 pub struct Job {
     pub stock: TurnStock,
     pub cells: usize,
 }
 
 // The job after a line.
-#[derive(Drop)]
+#[derive(Clone, Copy)]
 pub enum Carried {
     Onward(Job),
     Refused(Refusal),

@@ -15,7 +15,7 @@ use text::LINE_ROOM;
 
 // How the input ended: behind a whole line or none, or a line was refused before; inside a line; or by
 // a read that failed.
-#[derive(Drop)]
+#[derive(Clone, Copy)]
 pub enum End {
     Whole,
     Inside,
@@ -23,14 +23,14 @@ pub enum End {
 }
 
 // A run at the end of its input, and how that ended.
-#[derive(Drop)]
+#[derive(Clone, Copy)]
 pub struct Ended {
     pub run: Run,
     pub end: End,
 }
 
 // A run after a read, with so many bytes of the unfinished line, and what the read told.
-#[derive(Drop)]
+#[derive(Clone, Copy)]
 struct Turn {
     run: Run,
     len: usize,

@@ -19,7 +19,7 @@ pub const MAX_CELLS: usize = 512;
 // A line has so many numbers at most.
 const MOST: usize = 6;
 
-#[derive(Drop)]
+#[derive(Clone, Copy)]
 pub enum Line {
     Bar(TurnStockSpec),
     Cutting(Cut),

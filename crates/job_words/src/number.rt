@@ -7,7 +7,7 @@ ghost use Rattle.job_words.specs.Number.{millimetres, field_number};
 
 use text::{Whole, read_whole};
 
-#[derive(Drop)]
+#[derive(Clone, Copy)]
 pub enum Number {
     Mm(f64),
     NoNumber,

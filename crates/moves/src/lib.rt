@@ -21,7 +21,7 @@ use rings::{Counts, Judged, StoredAs};
 use stock::{Counted, Stamp, TurnStock, TurnStockSpec};
 
 // The stock after a move.
-#[derive(Drop)]
+#[derive(Clone, Copy)]
 pub enum Moved {
     Stock(TurnStock),
     Refused(Refusal),
@@ -30,7 +30,7 @@ pub enum Moved {
 }
 
 // A stock from its parts.
-#[derive(Drop)]
+#[derive(Clone, Copy)]
 pub enum Rebuilt {
     Stock(TurnStock),
     Refused(Refusal),

@@ -35,14 +35,14 @@ pub const NEARLY: f64 = 0.999999;
 // Five numbers a segment are lent: the radius and z of a, those of b, and the sag.
 const SEGMENT_NUMBERS: usize = 5;
 
-#[derive(Drop)]
+#[derive(Clone, Copy)]
 pub struct Point {
     pub r: f64,
     pub z: f64,
 }
 
 // A move of the nose's centre from a to b, which strays by no more than sag from the line.
-#[derive(Drop)]
+#[derive(Clone, Copy)]
 pub struct Segment {
     pub a: Point,
     pub b: Point,
@@ -155,7 +155,7 @@ fn shifted(p: Point, rn: f64, n: Point) -> Point
 }
 
 // Whether a segment has a normal, and which.
-#[derive(Drop)]
+#[derive(Clone, Copy)]
 struct Normal {
     long: bool,
     n: Point,
@@ -193,7 +193,7 @@ fn normal_of(a: Point, b: Point) -> Normal
 
 // What of a capsule of one radius no line changes: the radius and its square, the straight side
 // from p on, by how much it goes on, and its lesser end.
-#[derive(Drop)]
+#[derive(Clone, Copy)]
 pub struct Capsule {
     pub a: Point,
     pub b: Point,
@@ -340,7 +340,7 @@ fn capsule_lowest(a: Point, b: Point, rn: f64) -> Point
 // What of a segment no bin changes: the grown and the shrunk capsule, whether the second need not
 // be looked at or is the first (same), whether the sag is more than the nose (shy), the grown
 // capsule's lowest point, and the z from which and to which it reaches.
-#[derive(Drop)]
+#[derive(Clone, Copy)]
 pub struct Track {
     pub grown: Capsule,
     pub shrunk: Capsule,
@@ -378,7 +378,7 @@ pub fn track_of(s: Segment, rn: f64) -> Track
 }
 
 // The least radius of the grown and of the shrunk capsule on one line.
-#[derive(Drop)]
+#[derive(Clone, Copy)]
 pub struct Sample {
     pub grown: Low,
     pub shrunk: Low,

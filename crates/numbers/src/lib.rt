@@ -16,14 +16,14 @@ ghost use Rattle.numbers.specs.Whole.{whole_part, whole_up, whole_paper};
 use refusals::Refusal;
 
 // A root or a length.
-#[derive(Drop)]
+#[derive(Clone, Copy)]
 pub enum Rooted {
     Root(f64),
     Refused(Refusal),
 }
 
 // A whole number within a limit.
-#[derive(Drop)]
+#[derive(Clone, Copy)]
 pub enum Whole {
     Of(u64),
     Over,

@@ -31,7 +31,7 @@ const MANY_CELLS: usize = 4096;
 const MANY_NUMBERS: usize = 32768;
 
 // What a check finds.
-#[derive(Drop)]
+#[derive(Clone, Copy)]
 pub enum Checked {
     // the stock afterwards
     Yes(TurnStock),

@@ -14,7 +14,7 @@ use refusals::Refusal;
 use stock::{Counted, TurnStockSpec};
 
 // A level pass: the nose's radius, the radius of its centre, and from which z to which.
-#[derive(Drop)]
+#[derive(Clone, Copy)]
 pub struct Level {
     pub rn: f64,
     pub r: f64,
@@ -23,7 +23,7 @@ pub struct Level {
 }
 
 // The passes that were written.
-#[derive(Drop)]
+#[derive(Clone, Copy)]
 pub enum Proposal {
     Passes(usize),
     Refused(Refusal),

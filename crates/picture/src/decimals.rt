@@ -13,7 +13,7 @@ fn units(x: f64) -> u64
 }
 
 // How many digits, and of which number.
-#[derive(Drop)]
+#[derive(Clone, Copy)]
 struct Tail {
     places: usize,
     of: u64,

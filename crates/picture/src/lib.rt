@@ -21,7 +21,7 @@ use stock::{TurnCell, TurnSide, TurnStockSpec, ZRange};
 use text::LINE_ROOM;
 
 // What is looked for in a bin.
-#[derive(Drop)]
+#[derive(Clone, Copy)]
 pub enum Look {
     // certainly metal
     Metal,
@@ -34,14 +34,14 @@ pub enum Look {
 }
 
 // Neighbours, from one bin to before another.
-#[derive(Drop)]
+#[derive(Clone, Copy)]
 pub struct Stretch {
     pub from: usize,
     pub to: usize,
 }
 
 // A step of a contour: so many bytes hold it, and the next begins at so many bins.
-#[derive(Drop)]
+#[derive(Clone, Copy)]
 pub struct Step {
     pub len: usize,
     pub next: usize,

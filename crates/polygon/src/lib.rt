@@ -15,14 +15,14 @@ use refusals::POINT_LIMIT;
 use stock::{BinRange, TurnSide, TurnStockSpec, ZRange};
 
 // The least and the greatest z of the points.
-#[derive(Drop)]
+#[derive(Clone, Copy)]
 pub enum Extent {
     Over(f64, f64),
     Nothing,
 }
 
 // A point, its radius negated for the inside.
-#[derive(Drop)]
+#[derive(Clone, Copy)]
 struct Point {
     z: f64,
     r: f64,

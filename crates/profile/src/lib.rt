@@ -28,21 +28,21 @@ const HALVINGS: u32 = 10;
 // Neighbours are further apart.
 const APART: f64 = 1e-9;
 
-#[derive(Drop)]
+#[derive(Clone, Copy)]
 pub struct Point {
     pub r: f64,
     pub z: f64,
 }
 
 // The place behind the chords that were put, or there is no room or no end of halving.
-#[derive(Drop)]
+#[derive(Clone, Copy)]
 pub enum Placed {
     To(usize),
     Over,
 }
 
 // How many chords, or the refusal.
-#[derive(Drop)]
+#[derive(Clone, Copy)]
 pub enum Chopped {
     Chords(usize),
     Refused(Refusal),

@@ -23,28 +23,28 @@ use stock::{Counted, TurnCell, TurnStockSpec, ZRange};
 const PI: f64 = 3.141592653589793;
 
 // Material from one radius to another.
-#[derive(Drop)]
+#[derive(Clone, Copy)]
 pub struct Band {
     pub bore: f64,
     pub outer: f64,
 }
 
 // The bins that are looked at for a height, from the first to the last.
-#[derive(Drop)]
+#[derive(Clone, Copy)]
 pub struct BinSpan {
     pub first: usize,
     pub last: usize,
 }
 
 // The least and the greatest volume that remains.
-#[derive(Drop)]
+#[derive(Clone, Copy)]
 pub struct Volumes {
     pub least: f64,
     pub greatest: f64,
 }
 
 // What may remain at a height: from the bore to the outer radius.
-#[derive(Drop)]
+#[derive(Clone, Copy)]
 pub enum Seen {
     Radii(f64, f64),
     Nothing,
@@ -52,7 +52,7 @@ pub enum Seen {
 }
 
 // The least and the greatest volume.
-#[derive(Drop)]
+#[derive(Clone, Copy)]
 pub enum Measured {
     Between(f64, f64),
     Refused(Refusal),

@@ -12,21 +12,21 @@ ghost use Rattle.reach.specs.Reach.{deeper, shallower, deep_of, sure_of, limit_o
 use stock::{RadiusBounds, TurnCell, TurnSide};
 
 // A radius, or none.
-#[derive(Drop)]
+#[derive(Clone, Copy)]
 pub enum Low {
     At(f64),
     Nowhere,
 }
 
 // The lowest radius over a bin and the highest, where there is one.
-#[derive(Drop)]
+#[derive(Clone, Copy)]
 pub struct Swept {
     pub low: Low,
     pub high: Low,
 }
 
 // What a cut reaches in a bin, before floor or ceiling: nothing, a low, or a low and a high.
-#[derive(Drop)]
+#[derive(Clone, Copy)]
 pub enum Reach {
     Passed,
     Low(f64),

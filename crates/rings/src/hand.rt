@@ -11,7 +11,7 @@ use crate::{Ring, lent, shape};
 const TEST_LIMIT: usize = 65536;
 
 // The pieces left in hand, and how many tests of a piece against a ring were made.
-#[derive(Drop)]
+#[derive(Clone, Copy)]
 pub struct Cut {
     pub left: usize,
     pub tests: usize,

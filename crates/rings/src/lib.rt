@@ -25,7 +25,7 @@ mod store;
 mod swept;
 
 // z0 <= z < z1, r0 <= r < r1.
-#[derive(Drop)]
+#[derive(Clone, Copy)]
 pub struct Ring {
     pub z0: f64,
     pub z1: f64,
@@ -34,7 +34,7 @@ pub struct Ring {
 }
 
 // Rings taken: the count of rings and the generation afterwards.
-#[derive(Drop)]
+#[derive(Clone, Copy)]
 pub enum Counts {
     Stored(usize, u64),
     Refused(Refusal),
@@ -43,7 +43,7 @@ pub enum Counts {
 }
 
 // One ring taken: the stock afterwards, and the tests of a piece against a stored ring that it took.
-#[derive(Drop)]
+#[derive(Clone, Copy)]
 pub enum Removed {
     Stock(TurnStock, usize),
     Refused(Refusal),
@@ -52,7 +52,7 @@ pub enum Removed {
 }
 
 // One ring taken: the count of rings and the generation afterwards, and the tests that it took.
-#[derive(Drop)]
+#[derive(Clone, Copy)]
 enum Took {
     Stored(usize, u64, usize),
     Refused(Refusal),
@@ -61,14 +61,14 @@ enum Took {
 }
 
 // A clipped ring stored: how many rings there are then, and the tests that it took.
-#[derive(Drop)]
+#[derive(Clone, Copy)]
 enum Added {
     Rings(usize, usize),
     Refused(Refusal),
 }
 
 // Rings stored: how many there are then.
-#[derive(Drop)]
+#[derive(Clone, Copy)]
 pub enum StoredAs {
     Rings(usize),
     Refused(Refusal),
@@ -77,14 +77,14 @@ pub enum StoredAs {
 }
 
 // Whether the rings of a list are good, or the place of the first that is not.
-#[derive(Drop)]
+#[derive(Clone, Copy)]
 pub enum Judged {
     Good,
     Bad(usize),
 }
 
 // What rings leave of one: so many pieces.
-#[derive(Drop)]
+#[derive(Clone, Copy)]
 pub enum Left {
     Pieces(usize),
     Refused(Refusal),

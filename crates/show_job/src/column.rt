@@ -11,7 +11,7 @@ use text::{put_millimetres, put_text};
 const COLUMNS: usize = 6;
 
 // How far a number reaches before its point, and from it on.
-#[derive(Drop)]
+#[derive(Clone, Copy)]
 struct Extent {
     before: usize,
     after: usize,

@@ -24,7 +24,7 @@ pub use spelled::CHUNK_ROOM;
 use stock::TurnStockSpec;
 
 // How many chunks the text of two stocks has.
-#[derive(Drop)]
+#[derive(Clone, Copy)]
 pub enum Compared {
     Chunks(usize),
     Refused(Refusal),

@@ -17,7 +17,7 @@ ghost use Rattle.stock.specs.Stock.{same_stamp, new_stock, stock_with, Filled};
 use refusals::{CELL_LIMIT, Refusal};
 
 // Version 1 and millimetres are understood.
-#[derive(Drop)]
+#[derive(Clone, Copy)]
 pub struct TurnStockSpec {
     pub z_min_mm: f64,
     pub z_max_mm: f64,
@@ -29,20 +29,20 @@ pub struct TurnStockSpec {
     pub max_cells: usize,
 }
 
-#[derive(Drop)]
+#[derive(Clone, Copy)]
 pub struct RadiusBounds {
     pub lower_mm: f64,
     pub upper_mm: f64,
 }
 
-#[derive(Drop)]
+#[derive(Clone, Copy)]
 pub struct TurnCell {
     pub outer: RadiusBounds,
     pub inner: RadiusBounds,
 }
 
 // What a cut makes of one bin's cell.
-#[derive(Drop)]
+#[derive(Clone, Copy)]
 pub struct TurnChange {
     pub index: usize,
     pub before: TurnCell,
@@ -50,35 +50,35 @@ pub struct TurnChange {
 }
 
 // Which surface a tool cuts.
-#[derive(Drop)]
+#[derive(Clone, Copy)]
 pub enum TurnSide {
     Outer,
     Inner,
 }
 
 // The z range of a bin.
-#[derive(Drop)]
+#[derive(Clone, Copy)]
 pub struct ZRange {
     pub za: f64,
     pub zb: f64,
 }
 
 // The bins from one index to before another.
-#[derive(Drop)]
+#[derive(Clone, Copy)]
 pub struct BinRange {
     pub from: usize,
     pub to: usize,
 }
 
 // Which edition of a wheel a stock is of, its caller's own number, and how often it was changed.
-#[derive(Drop)]
+#[derive(Clone, Copy)]
 pub struct Stamp {
     pub edition: u32,
     pub generation: u64,
 }
 
 // A stock: its cells and its rings are lent beside it, and of the rings so many are stored.
-#[derive(Drop)]
+#[derive(Clone, Copy)]
 pub struct TurnStock {
     pub spec: TurnStockSpec,
     pub stamp: Stamp,
@@ -86,20 +86,20 @@ pub struct TurnStock {
 }
 
 // How many cells a stock has.
-#[derive(Drop)]
+#[derive(Clone, Copy)]
 pub enum Counted {
     Cells(usize),
     Refused(Refusal),
 }
 
-#[derive(Drop)]
+#[derive(Clone, Copy)]
 pub enum Binned {
     At(ZRange),
     Refused(Refusal),
 }
 
 // A new stock.
-#[derive(Drop)]
+#[derive(Clone, Copy)]
 pub enum Made {
     Stock(TurnStock),
     Refused(Refusal),

@@ -22,14 +22,14 @@ pub use written::{Lines, Spelled, file_line, line_count};
 const LONGEST: usize = LINE_ROOM - 1;
 
 // A reading after some bytes; of the unfinished line, so many are held.
-#[derive(Drop)]
+#[derive(Clone, Copy)]
 pub struct Taken {
     pub reading: Reading,
     pub len: usize,
 }
 
 // A reading after the bytes before a place; of the unfinished line, so many are held.
-#[derive(Drop)]
+#[derive(Clone, Copy)]
 struct Run {
     reading: Reading,
     len: usize,
@@ -38,7 +38,7 @@ struct Run {
 
 // What a file told: a stock at generation 0, and how many cells it has, which stand first in the lent
 // room, as its rings do; or that it is refused, with 16 at a line.
-#[derive(Drop)]
+#[derive(Clone, Copy)]
 pub enum Kept {
     Stock(TurnStock, usize),
     Refused(Refusal),

@@ -11,14 +11,14 @@ use stock_lines::Bar;
 use text::LINE_ROOM;
 
 // How many lines a file has, `end` too.
-#[derive(Drop)]
+#[derive(Clone, Copy)]
 pub enum Lines {
     Count(usize),
     Refused(Refusal),
 }
 
 // How many bytes a line has, its newline too; 0 behind the last.
-#[derive(Drop)]
+#[derive(Clone, Copy)]
 pub enum Spelled {
     Bytes(usize),
     Refused(Refusal),

@@ -10,7 +10,7 @@ use text::{Eight, Hex, LINE_ROOM};
 
 // What a form fixes: the digits of a cell's index, how many cell lines there are at least and at most,
 // and whether the first line has an edition.
-#[derive(Drop)]
+#[derive(Clone, Copy)]
 pub struct Form {
     pub digits: usize,
     pub least: usize,
@@ -62,21 +62,21 @@ pub fn written_form(n: usize) -> u64
 }
 
 // The numbers of a cell or of a ring.
-#[derive(Drop)]
+#[derive(Clone, Copy)]
 pub enum Four {
     Numbers(f64, f64, f64, f64),
     NoFour,
 }
 
 // The numbers of a bar: z_min, z_max, outer, bore, cell.
-#[derive(Drop)]
+#[derive(Clone, Copy)]
 pub enum Five {
     Spec(f64, f64, f64, f64, f64),
     NoFive,
 }
 
 // What a first line says: its form, its edition and its bar.
-#[derive(Drop)]
+#[derive(Clone, Copy)]
 pub enum First {
     Says(u64, u32, Bar),
     NoFirst,

@@ -21,7 +21,7 @@ use room::Took;
 use text::LINE_ROOM;
 
 // The numbers of a stock's spec that a file keeps, in the order of a job's `bar`.
-#[derive(Drop)]
+#[derive(Clone, Copy)]
 pub struct Bar {
     pub z_min_mm: f64,
     pub z_max_mm: f64,
@@ -33,7 +33,7 @@ pub struct Bar {
 // A file read so far: what its next line may be, its form, its edition and its bar, how many of its lines
 // were cells' and how many rings', counted to 257, how many there were in all, and whether the last of
 // them was refused.
-#[derive(Drop)]
+#[derive(Clone, Copy)]
 pub struct Reading {
     // 0 before the first line, 1 behind it, and any other number behind `end`
     pub stage: u64,

@@ -8,7 +8,7 @@ use crate::form::Four;
 use refusals::RING_LIMIT;
 
 // What a line behind the first was.
-#[derive(Drop)]
+#[derive(Clone, Copy)]
 pub enum Took {
     Cell,
     Ring,

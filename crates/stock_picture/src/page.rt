@@ -7,7 +7,7 @@ use stock::{TurnStock, TurnStockSpec};
 use streams::{GATHERED, Out};
 
 // A bar on paper: how much a millimetre along z and one of radius are there, and how wide and high it is.
-#[derive(Drop)]
+#[derive(Clone, Copy)]
 pub struct Frame {
     pub spec: TurnStockSpec,
     pub along: f64,

@@ -16,7 +16,7 @@ use streams::{GATHERED, Got, Out};
 use text::LINE_ROOM;
 
 // A reading after a read, with so many bytes of the unfinished line, and what the read told.
-#[derive(Drop)]
+#[derive(Clone, Copy)]
 struct Turn {
     reading: Reading,
     len: usize,

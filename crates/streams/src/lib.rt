@@ -13,7 +13,7 @@ ghost use Rattle.streams.specs.Moves.{Reads, Takes, SameFront, Puts};
 mod rest;
 
 // What a read brings: so many bytes at the front of the buffer, the end of the input, or a failure.
-#[derive(Drop)]
+#[derive(Clone, Copy)]
 pub enum Got {
     Bytes(usize),
     End,
@@ -22,7 +22,7 @@ pub enum Got {
 
 // What is gathered: so many bytes, and whether a write has failed, after which
 // nothing is written any more.
-#[derive(Drop)]
+#[derive(Clone, Copy)]
 pub struct Out {
     pub len: usize,
     pub failed: bool,
@@ -71,7 +71,7 @@ pub fn read_some(fd: i32, buf: &mut [u8]) -> Got
 // ---- writing
 
 // What a write did: it took so many bytes, is to be made again, or failed.
-#[derive(Drop)]
+#[derive(Clone, Copy)]
 enum Took {
     Bytes(usize),
     Nothing,

@@ -23,7 +23,7 @@ const BAR_LONG: usize = 92;
 
 // What a file is made of: a first line of a form, with an edition or without, for a bar of so many bins;
 // so many cell lines, of four digits or of five; so many ring lines; and its end, or none.
-#[derive(Drop)]
+#[derive(Clone, Copy)]
 struct Long {
     form: u64,
     edition: bool,

@@ -106,7 +106,7 @@ fn say_read(bytes: &[u8], most: usize, cell_room: usize, ring_room: usize) {
 }
 
 // What a read tells, and the sum of that and of what it leaves.
-#[derive(Drop)]
+#[derive(Clone, Copy)]
 struct Summed {
     kept: Kept,
     sum: u64,

@@ -4,7 +4,7 @@ use crate::words;
 use crate::words::LIMIT;
 
 // What a call returned, and the sizes and numbers that it wrote.
-#[derive(Drop)]
+#[derive(Clone, Copy)]
 pub struct Said {
     pub code: u32,
     pub sizes: u64,
@@ -16,7 +16,7 @@ pub struct Said {
 }
 
 // What a call that lists changes told of the list.
-#[derive(Drop)]
+#[derive(Clone, Copy)]
 pub struct Told {
     pub count: u64,
     pub edition: u64,
@@ -24,7 +24,7 @@ pub struct Told {
 }
 
 // How far a line was held to what was said, and whether it says the same.
-#[derive(Drop)]
+#[derive(Clone, Copy)]
 pub struct Mark {
     pub at: usize,
     pub ok: bool,

@@ -25,7 +25,7 @@ pub const TO_CHANGES: u64 = 5;
 // in the room; of cells and kept numbers that are only lent there is the length alone. Passes stand in
 // the same order: targets in the place of rings, kinds in that of a size, their numbers, their parts in
 // the place of changes, their lists in that of points.
-#[derive(Drop)]
+#[derive(Clone, Copy)]
 pub struct Places {
     pub cells: usize,
     pub blocks: usize,
@@ -93,7 +93,7 @@ pub fn places_of(words: &[u64; LIMIT], kind: usize) -> Places {
 }
 
 // The sizes and numbers of a call, anything where it has none.
-#[derive(Drop)]
+#[derive(Clone, Copy)]
 pub struct Given {
     pub z_min: f64,
     pub z_max: f64,

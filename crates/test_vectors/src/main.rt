@@ -61,7 +61,7 @@ fn take_part(
 }
 
 // After a read: how far the unfinished line is read, and whether there may be more.
-#[derive(Drop)]
+#[derive(Clone, Copy)]
 struct Turn {
     at: Reading,
     more: bool,

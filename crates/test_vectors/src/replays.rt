@@ -157,7 +157,7 @@ fn changed(words: &[u64; LIMIT], kind: usize, p: Places, g: Given) -> Mark {
 }
 
 // What a check of passes told, and what stands in the place of each before.
-#[derive(Drop)]
+#[derive(Clone, Copy)]
 struct Passing {
     verdict: u32,
     place: usize,

@@ -13,7 +13,7 @@ const STAR: u8 = 42;
 const DIGITS: u64 = 16;
 
 // Word k as far as it was read, and where it says a repeat, how many places back that goes.
-#[derive(Drop)]
+#[derive(Clone, Copy)]
 pub struct Reading {
     pub k: usize,
     hex: u64,

@@ -19,7 +19,7 @@ pub use digits::{
 pub use plain::{front, put_count, put_millimetres, put_text};
 pub use sixteen::{Eight, Hex, float, read_eight, read_hex};
 
-#[derive(Drop)]
+#[derive(Clone, Copy)]
 pub enum Whole {
     Of(u64),
     No,

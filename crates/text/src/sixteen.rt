@@ -9,14 +9,14 @@ ghost use Rattle.text.specs.Hex.{nibble_of, number_at, hex_at, field_of, eight_o
 use crate::Whole;
 
 // What 16 digits say.
-#[derive(Drop)]
+#[derive(Clone, Copy)]
 pub enum Hex {
     Of(f64),
     NoHex,
 }
 
 // What 8 digits say.
-#[derive(Drop)]
+#[derive(Clone, Copy)]
 pub enum Eight {
     Of(u32),
     NoEight,
