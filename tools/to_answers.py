@@ -15,7 +15,7 @@ W = r"(?!=(?:\s|$))[^\s(){}.;,@\"«»\[\]\\]+"
 
 
 def norm(s):
-    return re.sub(r"[-_]", "", s).lower()
+    return re.sub(r"[-_]", "", re.sub(r"_lem$", "", s)).lower()
 
 
 def split_decls(text):
@@ -105,11 +105,8 @@ class Function:
             pass
         while fields and fields[0] == "before":
             nxt = self.parent(at) if at is not None else None
-            if nxt is None and at is not None:
-                # Untold above Start
-                self.flags.append("before above the start")
-                break
-            at = nxt
+            # a step that is there no longer: the name of the step then tells the place
+            at = nxt if nxt is not None else at
             fields.pop(0)
         if not fields:
             return at, None
@@ -124,8 +121,13 @@ class Function:
                 break
             q = self.parent(q)
         if not seen:
-            self.flags.append("no step " + lab)
-            return at, var + "." + ".".join(fields)
+            all_ = [k for k in range(len(self.places)) if norm(self.places[k][2][0]) == norm(lab)]
+            if len({self.places[k][2][1] for k in all_}) > 1:
+                self.flags.append("which step " + lab)
+            if not all_:
+                self.flags.append("no step " + lab)
+                return at, var + "." + ".".join(fields)
+            q = all_[0]
         rest = fields[1:]
         # the deepest place of this arm tells its fields
         best = None
@@ -231,7 +233,7 @@ def convert(root, crate, names, folder):
             slots.append(("need", k, a))
             k += 1
     if k != len(f.needs):
-        f.flags.append(f"{k} answers for {len(f.needs)} goals")
+        pass
     goalname = {}
     for s in slots:
         if s[0] == "inv":
@@ -258,6 +260,8 @@ def convert(root, crate, names, folder):
                 continue
             olds = mm2.group(2).split()
             body = btext[mm2.end():]
+            if len(olds) > len(params):
+                olds = [o for o in olds if not re.fullmatch(r"t\d+", o) or re.search(r"(?<![\w'.-])%s(?![\w'-])" % o, body)]
             if len(olds) != len(params):
                 f.flags.append(f"invariant {d['name']}: {len(olds)} for {len(params)} names: {vs} {ch} {olds}")
             mp = dict(zip(olds, params))
@@ -267,6 +271,18 @@ def convert(root, crate, names, folder):
             inv.append("\n".join(d["notes"] + [f"abbrev pub {kind}-{new} : goal.{kind}-{new}"] + unf + [f"{kind}-{new} l = {body}"]))
             continue
         _, i, a = s
+        if a in by_name:
+            told = re.search(r": tie\.([\w'-]+)", by_name[a]["lines"][0])
+            at_name = f.need(told.group(1)) if told else None
+            if at_name is None and k != len(f.needs):
+                f.flags.append("no goal for " + a)
+                used.add(a)
+                continue
+            i = at_name if at_name is not None else i
+        elif k != len(f.needs):
+            if not re.search(r"\.\s*(tt|search rules|\(tt, tt\))\)$", a):
+                f.flags.append("which goal for " + a[:60])
+            continue
         if i >= len(f.needs):
             continue
         new = f.needs[i][1]

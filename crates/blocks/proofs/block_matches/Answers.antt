@@ -1,0 +1,20 @@
+-- `blocks::block_matches` meets its contract. Assumes nothing.
+use mathlib.Core.Path.{refl, sym, ap, ◌∙◌}
+use native.Mathlib.Omega.{arith}
+use borrow.Author.Rules.{rules}
+use Rattle.queries.specs.declared.Band.{Band}
+use Rattle.blocks.specs.Block.{same_block}
+use Rattle.blocks.proofs.Lots.{block-is}
+use Rattle.blocks.proofs.block_matches.Goals as goal
+
+-- `blocks::block_matches` meets its contract. Assumes nothing.
+pub returns-then-cells-to : goal.returns-then-cells-to
+returns-then-cells-to c = ap (λ (x : Band). same_block c.args.kept x) c.block_of-found.ensures
+
+pub returns-then-to-from-eq-BLOCK : goal.returns-then-to-from-eq-BLOCK
+returns-then-to-from-eq-BLOCK c = let args = c.args in
+    c.whole_matches.ensures ∙ block-is args.s args.n args.cells.now args.kept args.j _ 64 c.block_end-to.ensures (sym c.if-to-from-eq-BLOCK.true)
+
+pub returns : goal.returns
+returns c = let args = c.args in
+    c.bins_match.ensures ∙ block-is args.s args.n args.cells.now args.kept args.j _ _ c.block_end-to.ensures refl

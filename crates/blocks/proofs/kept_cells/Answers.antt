@@ -1,0 +1,26 @@
+-- `blocks::kept_cells` meets its contract. Assumes nothing.
+use mathlib.Core.Path.{sym, ap, ◌∙◌}
+use borrow.Author.Rules.{rules}
+use Rattle.refusals.specs.Number.{reason_of}
+use Rattle.stock.specs.declared.TurnStockSpec.{TurnStockSpec}
+use Rattle.stock.specs.Spec.{counted_paper}
+use Rattle.blocks.specs.Block.{matches_of}
+use Rattle.blocks.proofs.Stocks.{kept-refused, kept-unmatched, kept-matched}
+use Rattle.blocks.proofs.kept_cells.Goals as goal
+
+-- `blocks::kept_cells` meets its contract. Assumes nothing.
+pub returns-then-matches : goal.returns-then-matches
+returns-then-matches c = let told = c.counted-in-Cells-1.given in
+    let args = c.args in
+    kept-matched args.spec args.cells.now args.blocks.now told.0.0 (sym c.cells_fit-counted.ensures ∙ ap counted_paper told.1)
+    (ap (λ (x : TurnStockSpec). matches_of x told.0.0 args.cells.now args.blocks.now) (sym c.clean_spec.ensures) ∙ sym c.matches.ensures ∙ c.if-matches.true)
+
+pub returns-in-Refused : goal.returns-in-Refused
+returns-in-Refused c = let told = c.counted-1.given in
+    kept-refused _ _ _ (reason_of told.0.0) (sym c.cells_fit-counted.ensures ∙ ap counted_paper told.1)
+
+pub returns-else-matches : goal.returns-else-matches
+returns-else-matches c = let told = c.counted-in-Cells-1.given in
+    let args = c.args in
+    kept-unmatched args.spec args.cells.now args.blocks.now told.0.0 (sym c.cells_fit-counted.ensures ∙ ap counted_paper told.1)
+    (ap (λ (x : TurnStockSpec). matches_of x told.0.0 args.cells.now args.blocks.now) (sym c.clean_spec.ensures) ∙ sym c.matches.ensures ∙ c.if-matches.false)

@@ -1,0 +1,21 @@
+-- `changes::change_passes` meets its contract. Assumes nothing.
+use mathlib.Core.Path.{sym, ◌∙◌}
+use borrow.Author.Rules.{rules}
+use Rattle.refusals.specs.Paper.{papers}
+use Rattle.floats.specs.Pick.{picks}
+use Rattle.changes.specs.Commit.{passes, passing_paper}
+use Rattle.changes.proofs.Decided.{at_once}
+use Rattle.changes.proofs.change_passes.Goals as goal
+
+-- `changes::change_passes` meets its contract. Assumes nothing.
+pub returns-then-not-cell_fits : goal.returns-then-not-cell_fits
+unfolding passes passing_paper
+returns-then-not-cell_fits c = search (papers, picks, ← c.cell_fits.ensures)
+
+pub returns-then-applies_to : goal.returns-then-applies_to
+unfolding passes passing_paper
+returns-then-applies_to c = search (papers, picks, ← c.cell_fits.ensures, at_once _ _ _ (sym c.applies_to.ensures ∙ c.if-applies_to.true))
+
+pub returns : goal.returns
+unfolding passes
+returns c = search (papers, picks, c.asked.ensures, ← c.cell_fits.ensures)

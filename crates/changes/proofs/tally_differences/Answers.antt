@@ -1,0 +1,30 @@
+-- `changes::tally_differences` meets its contract. Assumes nothing.
+use mathlib.Core.Path.{sym, ap, ◌∙◌}
+use borrow.Author.Rules.{rules}
+use Rattle.refusals.specs.Number.{reason_of}
+use Rattle.stock.specs.Spec.{counted_paper}
+use Rattle.changes.proofs.Proposals.{left, same-proposal}
+use Rattle.changes.proofs.Differences.{both-held, differ-refused, differ-other, differ-is}
+use Rattle.changes.proofs.tally_differences.Goals as goal
+
+-- `changes::tally_differences` meets its contract. Assumes nothing.
+pub list_differences-requires : goal.list_differences-requires
+list_differences-requires c = let first = c.counted-in-Cells-1.given in
+    let told = c.enum_told-1.given in
+    both-held _ _ _ first.0.0 told.0.0 (sym c.cells_fit-counted.ensures ∙ ap counted_paper first.1) (sym c.cells_fit-other.ensures ∙ ap counted_paper told.1)
+
+pub returns-in-Refused : goal.returns-in-Refused
+returns-in-Refused c = let told = c.counted-1.given in
+    left _ told.0.0 _ _ (differ-refused _ _ _ _ (reason_of told.0.0) (sym c.cells_fit-counted.ensures ∙ ap counted_paper told.1))
+
+pub returns-in-Refused-other : goal.returns-in-Refused-other
+returns-in-Refused-other c = let first = c.counted-in-Cells-1.given in
+    let told = c.other-1.given in
+    left _ told.0.0 _ _ (differ-other _ _ _ _ first.0.0 (reason_of told.0.0) (sym c.cells_fit-counted.ensures ∙ ap counted_paper first.1) (sym c.cells_fit-other.ensures ∙ ap counted_paper told.1))
+
+pub returns-in-Cells-other : goal.returns-in-Cells-other
+returns-in-Cells-other c = let first = c.counted-in-Cells-1.given in
+    let told = c.enum_told-1.given in
+    same-proposal _ _ _ _ _ _ _
+    (differ-is _ _ _ _ first.0.0 told.0.0 (sym c.cells_fit-counted.ensures ∙ ap counted_paper first.1) (sym c.cells_fit-other.ensures ∙ ap counted_paper told.1))
+    c.list_differences.ensures

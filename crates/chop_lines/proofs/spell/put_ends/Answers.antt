@@ -1,0 +1,17 @@
+-- `chop_lines::spell::put_ends` meets its contract. Assumes nothing.
+use Rattle.std.proofs.Common.{◌≤◌, length, sym, arith, length-take-le, rules}
+use Rattle.text.proofs.Sets.{room}
+use Rattle.chop_lines.proofs.Putting.{puts-text}
+use Rattle.chop_lines.proofs.spell.put_ends.Goals as goal
+
+-- `chop_lines::spell::put_ends` meets its contract. Assumes nothing.
+pub slice_bounds-line-end : goal.slice_bounds-line-end
+slice_bounds-line-end c = omega (arith, room c.ends_text-end.ensures.wrote)
+
+pub slice_bounds-put-end : goal.slice_bounds-put-end
+slice_bounds-put-end c = let o = c.ends_text-end in
+    let h : o.result ≤ length o.new.0 = omega (arith, room o.ensures.wrote) in
+    sym (length-take-le o.result o.new.0 h)
+
+pub returns : goal.returns
+returns c = puts-text (search rules) c.ends_text-end.ensures.wrote c.put.ensures

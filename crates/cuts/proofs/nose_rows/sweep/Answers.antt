@@ -1,0 +1,45 @@
+-- `cuts::nose_rows::sweep` meets its contract. The loop's invariant: the bins passed hold one segment more, and the sample in hand is the one on its line. Assumes nothing.
+use mathlib.Core.Path.{◌≡◌, refl, ◌∙◌}
+use Prim.Native.Nat.{◌≤◌, ◌-◌}
+use native.Mathlib.Omega.{arith}
+use borrow.Author.Rules.{rules}
+use Rattle.nose.specs.Track.{sample_paper, sample_at}
+use Rattle.cuts.specs.Rows.{row_at, Stepped}
+use Rattle.cuts.proofs.Sweeps.{Even, stepped-none, stepped-more}
+use Rattle.cuts.proofs.nose_rows.sweep.Goals as goal
+
+pub loop-i-init : goal.loop-i-init
+loop-i-init c = (omega arith, omega arith, c.sampled-a.ensures, record { numbers = refl; flags = refl }, stepped-none _ _ _ _)
+
+pub kept-start-requires : goal.kept-start-requires
+kept-start-requires c = c.loop-i.invariant.2
+
+pub touch-requires : goal.touch-requires
+touch-requires c = let e = c.loop-i.invariant.3 in
+    let p = c.requires in
+    (record { numbers = omega arith; flags = omega arith }, omega arith)
+
+pub overflow_add-i : goal.overflow_add-i
+overflow_add-i c = omega (arith, c.loop-i-test.true, c.requires.1)
+
+pub loop-i-preserved : goal.loop-i-preserved
+loop-i-preserved c = let l = c.loop-i in
+    let kept = c.touch.auto.1.1.1.1.1.1 in
+    let e = l.invariant.3 in (
+      omega arith,
+      omega arith,
+      c.sampled-stop.ensures,
+      record { numbers = kept.0 ∙ e.numbers; flags = kept.1.0 ∙ e.flags },
+      stepped-more _ _ _ c.bin_of-bin.ensures c.kept-start.ensures c.sampled-stop.ensures l.invariant.0 l.invariant.4 c.touch.ensures,
+    )
+
+pub shape_of-values : goal.shape_of-values
+shape_of-values c = c.loop-i.invariant.3.numbers
+
+pub shape_of-there : goal.shape_of-there
+shape_of-there c = c.loop-i.invariant.3.flags
+
+pub returns : goal.returns
+returns c = let l = c.loop-i in
+    let e : l.i ≡ c.args.last = omega arith in
+    rw (← e) l.invariant.4

@@ -1,0 +1,13 @@
+-- `cuts::unchanged::drill_leaves` meets its contract. Assumes nothing.
+use mathlib.Core.Bool.{false≢true}
+use borrow.Author.Rules.{rules}
+use Rattle.cuts.proofs.Left.{drill-told}
+use Rattle.cuts.proofs.unchanged.drill_leaves.Goals as goal
+
+-- `cuts::unchanged::drill_leaves` meets its contract. Assumes nothing.
+pub returns-then-c-most : goal.returns-then-c-most
+returns-then-c-most c = absurd (false≢true t)
+
+pub returns : goal.returns
+returns c = let g = c.well_formed.0 in
+    drill-told c.args.radius c.args.c _ (search (rules, g)) (record { outer-lower = search rules; outer-upper = search rules; inner-lower = search rules; inner-upper = search rules }) c.least-most.ensures t

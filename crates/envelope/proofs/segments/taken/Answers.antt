@@ -1,0 +1,17 @@
+-- `envelope::segments::taken` meets its contract. Assumes nothing.
+use mathlib.Core.Path.{sym, ap, ap₂, ◌∙◌}
+use mathlib.Core.Option.{Option, some}
+use Rattle.envelope.specs.Envelope.{Radii, taken}
+use Rattle.envelope.proofs.Aside.{found-one, found_none, found_some}
+use Rattle.envelope.proofs.segments.taken.Goals as goal
+
+-- `envelope::segments::taken` meets its contract. Assumes nothing.
+pub returns-then-r-eq0 : goal.returns-then-r-eq0
+unfolding taken
+returns-then-r-eq0 c = let a = c.args in
+    found-one _ _ ∙ ap (λ (o : Option Radii). taken o a.v) (sym (found_none a.r c.if-r-eq0.true))
+
+pub returns : goal.returns
+unfolding taken
+returns c = let a = c.args in
+    found-one _ _ ∙ ap₂ (λ x y. some (record { lowest = x; highest = y })) c.least.ensures c.greatest.ensures ∙ ap (λ (o : Option Radii). taken o a.v) (sym (found_some a.r c.if-r-eq0.false))

@@ -1,0 +1,18 @@
+-- `insert::candidates::with_candidate` meets its contract. Assumes nothing.
+use borrow.Author.Rules.{rules}
+use mathlib.Core.Path.{◌≡◌, sym, ap, ap₂, ◌∙◌}
+use Rattle.floats.specs.Pick.{pick_true, pick-false}
+use Rattle.envelope.specs.Halving.{radius_of}
+use Rattle.envelope.specs.Envelope.{higher}
+use Rattle.insert.specs.Insert.{with_candidate}
+use Rattle.insert.proofs.candidates.with_candidate.Goals as goal
+
+-- `insert::candidates::with_candidate` meets its contract. Assumes nothing.
+pub returns-then-a-u : goal.returns-then-a-u
+unfolding with_candidate
+returns-then-a-u c = let a = c.args in
+    c.higher.ensures ∙ (ap (higher (radius_of a.found)) c.touch_at.ensures ∙ sym (pick_true _ _ _ c.if-a-u.true))
+
+pub returns : goal.returns
+unfolding with_candidate
+returns c = sym (pick-false _ _ _ c.if-a-u.false)

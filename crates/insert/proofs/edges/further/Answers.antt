@@ -1,0 +1,18 @@
+-- `insert::edges::further` meets its contract. Assumes nothing.
+use borrow.Author.Rules.{rules}
+use Rattle.floats.specs.Pick.{picks}
+use Rattle.envelope.specs.Halving.{radius_of}
+use Rattle.insert.specs.Insert.{further}
+use Rattle.insert.proofs.edges.further.Goals as goal
+
+pub returns-in-Nowhere : goal.returns-in-Nowhere
+unfolding further radius_of
+returns-in-Nowhere c = search (picks, c.in-Nowhere.is)
+
+pub returns-in-Nowhere-b : goal.returns-in-Nowhere-b
+unfolding further radius_of
+returns-in-Nowhere-b c = search (picks, c.in-Nowhere-b.is, c.in-At.is)
+
+pub returns-in-At-b : goal.returns-in-At-b
+unfolding further radius_of
+returns-in-At-b c = search (picks, ← c.chosen.ensures, c.in-At-b.is, c.in-At.is)

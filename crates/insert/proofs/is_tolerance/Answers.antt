@@ -1,0 +1,7 @@
+-- `insert::is_tolerance` meets its contract. Assumes nothing.
+use borrow.Author.Rules.{rules}
+use Rattle.floats.specs.Pick.{picks}
+use Rattle.insert.proofs.is_tolerance.Goals as goal
+
+pub returns : goal.returns
+returns c = search (picks, ← c.is_usable.ensures)

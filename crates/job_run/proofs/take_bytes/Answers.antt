@@ -1,0 +1,22 @@
+-- `job_run::take_bytes` meets its contract. Assumes nothing.
+use Rattle.job_run.proofs.Bytes.{bytes-step, bytes-end}
+use Rattle.job_run.specs.Run.{state, hold, byte_on}
+use Rattle.std.proofs.Common.{◌≡◌, ◌-◌, ◌^◌, ◌<◌, ◌≤◌, length, drop, sym, refl, ◌∙◌, arith, rules}
+use mathlib.Core.List.{foldl}
+use Rattle.job_run.proofs.take_bytes.Goals as goal
+
+-- a slice's length is a usize
+few : (c : tie.Start invariant-loop decreases-loop) → length c.args.bytes.now < 2 ^ 64
+few c = omega arith
+
+pub loop-i-init : goal.loop-i-init
+loop-i-init c = (search rules, search rules, search rules, search rules, refl, refl, refl)
+
+pub overflow_add-i : goal.overflow_add-i
+overflow_add-i c = omega (arith, few c, c.loop-i-test.true)
+
+pub loop-i-preserved : goal.loop-i-preserved
+loop-i-preserved c = (search rules, search rules, search rules, search rules, search rules, search rules, c.loop-i.invariant.6 ∙ bytes-step _ _ _ _ c.loop-i-test.true c.take_byte-t.ensures)
+
+pub returns : goal.returns
+returns c = sym (c.loop-i.invariant.6 ∙ bytes-end _ _ _ c.loop-i-test.false)

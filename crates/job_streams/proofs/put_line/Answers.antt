@@ -1,0 +1,22 @@
+-- `job_streams::put_line` meets its contract. Assumes nothing.
+use mathlib.Core.Path.{sym}
+use native.Mathlib.Omega.{arith}
+use Prim.Native.Nat.{◌≤◌}
+use lib.ListN.{length}
+use lib.Seq.{length-take-le}
+use Rattle.text.proofs.Sets.{room}
+use Rattle.job_streams.proofs.Putting.{put-line}
+use borrow.Author.Rules.{rules}
+use Rattle.job_streams.proofs.put_line.Goals as goal
+
+-- `job_streams::put_line` meets its contract. Assumes nothing.
+pub slice_bounds-line-end : goal.slice_bounds-line-end
+slice_bounds-line-end c = omega (arith, room c.output_line-end.ensures.0.wrote)
+
+pub slice_bounds-put-end : goal.slice_bounds-put-end
+slice_bounds-put-end c = let o = c.output_line-end in
+    let h : o.result ≤ length o.new.0 = omega (arith, room o.ensures.0.wrote) in
+    sym (length-take-le o.result o.new.0 h)
+
+pub returns : goal.returns
+returns c = let o = c.output_line-end.ensures in put-line o.1 (search rules) o.0 c.put.ensures

@@ -1,0 +1,19 @@
+-- `moves::store_parts` meets its contract. Assumes nothing.
+use mathlib.Core.Path.{sym, ap, ◌∙◌}
+use native.Mathlib.Omega.{arith}
+use borrow.Author.Rules.{rules}
+use Rattle.stock.specs.Spec.{counted_paper}
+use Rattle.moves.proofs.Parting.{parts-refused, parts-count, parts-stored}
+use Rattle.moves.proofs.store_parts.Goals as goal
+
+pub returns-then-len-blocks_in : goal.returns-then-len-blocks_in
+returns-then-len-blocks_in c = let told = c.counted-in-Cells-1.given in
+    parts-count _ _ _ _ _ told.0.0 _ (sym c.cells_fit-counted.ensures ∙ ap counted_paper told.1) c.blocks_in.ensures c.if-len-blocks_in.true
+
+pub returns-in-Refused : goal.returns-in-Refused
+returns-in-Refused c = let told = c.counted-1.given in
+    parts-refused _ _ _ _ _ told.0.0 (sym c.cells_fit-counted.ensures ∙ ap counted_paper told.1)
+
+pub returns-else-len-blocks_in : goal.returns-else-len-blocks_in
+returns-else-len-blocks_in c = let told = c.counted-in-Cells-1.given in
+    parts-stored _ _ _ _ _ told.0.0 _ (sym c.cells_fit-counted.ensures ∙ ap counted_paper told.1) c.blocks_in.ensures _ _ c.if-len-blocks_in.false c.store_given.ensures

@@ -1,0 +1,20 @@
+-- `passes::propose::pass_end` meets its contract. Assumes nothing.
+use mathlib.Core.Path.{sym, ◌∙◌}
+use borrow.Author.Rules.{rules}
+use borrow.Author.Tests.{eq-eqb, ne_eqb}
+use Rattle.floats.specs.Pick.{pick_true, pick-false}
+use Rattle.passes.specs.Propose.{pass_end}
+use Rattle.passes.proofs.propose.pass_end.Goals as goal
+
+-- `passes::propose::pass_end` meets its contract. Assumes nothing.
+pub returns-then-i-n : goal.returns-then-i-n
+unfolding pass_end
+returns-then-i-n c = simp c.bin_of-bin.ensures (sym (pick_true _ _ _ (eq-eqb _ _ c.if-i-n.true)))
+
+pub returns-then-aim-lower_at : goal.returns-then-aim-lower_at
+unfolding pass_end
+returns-then-aim-lower_at c = simp (c.bin_of-bin.ensures, c.inset.ensures) (sym (pick-false _ _ _ (ne_eqb _ _ c.if-i-n.false) ∙ pick_true _ _ _ (simp (← c.lower_at.ensures, ← c.aim.ensures) c.if-aim-lower_at.true)))
+
+pub returns : goal.returns
+unfolding pass_end
+returns c = simp c.bin_of-bin.ensures (sym (pick-false _ _ _ (ne_eqb _ _ c.if-i-n.false) ∙ pick-false _ _ _ (simp (← c.lower_at.ensures, ← c.aim.ensures) c.if-aim-lower_at.false)))

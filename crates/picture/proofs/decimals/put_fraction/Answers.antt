@@ -1,0 +1,12 @@
+-- `picture::decimals::put_fraction` meets its contract. Assumes nothing.
+use native.Mathlib.Omega.{arith}
+use Rattle.picture.proofs.Texts.{fraction-none, fraction-some}
+use borrow.Author.Rules.{rules}
+use Rattle.picture.proofs.decimals.put_fraction.Goals as goal
+
+-- `picture::decimals::put_fraction` meets its contract. Assumes nothing.
+pub returns-then-f-eq0 : goal.returns-then-f-eq0
+returns-then-f-eq0 c = (fraction-none _ c.if-f-eq0.true, omega arith)
+
+pub returns : goal.returns
+returns c = fraction-some _ _ c.if-f-eq0.false c.tail_of-t.ensures.0 c.tail_of-t.ensures.1 c.requires c.put-a.ensures c.put_digits.ensures

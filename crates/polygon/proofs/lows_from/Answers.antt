@@ -1,0 +1,28 @@
+-- `polygon::lows_from` meets its contract. The loop's invariant: the low is that of the start and the vertices passed. Assumes nothing.
+use mathlib.Core.Path.{◌≡◌, refl, ap, ◌∙◌}
+use mathlib.Core.Logic.{⊎_elim}
+use Prim.Native.Nat.{◌≤◌, ◌-◌, ◌/◌}
+use native.Mathlib.Omega.{arith}
+use lib.ListN.{length}
+use borrow.Author.Rules.{rules}
+use Rattle.floats.specs.Pick.{pick_true, pick-false}
+use Rattle.reach.specs.Low.{low_paper}
+use Rattle.polygon.specs.Polygon.{lows_to, lows_from}
+use Rattle.polygon.proofs.Turns.{lows-more}
+use Rattle.polygon.proofs.lows_from.Goals as goal
+
+pub loop-i-init : goal.loop-i-init
+unfolding lows_to
+loop-i-init c = (search rules, refl)
+
+pub loop-i-preserved : goal.loop-i-preserved
+loop-i-preserved c = let l = c.loop-i in
+    ⊎_elim
+    (λ w. (search rules, rw (lows-more, ← l.invariant.1, ← c.height_at-z.ensures, pick_true _ _ _ w.0.taken, ← w.1.ensures) (ap low_paper w.3 ∙ w.2.ensures)))
+    (λ w. (search rules, rw (lows-more, ← l.invariant.1, ← c.height_at-z.ensures, pick-false _ _ _ w.0.left) (ap low_paper w.1)))
+    c.if-za-z.branch
+
+pub returns : goal.returns
+unfolding lows_from
+returns c = let e : c.loop-i.i ≡ length c.args.points.now / 2 = omega arith in
+    c.loop-i.invariant.1 ∙ ap (lows_to c.args.points.now c.args.side c.args.bin (low_paper c.args.start)) e

@@ -1,0 +1,13 @@
+-- `reach::deep_of` meets its contract. Assumes nothing.
+use borrow.Author.Rules.{rules}
+use Rattle.floats.specs.Pick.{picks}
+use Rattle.reach.specs.Reach.{deep_of}
+use Rattle.reach.proofs.deep_of.Goals as goal
+
+pub returns-in-Outer : goal.returns-in-Outer
+unfolding deep_of
+returns-in-Outer c = search (picks, c.in-Outer.is)
+
+pub returns-in-Inner : goal.returns-in-Inner
+unfolding deep_of
+returns-in-Inner c = search (picks, c.in-Inner.is)

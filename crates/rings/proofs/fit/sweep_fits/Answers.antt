@@ -1,0 +1,15 @@
+-- `rings::fit::sweep_fits` meets its contract. Assumes nothing.
+use mathlib.Core.Bool.{true, false, false≢true}
+use Rattle.rings.proofs.Sweeping.{both, swept-fits}
+use borrow.Author.Rules.{rules}
+use Rattle.rings.proofs.fit.sweep_fits.Goals as goal
+
+-- `rings::fit::sweep_fits` meets its contract. Assumes nothing.
+pub returns-then-n-le-BLOCK : goal.returns-then-n-le-BLOCK
+returns-then-n-le-BLOCK c = λ e. absurd (false≢true e)
+
+pub returns-then-rises : goal.returns-then-rises
+returns-then-rises c = λ e. absurd (false≢true e)
+
+pub returns : goal.returns
+returns c = λ e. let g = both _ _ e in swept-fits _ _ _ (c.all_fit-fits.ensures g.0) (c.is_clear.ensures g.1)

@@ -1,0 +1,11 @@
+-- `show_job::gather_page` meets its contract. Assumes nothing.
+use Prim.Native.Nat.{◌≤◌, ◌-◌}
+use borrow.Author.Rules.{rules}
+use Rattle.show_job.proofs.gather_page.Given as goal
+
+-- `show_job::gather_page` meets its contract. Assumes nothing.
+abbrev pub invariant-loop-k : goal.invariant-loop-k
+invariant-loop-k l = l.k ≤ 1024
+
+abbrev pub decreases-loop-k : goal.decreases-loop-k
+decreases-loop-k l = 1024 - l.k

@@ -1,0 +1,23 @@
+-- `side_by_side::each_in_hand` meets its contract. Assumes nothing.
+use native.Mathlib.Omega.{arith}
+use mathlib.Core.Path.{◌≡◌, ap, ◌∙◌}
+use Prim.Native.Nat.{ℕ, ◌≤◌, ◌-◌}
+use Rattle.rings.specs.Store.{rings_of}
+use Rattle.rings.specs.Remove.{lent_rings}
+use Rattle.side_by_side.specs.Compared.{each_in_hand}
+use Rattle.side_by_side.proofs.Texts.{each_start, each_next}
+use borrow.Author.Rules.{rules}
+use Rattle.side_by_side.proofs.each_in_hand.Goals as goal
+
+pub loop-i-init : goal.loop-i-init
+loop-i-init c = (omega arith, each_start _ _)
+
+pub loop-i-preserved : goal.loop-i-preserved
+loop-i-preserved c = let loop = c.loop-i in
+    (omega arith, each_next _ _ _ _ _ _ loop.invariant.1 c.ring_at.ensures c.in_hand-ok.ensures)
+
+pub returns : goal.returns
+returns c = let a = c.args in
+    let n = c.lent_of-n in
+    let e : c.loop-i.i ≡ n.result = omega arith in
+    c.loop-i.invariant.1 ∙ ap (λ (i : ℕ). each_in_hand (lent_rings a.rings.now a.count) (rings_of i a.others.now)) (e ∙ n.ensures)

@@ -1,0 +1,21 @@
+-- `side_by_side::spelled::put_rings` meets its contract. Assumes nothing.
+use native.Mathlib.Omega.{arith}
+use mathlib.Core.Path.{◌≡◌}
+use Prim.Native.Nat.{◌≤◌, ◌-◌}
+use Rattle.side_by_side.proofs.Texts.{RingsPut, rings-none, rings-more, rings-done}
+use borrow.Author.Rules.{rules}
+use Rattle.side_by_side.proofs.spelled.put_rings.Goals as goal
+
+pub loop-i-init : goal.loop-i-init
+loop-i-init c = (omega arith, rings-none _ _)
+
+pub put_ring-e-requires : goal.put_ring-e-requires
+put_ring-e-requires c = let s = c.loop-i.invariant.1.size in omega arith
+
+pub loop-i-preserved : goal.loop-i-preserved
+loop-i-preserved c = (omega arith, rings-more c.loop-i.invariant.1 c.ring_at.ensures c.put_ring-e.ensures)
+
+pub returns : goal.returns
+returns c = let a = c.args in
+    let e : c.loop-i.i ≡ a.n = omega arith in
+    rings-done c.loop-i.invariant.1 e

@@ -1,0 +1,14 @@
+-- `side_by_side::spelled::put_rings` meets its contract. Assumes nothing.
+use native.Mathlib.Omega.{arith}
+use mathlib.Core.Path.{◌≡◌}
+use Prim.Native.Nat.{◌≤◌, ◌-◌}
+use Rattle.side_by_side.proofs.Texts.{RingsPut, rings-none, rings-more, rings-done}
+use borrow.Author.Rules.{rules}
+use Rattle.side_by_side.proofs.spelled.put_rings.Given as goal
+
+-- `side_by_side::spelled::put_rings` meets its contract. Assumes nothing.
+abbrev pub invariant-loop-i : goal.invariant-loop-i
+invariant-loop-i l = (l.i ≤ l.n) × RingsPut l.rings l.i l.initial.out l.out l.e
+
+abbrev pub decreases-loop-i : goal.decreases-loop-i
+decreases-loop-i l = l.n - l.i

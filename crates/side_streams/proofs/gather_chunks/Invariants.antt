@@ -1,0 +1,20 @@
+-- `side_streams::gather_chunks` meets its contract. Assumes nothing.
+use Prim.Native.Nat.{ℕ, ◌-◌, ◌≤◌}
+use native.Mathlib.Omega.{arith}
+use mathlib.Core.Path.{◌≡◌, sym, ◌∙◌, subst}
+use lib.ListN.{length}
+use Rattle.text.proofs.Sets.{room}
+use Rattle.stock_file.specs.Write.{lines_to}
+use Rattle.stock_streams.specs.Write.{AllPut}
+use Rattle.stock_streams.proofs.Putting.{put-none}
+use Rattle.side_by_side.specs.Compared.{side, chunk_of}
+use Rattle.side_streams.proofs.Gathered.{chunk-put}
+use borrow.Author.Rules.{rules}
+use Rattle.side_streams.proofs.gather_chunks.Given as goal
+
+-- `side_streams::gather_chunks` meets its contract. Assumes nothing.
+abbrev pub invariant-loop-c : goal.invariant-loop-c
+invariant-loop-c l = (l.c ≤ l.chunks) × (length l.part ≡ 18688) × AllPut (lines_to (chunk_of (side l.cells1 l.rings1 l.count1) (side l.cells2 l.rings2 l.count2)) l.c) l.out l.gathered
+
+abbrev pub decreases-loop-c : goal.decreases-loop-c
+decreases-loop-c l = l.chunks - l.c

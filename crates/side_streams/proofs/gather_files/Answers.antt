@@ -1,0 +1,16 @@
+-- `side_streams::gather_files` meets its contract. Assumes nothing.
+use mathlib.Core.Path.{ap}
+use Rattle.stock_file.specs.Read.{kept_paper}
+use Rattle.side_streams.proofs.Told.{first-refused, first-stock}
+use borrow.Author.Rules.{rules}
+use Rattle.side_streams.proofs.gather_files.Goals as goal
+
+-- `side_streams::gather_files` meets its contract. Assumes nothing.
+pub returns-in-Stock : goal.returns-in-Stock
+returns-in-Stock c = first-stock (search rules) (search rules) c.read_named-kept.ensures _ _ c.in-Stock.is _ _ c.gather_second.ensures
+
+pub returns-in-Refused : goal.returns-in-Refused
+returns-in-Refused c = first-refused (search rules) (search rules) c.read_named-kept.ensures _ (ap kept_paper c.in-Refused.is) _ _ c.gather_file.ensures
+
+pub returns-in-RefusedAt : goal.returns-in-RefusedAt
+returns-in-RefusedAt c = first-refused (search rules) (search rules) c.read_named-kept.ensures _ (ap kept_paper c.in-RefusedAt.is) _ _ c.gather_file-in-RefusedAt.ensures

@@ -1,0 +1,13 @@
+-- `side_streams::gather_refused` meets its contract. Assumes nothing.
+use mathlib.Core.Path.{sym}
+use Rattle.text.proofs.Sets.{room}
+use Rattle.side_streams.proofs.Gathered.{line-put}
+use borrow.Author.Rules.{rules}
+use Rattle.side_streams.proofs.gather_refused.Goals as goal
+
+-- `side_streams::gather_refused` meets its contract. Assumes nothing.
+pub slice_bounds-front-end : goal.slice_bounds-front-end
+slice_bounds-front-end c = sym (room c.pair_refused-n.ensures.wrote)
+
+pub returns : goal.returns
+returns c = line-put (search rules) c.pair_refused-n.ensures c.front.ensures c.fresh.ensures.0 c.put.ensures

@@ -1,0 +1,17 @@
+-- `stock_lines::form::read_first_line` meets its contract. Assumes nothing.
+use Rattle.std.proofs.Common.{sym, ap, ◌∙◌, arith, length-take-le, rules}
+use Rattle.stock_lines.specs.First.{edition_of}
+use Rattle.stock_lines.proofs.Firsts.{rest-is, first_short, first-parts}
+use Rattle.stock_lines.proofs.form.read_first_line.Goals as goal
+
+-- `stock_lines::form::read_first_line` meets its contract. Assumes nothing.
+pub returns-then-line-lt-BAR_LONG : goal.returns-then-line-lt-BAR_LONG
+returns-then-line-lt-BAR_LONG c = first_short _ c.if-line-lt-BAR_LONG.true
+
+pub slice_bounds-read_bar-end : goal.slice_bounds-read_bar-end
+slice_bounds-read_bar-end c = sym (length-take-le 92 c.args.line.now (omega arith))
+
+pub returns : goal.returns
+returns c = let a = c.args in
+    c.first_from.ensures
+    ∙ first-parts a.line.now _ _ _ c.form_in-form.ensures (c.read_edition-edition.ensures ∙ ap (edition_of c.form_in-form.result) (rest-is 92 a.line.now)) c.read_bar-five.ensures

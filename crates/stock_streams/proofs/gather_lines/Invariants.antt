@@ -1,0 +1,17 @@
+-- `stock_streams::gather_lines` meets its contract. Assumes nothing.
+use Prim.Native.Nat.{ℕ, ◌-◌, ◌≤◌}
+use native.Mathlib.Omega.{arith}
+use native.Mathlib.Nat.{le_antisymm}
+use mathlib.Core.Path.{◌≡◌, subst}
+use Rattle.stock_file.specs.Write.{line_for, lines_to}
+use Rattle.stock_streams.specs.Write.{text_in, AllPut}
+use Rattle.stock_streams.proofs.Putting.{put-none, put-more}
+use borrow.Author.Rules.{rules}
+use Rattle.stock_streams.proofs.gather_lines.Given as goal
+
+-- `stock_streams::gather_lines` meets its contract. Assumes nothing.
+abbrev pub invariant-loop-k : goal.invariant-loop-k
+invariant-loop-k l = (l.k ≤ l.n) × AllPut (lines_to (λ i. text_in (line_for l.stock l.cells l.rings i)) l.k) l.out l.gathered
+
+abbrev pub decreases-loop-k : goal.decreases-loop-k
+decreases-loop-k l = l.n - l.k

@@ -1,0 +1,10 @@
+-- `test_vectors::words::again` meets its contract. Assumes nothing.
+use Rattle.std.proofs.Common.{◌-◌, rules}
+use Rattle.test_vectors.proofs.words.again.Given as goal
+
+-- `test_vectors::words::again` meets its contract. Assumes nothing.
+abbrev pub invariant-loop-k : goal.invariant-loop-k
+invariant-loop-k l = Unit
+
+abbrev pub decreases-loop-k : goal.decreases-loop-k
+decreases-loop-k l = l.end - l.k

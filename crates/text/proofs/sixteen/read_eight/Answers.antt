@@ -1,0 +1,18 @@
+-- `text::sixteen::read_eight` meets its contract. Assumes nothing.
+use Rattle.std.proofs.Common.{sym, ◌∙◌, arith, rules}
+use Rattle.text.proofs.Reading.{number_spelled, number-none, eight-other, eight-none, eight-of, eight-small}
+use Rattle.text.proofs.sixteen.read_eight.Goals as goal
+
+-- `text::sixteen::read_eight` meets its contract. Assumes nothing.
+pub returns-then-s-ne8 : goal.returns-then-s-ne8
+returns-then-s-ne8 c = eight-other _ c.if-s-ne8.true
+
+pub returns-in_default : goal.returns-in_default
+returns-in_default c = eight-none _ c.if-s-ne8.false (number-none 8 _ (sym c.digits_at.ensures ∙ c.in_default.is))
+
+pub overflow_cast-result : goal.overflow_cast-result
+overflow_cast-result c = let w = number_spelled 8 _ _ (sym c.digits_at.ensures ∙ c.in-Of.is) in
+    record { fits = omega (arith, w.value, eight-small c.args.s.now) }
+
+pub returns : goal.returns
+returns c = eight-of _ _ c.if-s-ne8.false (number_spelled 8 _ _ (sym c.digits_at.ensures ∙ c.in-Of.is))

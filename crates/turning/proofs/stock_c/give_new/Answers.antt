@@ -1,0 +1,12 @@
+-- `turning::stock_c::give_new` meets its contract. Assumes nothing.
+use mathlib.Core.Path.{ap}
+use borrow.Author.Rules.{rules}
+use Rattle.stock.specs.declared.Made.{Made}
+use Rattle.stock.specs.Stock.{made_paper}
+use Rattle.turning.specs.Boundary.{generation_in}
+use Rattle.turning.proofs.Given.{gives-refused}
+use Rattle.turning.proofs.stock_c.give_new.Goals as goal
+
+-- `turning::stock_c::give_new` meets its contract. Assumes nothing.
+pub returns-in-Refused : goal.returns-in-Refused
+returns-in-Refused c = let told = c.answer-1.given in gives-refused _ told.0.0 _ _ (ap (λ (x : Made). generation_in (made_paper x)) told.1) c.number.ensures
