@@ -51,6 +51,10 @@ def split_decls(text):
     return uses, decls, pending
 
 
+def undoubled(head, text):
+    return "\n".join(l for l in text.split("\n") if l not in head)
+
+
 def named(o):
     m = re.match(r"(?:--[^\n]*\n|\s*\n)*(?:(?:pub|abbrev|unfoldable)\s+)*(%s)" % W, o)
     return m.group(1) if m else "?"
@@ -305,8 +309,9 @@ def convert(root, crate, names, folder):
             if var is None:
                 f.flags.append("answer with no argument: " + a)
                 var = "c"
+            more = [x for x in ps[1:] if not (new.endswith("requires") or "-requires-" in new)]
             for extra in ps[1:]:
-                if extra != "_" and re.search(r"(?<![\w'.-])%s(?![\w'-])" % re.escape(extra), body):
+                if extra not in more and extra != "_" and re.search(r"(?<![\w'.-])%s(?![\w'-])" % re.escape(extra), body):
                     f.flags.append("uses " + extra + " in " + a)
         else:
             d = {"notes": []}
@@ -317,6 +322,7 @@ def convert(root, crate, names, folder):
                     f.flags.append("argument of another form: " + a[:60])
                 continue
             ps = lam.group(1).split()
+            more = [x for x in ps[1:] if not (new.endswith("requires") or "-requires-" in new)]
             var, body = ps[0], lam.group(2)
             if body.strip() in ("tt", "search rules", "(tt, tt)"):
                 continue
@@ -327,7 +333,7 @@ def convert(root, crate, names, folder):
             continue
         if re.match(r"(enum_|known_told|shared_slice|way_told|enum-|element_)", new) and body.strip() == "search rules":
             continue
-        ans.append("\n".join(d["notes"] + [f"pub {new} : goal.{new}"] + unf + [f"{new} {var} = {body.rstrip()}"]))
+        ans.append("\n".join(d["notes"] + [f"pub {new} : goal.{new}"] + unf + [f"{' '.join([new, var] + more)} = {body.rstrip()}"]))
     for d in decls:
         if d is top or d["name"] in used:
             continue
@@ -337,7 +343,6 @@ def convert(root, crate, names, folder):
         other.append(t)
     # where helper lemmas stand before answers that use them
     keep = [u for u in uses if not re.search(r"\.(Statement|Tie|Reads|Lts)(\.\{| as |$)", u)]
-    first = [l for l in text.split("\n") if l.startswith("--")][:1]
     head = [l for l in [text.split("\n")[0]] if l.startswith("--")]
     said = []
     if inv:
@@ -348,6 +353,7 @@ def convert(root, crate, names, folder):
         open(os.path.join(folder, "Invariants.antt"), "w", encoding="utf-8").write("\n".join(out))
         other = [o for o in other if o not in helpers]
     if ans or other:
+        other, ans = [undoubled(head, it) for it in other], [undoubled(head, it) for it in ans]
         out = head + keep + [f"use Rattle.{crate}.proofs.{rel}.Goals as goal", ""] + ["\n\n".join(other + ans), ""]
         open(os.path.join(folder, "Answers.antt"), "w", encoding="utf-8").write("\n".join(out))
     os.remove(path)

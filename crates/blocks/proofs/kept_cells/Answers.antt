@@ -8,7 +8,6 @@ use Rattle.blocks.specs.Block.{matches_of}
 use Rattle.blocks.proofs.Stocks.{kept-refused, kept-unmatched, kept-matched}
 use Rattle.blocks.proofs.kept_cells.Goals as goal
 
--- `blocks::kept_cells` meets its contract. Assumes nothing.
 pub returns-then-matches : goal.returns-then-matches
 returns-then-matches c = let told = c.counted-in-Cells-1.given in
     let args = c.args in

@@ -9,7 +9,6 @@ use Rattle.blocks.specs.Block.{blocks_of}
 use Rattle.blocks.proofs.Renewing.{renew-refused, renew-count, renew-goes, stays, made}
 use Rattle.blocks.proofs.renew.Goals as goal
 
--- `blocks::renew` meets its contract. Assumes nothing.
 pub returns-then-blocks-count : goal.returns-then-blocks-count
 returns-then-blocks-count c = let told = c.counted-in-Cells-1.given in
     stays _ _ _ _ (only 20) refl (renew-count _ _ _ told.0.0 _ (sym c.cells_fit-counted.ensures ∙ ap counted_paper told.1) c.blocks_in-count.ensures c.if-blocks-count.true)

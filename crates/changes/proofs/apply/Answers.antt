@@ -9,7 +9,6 @@ use Rattle.changes.proofs.Written.{apply-refused, apply-short, left}
 use Rattle.changes.proofs.Kept.{kept-refused, apply-keeps}
 use Rattle.changes.proofs.apply.Goals as goal
 
--- `changes::apply` meets its contract. Assumes nothing.
 pub returns-then-room-list : goal.returns-then-room-list
 returns-then-room-list c = let a = c.args in
     let told = c.counted-in-Cells-1.given in

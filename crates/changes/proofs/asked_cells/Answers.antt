@@ -9,7 +9,6 @@ use Rattle.blocks.specs.Block.{matches_of}
 use Rattle.changes.proofs.Written.{asked-refused, asked-stale, asked-unmatched, asked_is}
 use Rattle.changes.proofs.asked_cells.Goals as goal
 
--- `changes::asked_cells` meets its contract. Assumes nothing.
 pub returns-then-not-same_stamp : goal.returns-then-not-same_stamp
 returns-then-not-same_stamp c = let told = c.counted-in-Cells-1.given in
     sym (asked-stale _ _ _ _ told.0.0 (sym c.cells_fit-counted.ensures ∙ ap counted_paper told.1) (sym c.same_stamp.ensures ∙ not-true _ c.if-not-same_stamp.true-raw))

@@ -12,7 +12,6 @@ use Rattle.changes.specs.Decide.{raised_of}
 use Rattle.changes.proofs.Decided.{raised-stops, raised-spent, raised-next}
 use Rattle.changes.proofs.raised.Goals as goal
 
--- `changes::raised` meets its contract. Assumes nothing.
 pub returns-then-generation : goal.returns-then-generation
 unfolding passing_paper
 returns-then-generation c = let k = c.args.stock in

@@ -7,7 +7,6 @@ use Rattle.changes.proofs.Proposals.{left, same-proposal}
 use Rattle.changes.proofs.Differences.{both-held, differ-refused, differ-other, differ-is}
 use Rattle.changes.proofs.tally_differences.Goals as goal
 
--- `changes::tally_differences` meets its contract. Assumes nothing.
 pub list_differences-requires : goal.list_differences-requires
 list_differences-requires c = let first = c.counted-in-Cells-1.given in
     let told = c.enum_told-1.given in

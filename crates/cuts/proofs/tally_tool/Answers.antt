@@ -10,7 +10,6 @@ use Rattle.cuts.proofs.Previews.{ready}
 use Rattle.cuts.proofs.Tools.{tool-refused, tool-outside, tool-is}
 use Rattle.cuts.proofs.tally_tool.Goals as goal
 
--- `cuts::tally_tool` meets its contract. Assumes nothing.
 pub returns-then-not-tool_inside : goal.returns-then-not-tool_inside
 returns-then-not-tool_inside c = let told = c.counted-in-Cells-1.given in
     left _ _ _ _ (tool-outside _ _ _ _ _ _ (sym c.cells_fit-counted.ensures ∙ ap counted_paper told.1) (sym c.tool_inside.ensures ∙ not-true _ c.if-not-tool_inside.true-raw))

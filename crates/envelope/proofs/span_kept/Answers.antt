@@ -13,7 +13,6 @@ use Rattle.floats.proofs.Bools.{so}
 use Rattle.envelope.proofs.Rules.{within-kept}
 use Rattle.envelope.proofs.span_kept.Goals as goal
 
--- `envelope::span_kept` meets its contract. Assumes nothing.
 -- the part that was found, and that it lies among the points
 found : (c : tie.After-struct-known) → c.before.part_of.result ≡ halved_part c.before.before.before.before.before.before.before.before.before.args.points.now c.before.before.before.before.before.before.before.before.before.args.order (clean_of c.before.before.before.before.before.before.before.before.before.args.lo) (clean_of c.before.before.before.before.before.before.before.before.before.args.hi)
 found c =

@@ -11,7 +11,6 @@ use Rattle.floats.proofs.Bools.{so}
 use Rattle.envelope.proofs.Rules.{numbers-kept}
 use Rattle.envelope.proofs.within_kept.Goals as goal
 
--- `envelope::within_kept` meets its contract. Assumes nothing.
 -- what `span_kept` answers lies among the points
 room : (c : tie.After-known-told) → c.before.first.given.0.0 + c.before.first.given.0.1.0 ≤ count c.before.before.before.before.before.args.points.now
 room c =

@@ -4,7 +4,6 @@ use Rattle.moves.proofs.Parting.{rebuilds-from}
 use Rattle.moves.proofs.Told.{rebuilt-told}
 use Rattle.moves.proofs.from_parts.Goals as goal
 
--- `moves::from_parts` meets its contract. Assumes nothing.
 pub returns : goal.returns
 returns c = let a = c.args in
     let stored = c.store_parts-stored in

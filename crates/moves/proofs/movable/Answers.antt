@@ -9,7 +9,6 @@ use Rattle.changes.specs.Commit.{passing_paper}
 use Rattle.moves.proofs.Moving.{refuses-4, refuses-19, refuses-20, refuses-10, movable-is}
 use Rattle.moves.proofs.movable.Goals as goal
 
--- `moves::movable` meets its contract. Assumes nothing.
 pub returns-then-not-rings_fit : goal.returns-then-not-rings_fit
 unfolding passing_paper
 returns-then-not-rings_fit c = sym (refuses-4 _ _ _ _ _ _ _ (sym c.rings_fit.ensures ∙ not-true _ c.if-not-rings_fit.true-raw))

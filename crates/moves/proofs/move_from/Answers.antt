@@ -11,7 +11,6 @@ use Rattle.moves.proofs.Moving.{move-refused, move-short}
 use Rattle.moves.proofs.Kept.{kept-refused, move-keeps}
 use Rattle.moves.proofs.move_from.Goals as goal
 
--- `moves::move_from` meets its contract. Assumes nothing.
 pub returns-then-room-list : goal.returns-then-room-list
 returns-then-room-list c = let a = c.args in
     let told = c.counted-in-Cells-1.given in

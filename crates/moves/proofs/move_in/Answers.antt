@@ -7,7 +7,6 @@ use Rattle.moves.proofs.Moving.{told_of, put_is, shifts_none, shifts-all}
 use Rattle.moves.proofs.Kept.{then-renewed}
 use Rattle.moves.proofs.move_in.Goals as goal
 
--- `moves::move_in` meets its contract. Assumes nothing.
 pub returns-then-not-is_moved : goal.returns-then-not-is_moved
 returns-then-not-is_moved c = let a = c.args in
     let stay = sym c.is_moved.ensures ∙ not-true _ c.if-not-is_moved.true-raw in

@@ -9,7 +9,6 @@ use Rattle.rings.specs.declared.Counts.TheVariants as counts
 use Rattle.moves.proofs.Moving.{takes_none, refuses-12, refuses-11, takes_all}
 use Rattle.moves.proofs.rings_moved.Goals as goal
 
--- `moves::rings_moved` meets its contract. Assumes nothing.
 pub overflow_sub-generation : goal.overflow_sub-generation
 overflow_sub-generation c = omega (arith, c.well_formed.0)
 

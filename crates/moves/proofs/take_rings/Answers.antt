@@ -7,7 +7,6 @@ use Rattle.rings.specs.declared.Counts.TheVariants as counts
 use Rattle.moves.proofs.Moving.{takes_none, taken-stops, taken-change, taken_is, same-rings}
 use Rattle.moves.proofs.take_rings.Goals as goal
 
--- `moves::take_rings` meets its contract. Assumes nothing.
 pub returns-in-Refused : goal.returns-in-Refused
 unfolding passing_paper
 returns-in-Refused c = let told = c.asked-1.given in

@@ -7,7 +7,6 @@ use Rattle.passes.proofs.Verdicts.{asked, checks-refused, checks-decided}
 use borrow.Author.Rules.{rules}
 use Rattle.passes.proofs.check.Goals as goal
 
--- `passes::check` meets its contract. Assumes nothing.
 pub decide_kept-requires : goal.decide_kept-requires
 decide_kept-requires c = let a = c.args in
     let told = c.counted-in-Cells-1.given in

@@ -10,7 +10,6 @@ use Rattle.passes.proofs.Verdicts.{asks-refused, asks-room, asks-unmatched, asks
 use borrow.Author.Rules.{rules}
 use Rattle.passes.proofs.checkable.Goals as goal
 
--- `passes::checkable` meets its contract. Assumes nothing.
 pub returns-then-room-cells : goal.returns-then-room-cells
 returns-then-room-cells c = let a = c.args in
     let told = c.counted-in-Cells-1.given in

@@ -7,7 +7,6 @@ use Rattle.passes.proofs.Verdicts.{decided-cut, decided-bins}
 use borrow.Author.Rules.{rules}
 use Rattle.passes.proofs.decide.Goals as goal
 
--- `passes::decide` meets its contract. Assumes nothing.
 pub returns-in-Refused : goal.returns-in-Refused
 returns-in-Refused c = let told = c.applied-1.given in
     let a = c.args in

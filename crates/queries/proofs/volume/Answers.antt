@@ -11,7 +11,6 @@ use Rattle.queries.proofs.Passes.{measured}
 use Rattle.queries.proofs.Stored.{rings-held}
 use Rattle.queries.proofs.volume.Goals as goal
 
--- `queries::volume` meets its contract. Assumes nothing.
 pub returns-then-not-rings_fit : goal.returns-then-not-rings_fit
 unfolding volume_of
 returns-then-not-rings_fit c = let counted = c.counted-in-Cells-1 in

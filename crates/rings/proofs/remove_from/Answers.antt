@@ -4,7 +4,6 @@ use Rattle.rings.proofs.Tested.{for-stock}
 use borrow.Author.Rules.{rules}
 use Rattle.rings.proofs.remove_from.Goals as goal
 
--- `rings::remove_from` meets its contract. Assumes nothing.
 pub returns-in-Refused : goal.returns-in-Refused
 returns-in-Refused c = let validate = c.validate-counted in
     let counted = c.counted-1 in

@@ -14,7 +14,6 @@ use Rattle.rings.proofs.Tested.{for-empty, for-added}
 use borrow.Author.Rules.{rules}
 use Rattle.rings.proofs.remove_in.Goals as goal
 
--- `rings::remove_in` meets its contract. Assumes nothing.
 pub returns-then-not-count_fits : goal.returns-then-not-count_fits
 returns-then-not-count_fits c = record { takes = refuses-4 c.args.e c.args.rings.now c.args.count c.args.generation c.args.ring (sym c.count_fits.ensures ∙ not-true _ c.if-not-count_fits.true-raw); tests = tt }
 

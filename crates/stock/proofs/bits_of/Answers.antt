@@ -6,7 +6,6 @@ use Rattle.stock.proofs.Passes.{HeldCell}
 use Rattle.stock.proofs.Signs.{ordered-numbers, solid-fits, unordered}
 use Rattle.stock.proofs.bits_of.Goals as goal
 
--- `stock::bits_of` meets its contract. Assumes nothing.
 -- none of the numbers of an ordered cell is a NaN
 no_nan : (x : Float) → is_nan x ≡ false → T (not (is_nan x))
 no_nan x e = rw e tt

@@ -4,7 +4,6 @@ use Rattle.stock.specs.Cell.{between}
 use Rattle.stock.proofs.Passes.{Clear, clear, fits-unsigned, no-fit}
 use Rattle.stock.proofs.cell_passes.Goals as goal
 
--- `stock::cell_passes` meets its contract. Assumes nothing.
 -- none of the bounds is below zero where the comparisons hold
 passed : (c : tie.Start) → between c.args.s c.args.c ≡ true → Clear c.args.c
 passed c t =

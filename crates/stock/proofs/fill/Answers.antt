@@ -7,7 +7,6 @@ use Rattle.stock.proofs.Count.{checked}
 use Rattle.stock.proofs.Fresh.{new_is, left, made}
 use Rattle.stock.proofs.fill.Goals as goal
 
--- `stock::fill` meets its contract. Assumes nothing.
 pub overflow_mul-n : goal.overflow_mul-n
 overflow_mul-n c = omega (arith, (checked _ _ (sym c.validate-counted.ensures ∙ ap counted_paper c.in-Cells.is)).few)
 

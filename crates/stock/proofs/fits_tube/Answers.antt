@@ -4,7 +4,6 @@ use Rattle.stock.proofs.Passes.{HeldCell}
 use Rattle.stock.proofs.Signs.{tube-fits}
 use Rattle.stock.proofs.fits_tube.Goals as goal
 
--- `stock::fits_tube` meets its contract. Assumes nothing.
 held : (c : tie.Start) → HeldCell c.args.c
 held c = let g = c.well-formed in record { outer-lower = search (rules, g); outer-upper = search (rules, g); inner-lower = search (rules, g); inner-upper = search (rules, g) }
 

@@ -8,7 +8,6 @@ use Rattle.stock_file.proofs.Held.{bytes-step, run-stopped}
 use borrow.Author.Rules.{rules}
 use Rattle.stock_file.proofs.take_run.Goals as goal
 
--- `stock_file::take_run` meets its contract. Assumes nothing.
 -- a slice's length is a usize
 few : (c : tie.Start) → length c.args.bytes.now < 2 ^ 64
 few c = omega arith

@@ -7,7 +7,6 @@ use Rattle.stock.proofs.Bins.{HeldSpec}
 use Rattle.change_slices.proofs.Renewed.{answer-refused, answer-raised}
 use Rattle.change_slices.proofs.kept.answer.Goals as goal
 
--- `change_slices::kept::answer` meets its contract. Assumes nothing.
 pub returns-in-Refused : goal.returns-in-Refused
 returns-in-Refused c = let told = c.counted-1.given in
     answer-refused _ _ _ _ _ (reason_of told.0.0) _ (sym c.asked_cells-counted.ensures ∙ ap counted_paper told.1) refl refl

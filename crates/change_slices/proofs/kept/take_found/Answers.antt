@@ -8,7 +8,6 @@ use Rattle.rings.specs.declared.Counts.TheVariants as counts
 use Rattle.change_slices.proofs.Taking.{take_none, take_all}
 use Rattle.change_slices.proofs.kept.take_found.Goals as goal
 
--- `change_slices::kept::take_found` meets its contract. Assumes nothing.
 pub returns-in-Refused : goal.returns-in-Refused
 returns-in-Refused c = let told = c.counted-1.given in
     take_none _ _ _ _ _ _ _ (reason_of told.0.0) (counts.Refused told.0.0) (sym c.cells_fit-counted.ensures ∙ ap counted_paper told.1) refl refl

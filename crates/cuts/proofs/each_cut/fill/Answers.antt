@@ -9,7 +9,6 @@ use Rattle.cuts.proofs.Sweeps.{says-nose}
 use Rattle.cuts.proofs.Tools.{says-nose-sweep, says-polygon-sweep}
 use Rattle.cuts.proofs.each_cut.fill.Goals as goal
 
--- `cuts::each_cut::fill` meets its contract. Assumes nothing.
 pub returns-in-Nose : goal.returns-in-Nose
 returns-in-Nose c = let told = c.sweep-1.given in
     let a = c.args in

@@ -8,7 +8,6 @@ use Rattle.cuts.proofs.Places.{fresh-room, fresh-empty}
 use Rattle.cuts.proofs.Tools.{says-clean-nose, says-polygon-sweep, nose-side, polygon-side, sweep-proposes}
 use Rattle.cuts.proofs.each_cut.swept_long.Goals as goal
 
--- `cuts::each_cut::swept_long` meets its contract. Assumes nothing.
 pub fill-bins-requires : goal.fill-bins-requires
 fill-bins-requires c = let p = c.requires in
     let few = p.0.few in

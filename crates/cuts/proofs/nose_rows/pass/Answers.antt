@@ -7,7 +7,6 @@ use Rattle.cuts.proofs.nose_rows.pass.Goals as goal
 )
 
 
--- `cuts::nose_rows::pass` meets its contract. Assumes nothing.
 pub returns-then-last-first : goal.returns-then-last-first
 returns-then-last-first c = (
   none-reached _ _ _ _ _ c.find-first.ensures c.find-last.ensures c.if-last-first.true _,

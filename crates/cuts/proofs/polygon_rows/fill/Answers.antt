@@ -10,7 +10,6 @@ use Rattle.polygon.proofs.Visits.{visits-range, spanned}
 use Rattle.cuts.proofs.Crossings.{says_none, says-crossed}
 use Rattle.cuts.proofs.polygon_rows.fill.Goals as goal
 
--- `cuts::polygon_rows::fill` meets its contract. Assumes nothing.
 pub returns-in_default : goal.returns-in_default
 unfolding extent_paper
 returns-in_default c = says_none _ _ _ _ _ (sym c.extent_of-extent.ensures ∙ ap extent_paper c.in_default.is)

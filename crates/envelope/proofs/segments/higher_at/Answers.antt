@@ -9,7 +9,6 @@ use Rattle.envelope.specs.Halving.{radius_of}
 use Rattle.envelope.proofs.Aside.{none-higher}
 use Rattle.envelope.proofs.segments.higher_at.Goals as goal
 
--- `envelope::segments::higher_at` meets its contract. Assumes nothing.
 u-held : (c : tie.Start) → T (fits binary64 c.args.u)
 u-held c = search rules
 

@@ -9,7 +9,6 @@ use Rattle.envelope.specs.Halving.{found_radii}
 use Rattle.envelope.proofs.Aside.{adds-no-radii}
 use Rattle.envelope.proofs.segments.taken_from.Goals as goal
 
--- `envelope::segments::taken_from` meets its contract. Assumes nothing.
 lo-held : (c : tie.Start) → T (fits binary64 c.args.lo)
 lo-held c = search rules
 

@@ -5,7 +5,6 @@ use Rattle.rings.specs.Remove.{removed_paper}
 use Rattle.job_run.proofs.Carrying.{ring-refused, ring-went}
 use Rattle.job_run.proofs.line.take_ring.Goals as goal
 
--- `job_run::line::take_ring` meets its contract. Assumes nothing.
 pub returns-in-Refused : goal.returns-in-Refused
 returns-in-Refused c = let told = c.removed-1.given in
     ring-refused _ _ _ _ _ _ c.remove_ring-removed.ensures told.0.0 (reason_of told.0.0) refl (ap removed_paper told.1)

@@ -7,7 +7,6 @@ use Rattle.stock.specs.Spec.{counted_paper}
 use Rattle.passes.proofs.Proposals.{left, proposed, targets-reach, nose-test, of-cells, of-targets, of-nose, of-all}
 use Rattle.passes.proofs.propose.propose.Goals as goal
 
--- `passes::propose::propose` meets its contract. Assumes nothing.
 pub returns-then-not-are_good : goal.returns-then-not-are_good
 returns-then-not-are_good c = left _ _ _ _ _ (of-targets _ _ _ _ _ c.in-Cells.n (sym c.cells_fit-counted.ensures ∙ ap counted_paper c.in-Cells.is) (sym c.are_good.ensures ∙ not-true _ c.if-not-are_good.true-raw))
 

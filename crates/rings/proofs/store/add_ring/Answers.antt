@@ -7,7 +7,6 @@ use Rattle.rings.proofs.Tested.{tests-empty, tests-whole}
 use borrow.Author.Rules.{rules}
 use Rattle.rings.proofs.store.add_ring.Goals as goal
 
--- `rings::store::add_ring` meets its contract. Assumes nothing.
 pub returns-then-not-is_filled : goal.returns-then-not-is_filled
 returns-then-not-is_filled c = let empty = sym c.is_filled.ensures ∙ not-true _ c.if-not-is_filled.true-raw in
     record { stores = adds_none c.args.rings.now c.args.room c.args.count c.args.c c.requires.0 c.requires.1 empty; tests = sym (tests-empty c.args.c _ empty) }

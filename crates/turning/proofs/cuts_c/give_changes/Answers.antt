@@ -5,7 +5,6 @@ use Rattle.changes.specs.Change.{previewed_paper}
 use Rattle.turning.proofs.Given.{list-refused, list-given}
 use Rattle.turning.proofs.cuts_c.give_changes.Goals as goal
 
--- `turning::cuts_c::give_changes` meets its contract. Assumes nothing.
 pub returns-in-Refused : goal.returns-in-Refused
 returns-in-Refused c = let told = c.answer-1.given in list-refused _ told.0.0 _ _ _ _ (ap previewed_paper told.1) c.number.ensures
 

@@ -7,7 +7,6 @@ use Rattle.turning.specs.Boundary.{generation_in}
 use Rattle.turning.proofs.Given.{place-refused, place-given}
 use Rattle.turning.proofs.cuts_c.give_generation.Goals as goal
 
--- `turning::cuts_c::give_generation` meets its contract. Assumes nothing.
 pub returns-in-Refused : goal.returns-in-Refused
 returns-in-Refused c = let told = c.answer-1.given in place-refused _ told.0.0 _ _ _ (ap (λ (x : Applied). generation_in (applied_paper x)) told.1) c.number.ensures
 

@@ -5,7 +5,6 @@ use Rattle.stock_file.specs.Read.{kept_paper}
 use Rattle.turning.proofs.Filing.{kept-given, kept-refused, kept-refused-at}
 use Rattle.turning.proofs.file_c.give_kept.Goals as goal
 
--- `turning::file_c::give_kept` meets its contract. Assumes nothing.
 pub returns-in-Refused : goal.returns-in-Refused
 returns-in-Refused c = let told = c.answer-1.given in kept-refused _ told.0.0 _ _ _ _ _ (ap kept_paper told.1) c.number.ensures
 

@@ -5,7 +5,6 @@ use Rattle.passes.specs.Check.{checked_paper}
 use Rattle.turning.proofs.Passing.{said-yes, said-cut, said-bin, said-refused}
 use Rattle.turning.proofs.passes_c.give_checked.Goals as goal
 
--- `turning::passes_c::give_checked` meets its contract. Assumes nothing.
 pub returns-in-Refused : goal.returns-in-Refused
 returns-in-Refused c = let told = c.answer-1.given in said-refused _ _ _ _ _ _ told.0.0 _ (ap checked_paper told.1) c.number.ensures
 

@@ -5,7 +5,6 @@ use Rattle.moves.specs.Move.{moved_paper}
 use Rattle.turning.proofs.Given.{two-answered, two-refused, two-given}
 use Rattle.turning.proofs.rings_c.give_moved.Goals as goal
 
--- `turning::rings_c::give_moved` meets its contract. Assumes nothing.
 pub returns-in-Refused : goal.returns-in-Refused
 returns-in-Refused c = let told = c.answer-1.given in two-refused _ _ _ told.0.0 _ _ _ _ (ap moved_paper told.1) c.number.ensures
 

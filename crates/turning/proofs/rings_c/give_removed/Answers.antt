@@ -8,7 +8,6 @@ use Rattle.turning.specs.Boundary.{out_of}
 use Rattle.turning.proofs.Given.{two-answered, two-refused, two-given}
 use Rattle.turning.proofs.rings_c.give_removed.Goals as goal
 
--- `turning::rings_c::give_removed` meets its contract. Assumes nothing.
 pub returns-in-Refused : goal.returns-in-Refused
 returns-in-Refused c = let told = c.answer-1.given in
     record { stock = two-refused _ _ _ told.0.0 _ _ _ _ (ap removed_paper told.1) c.number.ensures; tests = sym (ap (λ (a : Removed). out_of (λ (n : ℕ). n) (removed_tests a) c.args.tests.now) told.1) }

@@ -8,7 +8,6 @@ use Rattle.stock.proofs.Count.{checked}
 use Rattle.turning.proofs.Blocks.{room-refused, room-cells, room-blocks, room-held}
 use Rattle.turning.proofs.stock_c.room_for.Goals as goal
 
--- `turning::stock_c::room_for` meets its contract. Assumes nothing.
 pub overflow_mul-n : goal.overflow_mul-n
 overflow_mul-n c = omega (arith, (checked _ _ (sym c.validate-counted.ensures ∙ ap counted_paper c.in-Cells.is)).few)
 
