@@ -22,6 +22,9 @@ def split_decls(text):
     """Splits into use lines and declarations, each with the comments above it."""
     uses, decls, pending, cur = [], [], [], None
     for line in text.split("\n"):
+        if cur is not None and line[:1] in (")", "]", "}"):
+            cur["lines"].append(line)
+            continue
         if cur is None or re.match(r"\S", line):
             if line.startswith("use ") or line.startswith("pub use "):
                 uses.append(line)
@@ -89,6 +92,7 @@ class Function:
         self.changed = d["changed"]
         self.typed = d["typed"]
         self.flags = []
+        self.newplaces = d["places_by_name"]
 
     def need(self, old):
         o = norm(re.sub(r"^Need-", "", old))
@@ -163,10 +167,32 @@ class Function:
             k = self.parent(k)
         return False
 
-    def body(self, text, var, at):
+    def ups(self, at, to):
+        n = 0
+        while at is not None and at != to:
+            at = self.parent(at)
+            n += 1
+        return n if at is not None else None
+
+    def body(self, text, var, at, helpers={}):
         """Respells the paths of a body whose record `var` is at the place `at`."""
         names = {var: at}
         text = re.sub(r"[ \t]+\n", "\n", text)
+        prefix = {}
+
+        def call(m):
+            h, v, path = m.group(1), m.group(2), m.group(3)
+            if v not in names:
+                return m.group(0)
+            n = self.ups(at, helpers[h])
+            if n is None:
+                self.flags.append("cannot reach the place of " + h)
+                return m.group(0)
+            return f"{h} \u0001" + ".before" * n
+
+        if helpers:
+            hp = "|".join(re.escape(h) for h in sorted(helpers, key=len, reverse=True))
+            early = re.compile(r"(?<![\w'.·-])(%s) (%s|[a-z]\w*'*)((?:\.before)*)(?![\w'.-])" % (hp, re.escape(var)))
 
         def one(m):
             v = m.group(1)
@@ -180,6 +206,13 @@ class Function:
 
         # let-bound places first, in order
         pat = re.compile(r"(?<![\w'.·-])(%s)((?:\.%s)+)" % (r"[A-Za-z_₀-₉'\w]+", r"[\w'-]+"))
+        for m in list(re.finditer(r"let (\w+'*) = (\w+'*)((?:\.[\w'-]+)+) in\s*", text)):
+            fields = m.group(3)[1:].split(".")
+            if m.group(2) == var and fields[-1] == "given":
+                prefix[m.group(1)] = fields
+                text = text.replace(m.group(0), "")
+        for v, fields in prefix.items():
+            text = re.sub(r"(?<![\w'.·-])%s\.(?=[\w])" % re.escape(v), var + "." + ".".join(fields) + ".", text)
         while True:
             m = re.search(r"let (\w+'*) = (\w+'*)((?:\.before)+) in\s*", text)
             if not m or m.group(2) not in names:
@@ -192,9 +225,11 @@ class Function:
             where, _ = self.chain(var, names[m.group(2)], m.group(3)[1:].split("."))
             names[m.group(1)] = where
             text = text[: m.start()] + text[m.end():]
-        # inner lets inside lambdas may hide names: flagged by the check
+        if helpers:
+            text = early.sub(call, text)
         text = pat.sub(one, text)
         text = re.sub(r"@(\d+)", var, text)
+        text = text.replace("\u0001", var)
         for n in names:
             if n != var and re.search(r"(?<![\w'.·-])%s(?![\w'-])" % re.escape(n), text):
                 text = re.sub(r"(?<![\w'.·-])%s(?![\w'-])" % re.escape(n), var, text)
@@ -239,6 +274,13 @@ def convert(root, crate, names, folder):
     if k != len(f.needs):
         pass
     goalname = {}
+    helpers, places_used = {}, []
+    for d in decls:
+        h = re.match(r"(%s) : \(c : tie\.(%s)((?: [\w'-]+)*)\) → " % (W, W), d["lines"][0])
+        if d is not top and h and not any(d["name"] == sl[-1] for sl in slots if sl[0] == "need"):
+            q = f.index.get(norm(h.group(2)))
+            if q is not None:
+                helpers[d["name"]] = q
     for s in slots:
         if s[0] == "inv":
             d = s[1]
@@ -328,7 +370,7 @@ def convert(root, crate, names, folder):
                 continue
             if "search" not in body and "grind" not in body and "simp" not in body:
                 pass
-        body = f.body(body, var, place)
+        body = f.body(body, var, place, helpers)
         if body.strip() in ("search rules", "omega arith") and not unf:
             continue
         if re.match(r"(enum_|known_told|shared_slice|way_told|enum-|element_)", new) and body.strip() == "search rules":
@@ -338,6 +380,12 @@ def convert(root, crate, names, folder):
         if d is top or d["name"] in used:
             continue
         t = "\n".join(d["notes"] + d["lines"])
+        if d["name"] in helpers:
+            q = helpers[d["name"]]
+            new = f.newplaces[q]
+            places_used.append(new)
+            t = re.sub(r"\(c : tie\.%s(?: [\w'-]+)*\)" % W, f"(c : {new})", t, 1)
+            t = f.body(t, "c", q, {h: k for h, k in helpers.items() if h != d["name"]})
         if "tie." in t:
             f.flags.append("helper over a place: " + d["name"])
         other.append(t)
@@ -354,7 +402,8 @@ def convert(root, crate, names, folder):
         other = [o for o in other if o not in helpers]
     if ans or other:
         other, ans = [undoubled(head, it) for it in other], [undoubled(head, it) for it in ans]
-        out = head + keep + [f"use Rattle.{crate}.proofs.{rel}.Goals as goal", ""] + ["\n\n".join(other + ans), ""]
+        more = [f"use Rattle.{crate}.proofs.{rel}.Goals.{{{', '.join(sorted(set(places_used)))}}}"] if places_used else []
+        out = head + keep + [f"use Rattle.{crate}.proofs.{rel}.Goals as goal"] + more + [""] + ["\n\n".join(other + ans), ""]
         open(os.path.join(folder, "Answers.antt"), "w", encoding="utf-8").write("\n".join(out))
     os.remove(path)
     return "; ".join(f.flags) if f.flags else None

@@ -15,8 +15,7 @@ returns-then-matches c = let told = c.counted-in-Cells-1.given in
     (ap (λ (x : TurnStockSpec). matches_of x told.0.0 args.cells.now args.blocks.now) (sym c.clean_spec.ensures) ∙ sym c.matches.ensures ∙ c.if-matches.true)
 
 pub returns-in-Refused : goal.returns-in-Refused
-returns-in-Refused c = let told = c.counted-1.given in
-    kept-refused _ _ _ (reason_of told.0.0) (sym c.cells_fit-counted.ensures ∙ ap counted_paper told.1)
+returns-in-Refused c = kept-refused _ _ _ (reason_of c.in-Refused.r) (sym c.cells_fit-counted.ensures ∙ ap counted_paper c.in-Refused.is)
 
 pub returns-else-matches : goal.returns-else-matches
 returns-else-matches c = let told = c.counted-in-Cells-1.given in

@@ -13,13 +13,10 @@ list_differences-requires c = let first = c.counted-in-Cells-1.given in
     both-held _ _ _ first.0.0 told.0.0 (sym c.cells_fit-counted.ensures ∙ ap counted_paper first.1) (sym c.cells_fit-other.ensures ∙ ap counted_paper told.1)
 
 pub returns-in-Refused : goal.returns-in-Refused
-returns-in-Refused c = let told = c.counted-1.given in
-    left _ told.0.0 _ _ (differ-refused _ _ _ _ (reason_of told.0.0) (sym c.cells_fit-counted.ensures ∙ ap counted_paper told.1))
+returns-in-Refused c = left _ c.in-Refused.r _ _ (differ-refused _ _ _ _ (reason_of c.in-Refused.r) (sym c.cells_fit-counted.ensures ∙ ap counted_paper c.in-Refused.is))
 
 pub returns-in-Refused-other : goal.returns-in-Refused-other
-returns-in-Refused-other c = let first = c.counted-in-Cells-1.given in
-    let told = c.other-1.given in
-    left _ told.0.0 _ _ (differ-other _ _ _ _ first.0.0 (reason_of told.0.0) (sym c.cells_fit-counted.ensures ∙ ap counted_paper first.1) (sym c.cells_fit-other.ensures ∙ ap counted_paper told.1))
+returns-in-Refused-other c = left _ c.in-Refused-other.r _ _ (differ-other _ _ _ _ c.in-Cells.n (reason_of c.in-Refused-other.r) (sym c.cells_fit-counted.ensures ∙ ap counted_paper c.in-Cells.is) (sym c.cells_fit-other.ensures ∙ ap counted_paper c.in-Refused-other.is))
 
 pub returns-in-Cells-other : goal.returns-in-Cells-other
 returns-in-Cells-other c = let first = c.counted-in-Cells-1.given in

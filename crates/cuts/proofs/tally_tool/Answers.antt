@@ -22,8 +22,7 @@ tool_in-requires c = let told = c.counted-in-Cells-1.given in
     ready a.spec _ _ _ held c.clean_spec.ensures (sym c.cells_fit-counted.ensures ∙ ap counted_paper told.1)
 
 pub returns-in-Refused : goal.returns-in-Refused
-returns-in-Refused c = let told = c.counted-1.given in
-    left _ told.0.0 _ _ (tool-refused _ _ _ _ _ (reason_of told.0.0) (sym c.cells_fit-counted.ensures ∙ ap counted_paper told.1))
+returns-in-Refused c = left _ c.in-Refused.r _ _ (tool-refused _ _ _ _ _ (reason_of c.in-Refused.r) (sym c.cells_fit-counted.ensures ∙ ap counted_paper c.in-Refused.is))
 
 pub returns-else-not-tool_inside : goal.returns-else-not-tool_inside
 returns-else-not-tool_inside c = let told = c.counted-in-Cells-1.given in

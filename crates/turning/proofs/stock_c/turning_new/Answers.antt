@@ -6,8 +6,7 @@ use Rattle.turning.proofs.Blocks.{no_cells, gives-cells, same_new}
 use Rattle.turning.proofs.stock_c.turning_new.Goals as goal
 
 pub returns-in-Refused : goal.returns-in-Refused
-returns-in-Refused c = let told = c.counted-1.given in
-    same_new _ _ _ _ _ _ _ _ _ c.spec_of-spec.ensures (no_cells _ told.0.0 _ _ _ _ (sym c.room_for-counted.ensures ∙ ap counted_paper told.1) c.number.ensures)
+returns-in-Refused c = same_new _ _ _ _ _ _ _ _ _ c.spec_of-spec.ensures (no_cells _ c.in-Refused.r _ _ _ _ (sym c.room_for-counted.ensures ∙ ap counted_paper c.in-Refused.is) c.number.ensures)
 
 pub returns-in-Cells : goal.returns-in-Cells
 returns-in-Cells c = let told = c.counted-in-Cells-1.given in
