@@ -208,7 +208,7 @@ class Function:
         pat = re.compile(r"(?<![\w'.·-])(%s)((?:\.%s)+)" % (r"[A-Za-z_₀-₉'\w]+", r"[\w'-]+"))
         for m in list(re.finditer(r"let (\w+'*) = (\w+'*)((?:\.[\w'-]+)+) in\s*", text)):
             fields = m.group(3)[1:].split(".")
-            if m.group(2) == var and fields[-1] == "given":
+            if m.group(2) == var and (fields[-1] == "given" or re.search(r"(?<![\w'.·-])%s\.given" % re.escape(m.group(1)), text)):
                 prefix[m.group(1)] = fields
                 text = text.replace(m.group(0), "")
         for v, fields in prefix.items():

@@ -13,8 +13,7 @@ use Rattle.queries.proofs.volume.Goals as goal
 
 pub returns-then-not-rings_fit : goal.returns-then-not-rings_fit
 unfolding volume_of
-returns-then-not-rings_fit c = let counted = c.counted-in-Cells-1 in
-    search (papers, ← c.cells_fit-counted.ensures, counted.given.1, sym c.rings_fit.ensures ∙ not-true _ c.if-not-rings_fit.true-raw)
+returns-then-not-rings_fit c = search (papers, ← c.cells_fit-counted.ensures, c.in-Cells.is, sym c.rings_fit.ensures ∙ not-true _ c.if-not-rings_fit.true-raw)
 
 pub sums-all-requires : goal.sums-all-requires
 sums-all-requires c = let counted = c.counted-in-Cells-1.given in

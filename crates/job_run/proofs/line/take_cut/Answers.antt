@@ -18,4 +18,4 @@ returns-in-RefusedAt c = let j = c.args.job in
 
 pub returns-in-Stock : goal.returns-in-Stock
 returns-in-Stock c = let j = c.args.job in
-    (cut-went _ _ _ _ _ c.places-end.ensures _ _ c.make_cut-applied.ensures.0 _ c.in-Stock.is c.make_cut-applied.auto.1.0, lists_of j _ _ _ _ c.places-end.ensures _ _ _ _ c.make_cut-applied.ensures.1)
+    (cut-went _ _ _ _ _ c.places-end.ensures _ _ c.make_cut-applied.ensures.0 _ c.in-Stock.is c.make_cut-applied.auto.cells, lists_of j _ _ _ _ c.places-end.ensures _ _ _ _ c.make_cut-applied.ensures.1)

@@ -16,12 +16,12 @@ returns-then-not-apart_from c = c.add_few_pieces.ensures
 
 pub returns-then-room-count : goal.returns-then-room-count
 returns-then-room-count c = record {
-  stores = adds-full c.args.rings.now c.args.room c.args.count c.args.c c.requires.0 c.requires.1 (sym c.is_filled.ensures ∙ not-false _ c.if-not-is_filled.false) (sym c.apart_from.ensures ∙ not-false _ c.if-not-apart_from.false-raw) c.if-room-count.true;
+  stores = adds-full c.args.rings.now c.args.room c.args.count c.args.c c.requires.0 c.requires.1 (sym c.is_filled.ensures ∙ c.if-not-is_filled.false) (sym c.apart_from.ensures ∙ not-false _ c.if-not-apart_from.false-raw) c.if-room-count.true;
   tests = tt;
 }
 
 pub returns : goal.returns
-returns c = let full = sym c.is_filled.ensures ∙ not-false _ c.if-not-is_filled.false in
+returns c = let full = sym c.is_filled.ensures ∙ c.if-not-is_filled.false in
     let apart = sym c.apart_from.ensures ∙ not-false _ c.if-not-apart_from.false-raw in
     let k = adds-whole c.args.rings.now c.args.room c.args.count c.args.c c.requires.0 c.requires.1 full apart c.if-room-count.false in
     record {
