@@ -92,6 +92,7 @@ class Function:
         self.changed = d["changed"]
         self.typed = d["typed"]
         self.flags = []
+        self.params = d["params"]
         self.newplaces = d["places_by_name"]
 
     def need(self, old):
@@ -156,8 +157,13 @@ class Function:
         ren = dict((norm(a), b) for a, b in self.places[q][4] if True)
         if rest and norm(rest[0]) in ren:
             rest = [ren[norm(rest[0])]] + rest[1:]
-        if rest and rest[0] == "branch":
-            rest = ["branch-raw"] + rest[1:] if False else rest
+        if len(rest) > 1 and rest[0] == "auto" and rest[1].isdigit():
+            n, k = 0, 1
+            while k < len(rest) and rest[k] == "1":
+                n, k = n + 1, k + 1
+            names_of = self.params.get(self.places[q][3] or "", [])
+            if n < len(names_of):
+                rest = ["auto", names_of[n]] + rest[k + 1:]
         return at, ".".join([var, new] + rest)
 
     def descends(self, k, q):
@@ -198,7 +204,7 @@ class Function:
             v = m.group(1)
             if v not in names:
                 return m.group(0)
-            path = m.group(2)[1:].split(".")
+            path = prefix.get(v, []) + m.group(2)[1:].split(".")
             where, new = self.chain(var, names[v], path)
             if new is None:
                 return "@" + str(where)
@@ -206,25 +212,27 @@ class Function:
 
         # let-bound places first, in order
         pat = re.compile(r"(?<![\w'.·-])(%s)((?:\.%s)+)" % (r"[A-Za-z_₀-₉'\w]+", r"[\w'-]+"))
-        for m in list(re.finditer(r"let (\w+'*) = (\w+'*)((?:\.[\w'-]+)+) in\s*", text)):
-            fields = m.group(3)[1:].split(".")
-            if m.group(2) == var and (fields[-1] == "given" or re.search(r"(?<![\w'.·-])%s\.given" % re.escape(m.group(1)), text)):
-                prefix[m.group(1)] = fields
-                text = text.replace(m.group(0), "")
-        for v, fields in prefix.items():
-            text = re.sub(r"(?<![\w'.·-])%s\.(?=[\w])" % re.escape(v), var + "." + ".".join(fields) + ".", text)
+        spot = 0
         while True:
-            m = re.search(r"let (\w+'*) = (\w+'*)((?:\.before)+) in\s*", text)
-            if not m or m.group(2) not in names:
-                m2 = re.search(r"let (\w+'*) = (%s) in\s*" % re.escape(var), text)
-                if m2:
-                    names[m2.group(1)] = names[var]
-                    text = text[: m2.start()] + text[m2.end():]
-                    continue
+            m = re.compile(r"let (\w+'*) = (\w+'*)((?:\.[\w'-]+)*) in\s*").search(text, spot)
+            if not m:
                 break
-            where, _ = self.chain(var, names[m.group(2)], m.group(3)[1:].split("."))
-            names[m.group(1)] = where
+            spot = m.end()
+            if m.group(2) not in names:
+                continue
+            fields = prefix.get(m.group(2), []) + (m.group(3)[1:].split(".") if m.group(3) else [])
+            base = names[m.group(2)]
+            if all(it == "before" for it in fields):
+                for _ in fields:
+                    up = self.parent(base) if base is not None else None
+                    base = up if up is not None else base
+                names[m.group(1)] = base
+            elif fields[-1] == "given" or re.search(r"(?<![\w'.·-])%s\.given" % re.escape(m.group(1)), text):
+                names[m.group(1)], prefix[m.group(1)] = base, fields
+            else:
+                continue
             text = text[: m.start()] + text[m.end():]
+            spot = m.start()
         if helpers:
             text = early.sub(call, text)
         text = pat.sub(one, text)
