@@ -7,6 +7,8 @@
 //
 // No contract can say which bytes the C library's `read` and `write` move: theirs are assumed, here
 // and in the programs above.
+#![tactic(auto)]
+
 ghost use Rattle.std.specs.Prelude.{◌≡◌, ◌++◌, ◌+◌, ◌≤◌, length, take, true, false};
 ghost use Rattle.streams.specs.Moves.{Reads, Takes, SameFront, Puts};
 
