@@ -2,8 +2,8 @@
 // or tells the one refusal.
 use streams::GATHERED;
 
-fn main() {
+fn main(rt: HostRuntime) {
     let mut gathered = [0u8; GATHERED];
-    let out = chop_lines::chop(0, 1, &mut gathered);
-    streams::flush(1, out, &gathered);
+    let out = chop_lines::chop(&rt, &mut rt.stdin(), &mut rt.stdout(), &mut gathered);
+    streams::flush(&rt, &mut rt.stdout(), out, &gathered);
 }

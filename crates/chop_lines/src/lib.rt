@@ -16,6 +16,8 @@ ghost use Rattle.chop_lines.specs.Chopped.{text_of, AllPut, ChopsSome};
 
 use profile::Chopped;
 use scan::{LINE_LIMIT, NUMBERS, Scan};
+use std::io::Write;
+use std::rt::Clock;
 use streams::{GATHERED, Got, Out};
 
 // Five numbers for each of 4,096 chords.
@@ -72,7 +74,8 @@ fn held_by(got: Got, len: usize) -> usize
 
 // Reads once, and takes what came.
 fn take_some(
-    fd: i32,
+    rt: &(impl Eprint + Clock),
+    from: &mut impl std::io::Read,
     scan: Scan,
     numbers: &mut [f64],
     points: usize,
@@ -83,7 +86,7 @@ fn take_some(
     ensures { ReadsOn scan points len numbers line result.scan result.points result.len }
 {
     let mut buf = io::large_buffer();
-    let got = streams::read_some(fd, &mut buf);
+    let got = streams::read_some(rt, from, &mut buf);
     let n = brought(got);
     let taken = scan::take_bytes(scan, numbers, points, line, len, text::front(&buf, n));
     let after = taken.scan;
@@ -96,7 +99,12 @@ fn take_some(
 }
 
 // Reads a profile to the end of its input.
-fn read_profile(fd: i32, numbers: &mut [f64], line: &mut [u8]) -> Read
+fn read_profile(
+    rt: &(impl Eprint + Clock),
+    from: &mut impl std::io::Read,
+    numbers: &mut [f64],
+    line: &mut [u8],
+) -> Read
     requires { ScanRoom numbers.old line.old }
     ensures { ReadsSome (state result.scan (take (3 * result.points) numbers.new)) }
 {
@@ -105,7 +113,7 @@ fn read_profile(fd: i32, numbers: &mut [f64], line: &mut [u8]) -> Read
     let mut len: usize = 0;
     let mut turns = u64::MAX;
     loop {
-        let t = take_some(fd, scan, numbers, points, line, len);
+        let t = take_some(rt, from, scan, numbers, points, line, len);
         scan = t.scan;
         points = t.points;
         len = t.len;
@@ -138,11 +146,17 @@ fn first(numbers: &[f64], n: usize) -> &[f64]
 }
 
 // Gathers what the points of a scan become.
-fn put_text(fd: i32, gathered: &mut [u8; GATHERED], scan: Scan, points: &[f64]) -> Out
+fn put_text(
+    rt: &(impl Eprint + Clock),
+    to: &mut impl Write,
+    gathered: &mut [u8; GATHERED],
+    scan: Scan,
+    points: &[f64],
+) -> Out
     ensures { AllPut (text_of (state scan points.now)) result gathered.new }
 {
     if scan.refused != 0 {
-        return spell::put_refused(fd, gathered, scan.lines, scan.refused);
+        return spell::put_refused(rt, to, gathered, scan.lines, scan.refused);
     }
     let side = scan.side;
     let mut chords = [0.0f64; CHORD_NUMBERS];
@@ -150,20 +164,25 @@ fn put_text(fd: i32, gathered: &mut [u8; GATHERED], scan: Scan, points: &[f64]) 
     match chopped {
         Chopped::Refused(r) => {
             let number = refusals::number(r);
-            spell::put_refused(fd, gathered, scan.lines, number as u64)
+            spell::put_refused(rt, to, gathered, scan.lines, number as u64)
         }
-        Chopped::Chords(n) => spell::put_chords(fd, gathered, side, scan.rn, &chords, n),
+        Chopped::Chords(n) => spell::put_chords(rt, to, gathered, side, scan.rn, &chords, n),
     }
 }
 
 // Reads a profile from a descriptor, and gathers what it becomes for another, to which it writes what
 // finds no room.
-pub fn chop(from: i32, to: i32, gathered: &mut [u8; GATHERED]) -> Out
+pub fn chop(
+    rt: &(impl Eprint + Clock),
+    from: &mut impl std::io::Read,
+    to: &mut impl Write,
+    gathered: &mut [u8; GATHERED],
+) -> Out
     ensures { ChopsSome result gathered.new }
 {
     let mut numbers = [0.0f64; NUMBERS];
     let mut line = [0u8; LINE_LIMIT];
-    let read = read_profile(from, &mut numbers, &mut line);
+    let read = read_profile(rt, from, &mut numbers, &mut line);
     let scan = read.scan;
-    put_text(to, gathered, scan, first(&numbers, read.points))
+    put_text(rt, to, gathered, scan, first(&numbers, read.points))
 }

@@ -8,6 +8,8 @@ ghost use Rattle.chop_lines.specs.Spelled.{line_words, front_text, ends_text, ch
 ghost use Rattle.chop_lines.specs.Chopped.{AllPut};
 
 use crate::number::{put_field, sag_up};
+use std::io::Write;
+use std::rt::Clock;
 use stock::TurnSide;
 use streams::{GATHERED, Out};
 use text::LINE_ROOM;
@@ -45,7 +47,8 @@ fn ends_text(out: &mut [u8; LINE_ROOM], ar: f64, az: f64, br: f64, bz: f64) -> u
 
 // Gathers the first piece.
 fn put_front(
-    fd: i32,
+    rt: &(impl Eprint + Clock),
+    to: &mut impl Write,
     out: Out,
     gathered: &mut [u8; GATHERED],
     side: TurnSide,
@@ -56,12 +59,13 @@ fn put_front(
 {
     let mut line = [0u8; LINE_ROOM];
     let end = front_text(&mut line, side, rn, sag);
-    streams::put(fd, out, gathered, &line[..end])
+    streams::put(rt, to, out, gathered, &line[..end])
 }
 
 // Gathers the second.
 fn put_ends(
-    fd: i32,
+    rt: &(impl Eprint + Clock),
+    to: &mut impl Write,
     out: Out,
     gathered: &mut [u8; GATHERED],
     ar: f64,
@@ -73,12 +77,13 @@ fn put_ends(
 {
     let mut line = [0u8; LINE_ROOM];
     let end = ends_text(&mut line, ar, az, br, bz);
-    streams::put(fd, out, gathered, &line[..end])
+    streams::put(rt, to, out, gathered, &line[..end])
 }
 
 // Gathers the line of chord k.
 fn put_chord(
-    fd: i32,
+    rt: &(impl Eprint + Clock),
+    to: &mut impl Write,
     out: Out,
     gathered: &mut [u8; GATHERED],
     side: TurnSide,
@@ -90,9 +95,10 @@ fn put_chord(
     ensures { Puts out gathered.old (chord_text side rn chords.now k) result gathered.new }
 {
     let at = 5 * k;
-    let next = put_front(fd, out, gathered, side, rn, chords[at + 4]);
+    let next = put_front(rt, to, out, gathered, side, rn, chords[at + 4]);
     put_ends(
-        fd,
+        rt,
+        to,
         next,
         gathered,
         chords[at],
@@ -104,7 +110,8 @@ fn put_chord(
 
 // Gathers the lines of the first n chords.
 pub fn put_chords(
-    fd: i32,
+    rt: &(impl Eprint + Clock),
+    to: &mut impl Write,
     gathered: &mut [u8; GATHERED],
     side: TurnSide,
     rn: f64,
@@ -117,17 +124,23 @@ pub fn put_chords(
     let mut out = streams::fresh();
     let mut k: usize = 0;
     while k < n {
-        out = put_chord(fd, out, gathered, side, rn, chords, k);
+        out = put_chord(rt, to, out, gathered, side, rn, chords, k);
         k += 1;
     }
     out
 }
 
 // Gathers a refusal.
-pub fn put_refused(fd: i32, gathered: &mut [u8; GATHERED], line: u64, number: u64) -> Out
+pub fn put_refused(
+    rt: &(impl Eprint + Clock),
+    to: &mut impl Write,
+    gathered: &mut [u8; GATHERED],
+    line: u64,
+    number: u64,
+) -> Out
     ensures { AllPut (refused_line line number) result gathered.new }
 {
     let mut own = [0u8; LINE_ROOM];
     let end = job_answer::refused_line(&mut own, line, number);
-    streams::put(fd, streams::fresh(), gathered, &own[..end])
+    streams::put(rt, to, streams::fresh(), gathered, &own[..end])
 }

@@ -1,4 +1,5 @@
 // The edition of the stock that is kept: the third argument's, or that of the stock that is gone on with.
+use std::rt::Env;
 use stock::{Stamp, TurnStock};
 use text::Eight;
 
@@ -19,12 +20,12 @@ fn given(field: &[u8]) -> Asked {
 }
 
 // The third argument, where there is one.
-pub fn third_argument() -> Asked {
-    if os::arg_count() < 4 {
+pub fn third_argument(rt: &impl Env) -> Asked {
+    if streams::argument_count(rt) < 4 {
         return Asked::AsRead;
     }
     let mut field = io::buffer();
-    let n = os::arg(3, &mut field);
+    let n = streams::argument(rt, 3, &mut field);
     given(&field[..n])
 }
 

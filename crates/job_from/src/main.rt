@@ -46,29 +46,39 @@ fn start_of(kept: Kept, asked: Asked) -> Start {
 }
 
 // The stock in the file of that name.
-fn open_stock(path: &[u8], asked: Asked, cells: &mut [f64], rings: &mut [f64]) -> Start {
-    let fd = os::open_read(path);
-    if fd < 0 {
-        os::fail(b"FROM");
-        return no_file();
+fn open_stock(
+    rt: &HostRuntime,
+    path: &[u8],
+    asked: Asked,
+    cells: &mut [f64],
+    rings: &mut [f64],
+) -> Start {
+    let opened = streams::open(rt, path);
+    match opened {
+        Ok(mut file) => {
+            let part = stock_streams::PART;
+            let kept = stock_streams::read_stock(rt, &mut file, part, MAX_CELLS, cells, rings);
+            start_of(kept, asked)
+        }
+        Err(e) => {
+            streams::fail(rt, "FROM", e);
+            no_file()
+        }
     }
-    let kept = stock_streams::read_stock(fd, stock_streams::PART, MAX_CELLS, cells, rings);
-    libc::close(fd);
-    start_of(kept, asked)
 }
 
 // What the first argument names.
-fn read_from(asked: Asked, cells: &mut [f64], rings: &mut [f64]) -> Start {
-    if os::arg_count() < 3 {
-        say::usage();
+fn read_from(rt: &HostRuntime, asked: Asked, cells: &mut [f64], rings: &mut [f64]) -> Start {
+    if streams::argument_count(rt) < 3 {
+        say::usage(rt);
         return no_file();
     }
     let mut path = io::buffer();
-    let n = os::arg(1, &mut path);
+    let n = streams::argument(rt, 1, &mut path);
     if say::is_none(&path[..n]) {
         return Start::On(job_run::fresh(edition::or_read(asked, 0)));
     }
-    open_stock(&path[..n], asked, cells, rings)
+    open_stock(rt, &path[..n], asked, cells, rings)
 }
 
 // What a job is read on: after a refused stock file it is read for its writer's sake alone.
@@ -81,6 +91,7 @@ fn run_of(start: Start) -> Run {
 
 // A job at its end: what it leaves is kept, and then told.
 fn end_job(
+    rt: &HostRuntime,
     ended: Ended,
     cells: &[f64; CELL_NUMBERS],
     rings: &[f64; RING_NUMBERS],
@@ -88,37 +99,45 @@ fn end_job(
 ) {
     let run = ended.run;
     if run.refused == 0 {
-        if !keep::keep(run, cells, rings) {
-            say::unwritten();
+        if !keep::keep(rt, run, cells, rings) {
+            say::unwritten(rt);
             return;
         }
     }
-    job_streams::write_answer(1, run, cells, rings);
-    job_help::write_why(2, ended, line);
+    job_streams::write_answer(rt, &mut rt.stdout(), run, cells, rings);
+    job_help::write_why(rt, &mut rt.stderr(), ended, line);
 }
 
 // Reads the stock and the job, and keeps and tells what it leaves.
-fn go_on(asked: Asked) {
+fn go_on(rt: &HostRuntime, asked: Asked) {
     let mut cells = [0.0f64; CELL_NUMBERS];
     let mut rings = [0.0f64; RING_NUMBERS];
     let mut line = [0u8; LINE_LIMIT];
-    let start = read_from(asked, &mut cells, &mut rings);
+    let start = read_from(rt, asked, &mut cells, &mut rings);
     let run = run_of(start);
-    let ended = job_streams::read_job(0, job_streams::PART, run, &mut cells, &mut rings, &mut line);
+    let ended = job_streams::read_job(
+        rt,
+        &mut rt.stdin(),
+        job_streams::PART,
+        run,
+        &mut cells,
+        &mut rings,
+        &mut line,
+    );
     match start {
-        Start::On(_) => end_job(ended, &cells, &rings, &line),
-        Start::Refused(at, number) => say::refused(at, number),
+        Start::On(_) => end_job(rt, ended, &cells, &rings, &line),
+        Start::Refused(at, number) => say::refused(rt, at, number),
     }
 }
 
-fn main() {
-    if !streams::hold_standard() {
+fn main(rt: HostRuntime) {
+    if !streams::hold_standard(&rt) {
         return;
     }
-    let asked = edition::third_argument();
+    let asked = edition::third_argument(&rt);
     match asked {
-        Asked::NoEdition => say::no_edition(),
-        Asked::AsRead => go_on(asked),
-        Asked::Given(_) => go_on(asked),
+        Asked::NoEdition => say::no_edition(&rt),
+        Asked::AsRead => go_on(&rt, asked),
+        Asked::Given(_) => go_on(&rt, asked),
     }
 }

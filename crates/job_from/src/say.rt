@@ -1,4 +1,5 @@
 // The lines that `job` does not have, and the words beside them.
+use std::io::Write;
 use streams::GATHERED;
 
 // Whether an argument stands for no file.
@@ -9,38 +10,44 @@ pub fn is_none(path: &[u8]) -> bool {
     path[0] == b'-'
 }
 
-fn write(fd: i32, bytes: &[u8]) {
+fn write(rt: &HostRuntime, to: &mut impl Write, bytes: &[u8]) {
     let mut gathered = [0u8; GATHERED];
-    let out = streams::put(fd, streams::fresh(), &mut gathered, bytes);
-    streams::flush(fd, out, &gathered);
+    let out = streams::put(rt, to, streams::fresh(), &mut gathered, bytes);
+    streams::flush(rt, to, out, &gathered);
 }
 
 // Fewer than two arguments.
-pub fn usage() {
+pub fn usage(rt: &HostRuntime) {
     write(
-        2,
+        rt,
+        &mut rt.stderr(),
         b"usage: job_from FROM TO [EDITION], FROM and TO each a file or -, EDITION 8 digits, 0 to 9 and A to F\n",
     );
 }
 
-// The second argument is empty, or too long for a name.
-pub fn no_name() {
-    if os::errno() == 0 {
-        write(2, b"TO: the name is empty\n");
-        return;
-    }
-    os::fail(b"TO");
+// The second argument is empty.
+pub fn no_name(rt: &HostRuntime) {
+    write(rt, &mut rt.stderr(), b"TO: the name is empty\n");
+}
+
+// The second argument is too long for a name.
+pub fn long_name(rt: &HostRuntime) {
+    write(rt, &mut rt.stderr(), b"TO: File name too long\n");
 }
 
 // The third argument is no edition.
-pub fn no_edition() {
-    write(1, b"refused\tedition\n");
-    write(2, b"EDITION: 8 digits, 0 to 9 and A to F\n");
+pub fn no_edition(rt: &HostRuntime) {
+    write(rt, &mut rt.stdout(), b"refused\tedition\n");
+    write(
+        rt,
+        &mut rt.stderr(),
+        b"EDITION: 8 digits, 0 to 9 and A to F\n",
+    );
 }
 
 // The stock that a job leaves could not be kept.
-pub fn unwritten() {
-    write(1, b"unwritten\n");
+pub fn unwritten(rt: &HostRuntime) {
+    write(rt, &mut rt.stdout(), b"unwritten\n");
 }
 
 // The number of a line, where there is one.
@@ -61,9 +68,9 @@ fn put_refused(out: &mut [u8], at: u64, number: u64) -> usize {
 }
 
 // A stock file is refused.
-pub fn refused(at: u64, number: u64) {
+pub fn refused(rt: &HostRuntime, at: u64, number: u64) {
     let mut line = [0u8; 256];
     let n = put_refused(&mut line, at, number);
-    write(1, text::front(&line, n));
-    job_help::write_stock_why(2, number, at);
+    write(rt, &mut rt.stdout(), text::front(&line, n));
+    job_help::write_stock_why(rt, &mut rt.stderr(), number, at);
 }

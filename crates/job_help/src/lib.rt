@@ -6,6 +6,8 @@ ghost use Rattle.std.specs.Prelude.{◌≤◌, length};
 
 use job_run::LINE_LIMIT;
 use job_streams::{End, Ended};
+use std::io::Write;
+use std::rt::Clock;
 use streams::GATHERED;
 use text::{front, put_count, put_text};
 
@@ -71,7 +73,12 @@ pub fn why(
 }
 
 // Writes why a job was refused, in one line; nothing where it was not. Tells whether all is written.
-pub fn write_why(fd: i32, ended: Ended, line: &[u8; LINE_LIMIT]) -> bool {
+pub fn write_why(
+    rt: &(impl Eprint + Clock),
+    to: &mut impl Write,
+    ended: Ended,
+    line: &[u8; LINE_LIMIT],
+) -> bool {
     let run = ended.run;
     if run.refused == 0 {
         return true;
@@ -88,8 +95,8 @@ pub fn write_why(fd: i32, ended: Ended, line: &[u8; LINE_LIMIT]) -> bool {
         line,
     );
     let mut gathered = [0u8; GATHERED];
-    let out = streams::put(fd, streams::fresh(), &mut gathered, front(&words, n));
-    streams::flush(fd, out, &gathered)
+    let out = streams::put(rt, to, streams::fresh(), &mut gathered, front(&words, n));
+    streams::flush(rt, to, out, &gathered)
 }
 
 // What the number of a refusal means for a stock file.
@@ -145,10 +152,15 @@ fn put_line_number(out: &mut [u8], at: usize, k: u64) -> usize
 }
 
 // Writes why a stock file was refused, in one line. Tells whether all is written.
-pub fn write_stock_why(fd: i32, number: u64, k: u64) -> bool {
+pub fn write_stock_why(
+    rt: &(impl Eprint + Clock),
+    to: &mut impl Write,
+    number: u64,
+    k: u64,
+) -> bool {
     let mut words = [0u8; 256];
     let n = stock_why(&mut words, number, k);
     let mut gathered = [0u8; GATHERED];
-    let out = streams::put(fd, streams::fresh(), &mut gathered, front(&words, n));
-    streams::flush(fd, out, &gathered)
+    let out = streams::put(rt, to, streams::fresh(), &mut gathered, front(&words, n));
+    streams::flush(rt, to, out, &gathered)
 }

@@ -10,6 +10,8 @@ ghost use Rattle.job_streams.specs.Read.{brought_by, ReadsOn, may_be_more, end_a
 ghost use Rattle.job_streams.specs.Write.{PutsLine, AllPut};
 
 use job_run::{ANSWER_LINES, CELL_NUMBERS, LINE_LIMIT, RING_NUMBERS, Run};
+use std::io::{Read, Write};
+use std::rt::Clock;
 use streams::{GATHERED, Got, Out};
 use text::LINE_ROOM;
 
@@ -68,7 +70,8 @@ fn brought(got: Got, part: &[u8]) -> &[u8]
 
 // Reads once, into lent bytes, and takes what came.
 fn take_once(
-    fd: i32,
+    rt: &(impl Eprint + Clock),
+    from: &mut impl Read,
     part: &mut [u8],
     run: Run,
     cells: &mut [f64; CELL_NUMBERS],
@@ -78,7 +81,7 @@ fn take_once(
 ) -> Turn
     ensures { ReadsOn run len cells rings line result.run result.len }
 {
-    let got = streams::read_some(fd, part);
+    let got = streams::read_some(rt, from, part);
     let taken = job_run::take_part(run, cells, rings, line, len, brought(got, part));
     let after = taken.run;
     Turn {
@@ -90,7 +93,8 @@ fn take_once(
 
 // The same, at most so many bytes.
 fn take_some(
-    fd: i32,
+    rt: &(impl Eprint + Clock),
+    from: &mut impl Read,
     most: usize,
     run: Run,
     cells: &mut [f64; CELL_NUMBERS],
@@ -102,7 +106,7 @@ fn take_some(
 {
     let mut buf = io::large_buffer();
     let end = part_size(most);
-    take_once(fd, &mut buf[..end], run, cells, rings, line, len)
+    take_once(rt, from, &mut buf[..end], run, cells, rings, line, len)
 }
 
 // Whether there may be more after a read.
@@ -165,7 +169,8 @@ fn end_by(got: Got, run: Run, len: usize) -> Ended
 // Reads a job to the end of its input, on a run as it is before the first byte, at most so many bytes
 // at a time, from 1 to 65,536.
 pub fn read_job(
-    fd: i32,
+    rt: &(impl Eprint + Clock),
+    from: &mut impl Read,
     most: usize,
     start: Run,
     cells: &mut [f64; CELL_NUMBERS],
@@ -178,7 +183,7 @@ pub fn read_job(
     let mut len: usize = 0;
     let mut turns = u64::MAX;
     loop {
-        let t = take_some(fd, most, run, cells, rings, line, len);
+        let t = take_some(rt, from, most, run, cells, rings, line, len);
         run = t.run;
         len = t.len;
         let got = t.got;
@@ -196,7 +201,8 @@ pub fn read_job(
 
 // Puts line k of the answer behind what is gathered; past the last line, nothing.
 fn put_line(
-    fd: i32,
+    rt: &(impl Eprint + Clock),
+    to: &mut impl Write,
     out: Out,
     gathered: &mut [u8; GATHERED],
     run: Run,
@@ -208,12 +214,13 @@ fn put_line(
 {
     let mut line = [0u8; LINE_ROOM];
     let end = job_run::output_line(&mut line, run, cells, rings, k);
-    streams::put(fd, out, gathered, &line[..end])
+    streams::put(rt, to, out, gathered, &line[..end])
 }
 
 // Gathers the answer of a run, and writes of it what finds no room.
 fn gather_answer(
-    fd: i32,
+    rt: &(impl Eprint + Clock),
+    to: &mut impl Write,
     gathered: &mut [u8; GATHERED],
     run: Run,
     cells: &[f64; CELL_NUMBERS],
@@ -224,7 +231,7 @@ fn gather_answer(
     let mut out = streams::fresh();
     let mut k: usize = 0;
     while k < ANSWER_LINES {
-        out = put_line(fd, out, gathered, run, cells, rings, k);
+        out = put_line(rt, to, out, gathered, run, cells, rings, k);
         k += 1;
     }
     out
@@ -232,12 +239,13 @@ fn gather_answer(
 
 // Writes the answer of a run, and tells whether all of it was written.
 pub fn write_answer(
-    fd: i32,
+    rt: &(impl Eprint + Clock),
+    to: &mut impl Write,
     run: Run,
     cells: &[f64; CELL_NUMBERS],
     rings: &[f64; RING_NUMBERS],
 ) -> bool {
     let mut gathered = [0u8; GATHERED];
-    let out = gather_answer(fd, &mut gathered, run, cells, rings);
-    streams::flush(fd, out, &gathered)
+    let out = gather_answer(rt, to, &mut gathered, run, cells, rings);
+    streams::flush(rt, to, out, &gathered)
 }

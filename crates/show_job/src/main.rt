@@ -23,6 +23,7 @@ fn first_fours(xs: &[f64], n: usize) -> &[f64] {
 
 // Puts line k of the page behind what is gathered; past the last line, nothing.
 fn put_line(
+    rt: &HostRuntime,
     out: Out,
     gathered: &mut [u8; GATHERED],
     bins: &[usize],
@@ -35,11 +36,12 @@ fn put_line(
 ) -> Out {
     let mut line = [0u8; 512];
     let n = page::page_line(&mut line, bins, removed, spec, cells, rings, generation, k);
-    streams::put(1, out, gathered, front(&line, n))
+    streams::put(rt, &mut rt.stdout(), out, gathered, front(&line, n))
 }
 
 // Gathers the page, its columns measured first.
 fn gather_page(
+    rt: &HostRuntime,
     gathered: &mut [u8; GATHERED],
     spec: TurnStockSpec,
     cells: &[f64],
@@ -54,7 +56,7 @@ fn gather_page(
     let mut k: usize = 0;
     while k < LINES {
         out = put_line(
-            out, gathered, &bins, &removed, spec, cells, rings, generation, k,
+            rt, out, gathered, &bins, &removed, spec, cells, rings, generation, k,
         );
         k += 1;
     }
@@ -62,27 +64,34 @@ fn gather_page(
 }
 
 // Writes the page of a job that was not refused.
-fn write_page(run: Run, cells: &[f64; CELL_NUMBERS], rings: &[f64; RING_NUMBERS]) {
+fn write_page(
+    rt: &HostRuntime,
+    run: Run,
+    cells: &[f64; CELL_NUMBERS],
+    rings: &[f64; RING_NUMBERS],
+) {
     let job = run.job;
     let spec = job.stock.spec;
     let mut gathered = [0u8; GATHERED];
     let out = gather_page(
+        rt,
         &mut gathered,
         spec,
         first_fours(cells, job.cells),
         first_fours(rings, job.stock.rings),
         job.stock.stamp.generation,
     );
-    streams::flush(1, out, &gathered);
+    streams::flush(rt, &mut rt.stdout(), out, &gathered);
 }
 
-fn main() {
+fn main(rt: HostRuntime) {
     let mut cells = [0.0f64; CELL_NUMBERS];
     let mut rings = [0.0f64; RING_NUMBERS];
     let mut line = [0u8; LINE_LIMIT];
     let start = job_run::fresh(0);
     let ended = job_streams::read_job(
-        0,
+        &rt,
+        &mut rt.stdin(),
         job_streams::PART,
         start,
         &mut cells,
@@ -91,8 +100,8 @@ fn main() {
     );
     let run = ended.run;
     if run.refused != 0 {
-        job_help::write_why(1, ended, &line);
+        job_help::write_why(&rt, &mut rt.stdout(), ended, &line);
         return;
     }
-    write_page(run, &cells, &rings);
+    write_page(&rt, run, &cells, &rings);
 }

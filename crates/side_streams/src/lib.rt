@@ -17,6 +17,8 @@ ghost use Rattle.side_streams.specs.Put.{SecondPut, FilesPut};
 
 use refusals::{CELL_LIMIT, RING_LIMIT, Refusal};
 use side_by_side::{CHUNK_ROOM, Compared};
+use std::io::Write;
+use std::rt::{Clock, Files};
 use stock::TurnStock;
 use stock_file::Kept;
 use streams::{GATHERED, Out};
@@ -30,17 +32,24 @@ const RING_NUMBERS: usize = 4 * RING_LIMIT;
 // ---- reading
 
 // What the file of a name tells.
-fn read_named(path: &[u8], cells: &mut [f64], rings: &mut [f64]) -> Kept
+fn read_named(
+    rt: &(impl Files + Eprint + Clock),
+    path: &[u8],
+    cells: &mut [f64],
+    rings: &mut [f64],
+) -> Kept
     ensures { ReadsStock cell_limit result cells rings }
 {
-    let fd = os::open_read(path);
-    if fd < 0 {
-        os::fail(path);
-        return Kept::RefusedAt(Refusal::FileMalformed, 1);
+    let opened = streams::open(rt, path);
+    match opened {
+        Ok(mut file) => {
+            stock_streams::read_stock(rt, &mut file, stock_streams::PART, CELL_LIMIT, cells, rings)
+        }
+        Err(e) => {
+            streams::fail_at(rt, path, e);
+            Kept::RefusedAt(Refusal::FileMalformed, 1)
+        }
     }
-    let kept = stock_streams::read_stock(fd, stock_streams::PART, CELL_LIMIT, cells, rings);
-    libc::close(fd);
-    kept
 }
 
 // The first n cells, all where there are fewer.
@@ -57,26 +66,38 @@ fn first_cells(cells: &[f64], n: usize) -> &[f64]
 // ---- writing
 
 // Gathers the line of a file that is refused; nothing where it tells a stock.
-fn gather_file(fd: i32, gathered: &mut [u8; GATHERED], file: u64, kept: Kept) -> Out
+fn gather_file(
+    rt: &(impl Eprint + Clock),
+    to: &mut impl Write,
+    gathered: &mut [u8; GATHERED],
+    file: u64,
+    kept: Kept,
+) -> Out
     ensures { AllPut (file_refused file (kept_paper kept)) result gathered.new }
 {
     let mut line = [0u8; LINE_ROOM];
     let n = side_by_side::file_refused(&mut line, file, kept);
-    streams::put(fd, streams::fresh(), gathered, text::front(&line, n))
+    streams::put(rt, to, streams::fresh(), gathered, text::front(&line, n))
 }
 
 // Gathers the line of two stocks that are refused; nothing where they are compared.
-fn gather_refused(fd: i32, gathered: &mut [u8; GATHERED], compared: Compared) -> Out
+fn gather_refused(
+    rt: &(impl Eprint + Clock),
+    to: &mut impl Write,
+    gathered: &mut [u8; GATHERED],
+    compared: Compared,
+) -> Out
     ensures { AllPut (pair_refused (compared_paper compared)) result gathered.new }
 {
     let mut line = [0u8; LINE_ROOM];
     let n = side_by_side::pair_refused(&mut line, compared);
-    streams::put(fd, streams::fresh(), gathered, text::front(&line, n))
+    streams::put(rt, to, streams::fresh(), gathered, text::front(&line, n))
 }
 
 // Gathers so many chunks, and writes of them what finds no room.
 fn gather_chunks(
-    fd: i32,
+    rt: &(impl Eprint + Clock),
+    to: &mut impl Write,
     gathered: &mut [u8; GATHERED],
     chunks: usize,
     cells1: &[f64],
@@ -94,7 +115,7 @@ fn gather_chunks(
     let mut c: usize = 0;
     while c < chunks {
         let n = side_by_side::chunk(&mut part, cells1, rings1, count1, cells2, rings2, count2, c);
-        out = streams::put(fd, out, gathered, text::front(&part, n));
+        out = streams::put(rt, to, out, gathered, text::front(&part, n));
         c += 1;
     }
     out
@@ -102,7 +123,8 @@ fn gather_chunks(
 
 // Gathers what differs between two stocks, or their refusal.
 fn gather_pair(
-    fd: i32,
+    rt: &(impl Eprint + Clock),
+    to: &mut impl Write,
     gathered: &mut [u8; GATHERED],
     first: TurnStock,
     cells1: &[f64],
@@ -128,15 +150,18 @@ fn gather_pair(
     );
     match compared {
         Compared::Chunks(chunks) => {
-            gather_chunks(fd, gathered, chunks, cells1, rings1, m, cells2, rings2, k)
+            gather_chunks(
+                rt, to, gathered, chunks, cells1, rings1, m, cells2, rings2, k,
+            )
         }
-        Compared::Refused(_) => gather_refused(fd, gathered, compared),
+        Compared::Refused(_) => gather_refused(rt, to, gathered, compared),
     }
 }
 
 // Gathers what a second file makes of a stock of n cells, which the first told.
 fn gather_second(
-    fd: i32,
+    rt: &(impl Files + Eprint + Clock),
+    to: &mut impl Write,
     gathered: &mut [u8; GATHERED],
     stock: TurnStock,
     n: usize,
@@ -148,10 +173,11 @@ fn gather_second(
 {
     let mut cells2 = [0.0f64; CELL_NUMBERS];
     let mut rings2 = [0.0f64; RING_NUMBERS];
-    let kept = read_named(second, &mut cells2, &mut rings2);
+    let kept = read_named(rt, second, &mut cells2, &mut rings2);
     match kept {
         Kept::Stock(other, m) => gather_pair(
-            fd,
+            rt,
+            to,
             gathered,
             stock,
             first_cells(cells, n),
@@ -160,28 +186,39 @@ fn gather_second(
             first_cells(&cells2, m),
             &rings2,
         ),
-        Kept::Refused(_) => gather_file(fd, gathered, 2, kept),
-        Kept::RefusedAt(_, _) => gather_file(fd, gathered, 2, kept),
+        Kept::Refused(_) => gather_file(rt, to, gathered, 2, kept),
+        Kept::RefusedAt(_, _) => gather_file(rt, to, gathered, 2, kept),
     }
 }
 
 // Gathers what differs between two files, or the one refusal.
-fn gather_files(fd: i32, gathered: &mut [u8; GATHERED], first: &[u8], second: &[u8]) -> Out
+fn gather_files(
+    rt: &(impl Files + Eprint + Clock),
+    to: &mut impl Write,
+    gathered: &mut [u8; GATHERED],
+    first: &[u8],
+    second: &[u8],
+) -> Out
     ensures { FilesPut result gathered.new }
 {
     let mut cells = [0.0f64; CELL_NUMBERS];
     let mut rings = [0.0f64; RING_NUMBERS];
-    let kept = read_named(first, &mut cells, &mut rings);
+    let kept = read_named(rt, first, &mut cells, &mut rings);
     match kept {
-        Kept::Stock(stock, n) => gather_second(fd, gathered, stock, n, &cells, &rings, second),
-        Kept::Refused(_) => gather_file(fd, gathered, 1, kept),
-        Kept::RefusedAt(_, _) => gather_file(fd, gathered, 1, kept),
+        Kept::Stock(stock, n) => gather_second(rt, to, gathered, stock, n, &cells, &rings, second),
+        Kept::Refused(_) => gather_file(rt, to, gathered, 1, kept),
+        Kept::RefusedAt(_, _) => gather_file(rt, to, gathered, 1, kept),
     }
 }
 
 // Writes what differs between two files, or the one refusal.
-pub fn write_differences(fd: i32, first: &[u8], second: &[u8]) {
+pub fn write_differences(
+    rt: &(impl Files + Eprint + Clock),
+    to: &mut impl Write,
+    first: &[u8],
+    second: &[u8],
+) {
     let mut gathered = [0u8; GATHERED];
-    let out = gather_files(fd, &mut gathered, first, second);
-    streams::flush(fd, out, &gathered);
+    let out = gather_files(rt, to, &mut gathered, first, second);
+    streams::flush(rt, to, out, &gathered);
 }

@@ -16,35 +16,53 @@ fn first_tick(z: f64, step: f64) -> f64 {
 }
 
 // A tick of the z ruler at x on paper.
-fn z_tick(out: Out, gathered: &mut [u8; GATHERED], x: f64, z: f64) -> Out {
-    let a = number_after(out, gathered, b"<path d=\"M", x);
-    let b = number_after(a, gathered, b" 4.5v2\"/><text x=\"", x);
-    let c = number_after(b, gathered, b"\" y=\"10.3\">", z);
-    say(c, gathered, b"</text>\n")
+fn z_tick(rt: &HostRuntime, out: Out, gathered: &mut [u8; GATHERED], x: f64, z: f64) -> Out {
+    let a = number_after(rt, out, gathered, b"<path d=\"M", x);
+    let b = number_after(rt, a, gathered, b" 4.5v2\"/><text x=\"", x);
+    let c = number_after(rt, b, gathered, b"\" y=\"10.3\">", z);
+    say(rt, c, gathered, b"</text>\n")
 }
 
 // A tick of the radius' ruler at y on paper.
-fn r_tick(out: Out, gathered: &mut [u8; GATHERED], y: f64, r: f64) -> Out {
-    let a = number_after(out, gathered, b"<path d=\"M-5 ", y);
-    let b = number_after(a, gathered, b"h-2\"/><text x=\"-8\" y=\"", y);
-    let c = number_after(b, gathered, b"\" dy=\"1.2\">", r);
-    say(c, gathered, b"</text>\n")
+fn r_tick(rt: &HostRuntime, out: Out, gathered: &mut [u8; GATHERED], y: f64, r: f64) -> Out {
+    let a = number_after(rt, out, gathered, b"<path d=\"M-5 ", y);
+    let b = number_after(rt, a, gathered, b"h-2\"/><text x=\"-8\" y=\"", y);
+    let c = number_after(rt, b, gathered, b"\" dy=\"1.2\">", r);
+    say(rt, c, gathered, b"</text>\n")
 }
 
 // A tick of the z ruler, where it is within the bar.
-fn z_tick_at(out: Out, gathered: &mut [u8; GATHERED], frame: Frame, z: f64) -> Out {
+fn z_tick_at(
+    rt: &HostRuntime,
+    out: Out,
+    gathered: &mut [u8; GATHERED],
+    frame: Frame,
+    z: f64,
+) -> Out {
     if (z < frame.spec.z_min_mm) | (frame.spec.z_max_mm < z) {
         return out;
     }
-    z_tick(out, gathered, (z - frame.spec.z_min_mm) * frame.along, z)
+    z_tick(
+        rt,
+        out,
+        gathered,
+        (z - frame.spec.z_min_mm) * frame.along,
+        z,
+    )
 }
 
 // A tick of the radius' ruler, where it is within the bar.
-fn r_tick_at(out: Out, gathered: &mut [u8; GATHERED], frame: Frame, r: f64) -> Out {
+fn r_tick_at(
+    rt: &HostRuntime,
+    out: Out,
+    gathered: &mut [u8; GATHERED],
+    frame: Frame,
+    r: f64,
+) -> Out {
     if frame.spec.outer_radius_mm < r {
         return out;
     }
-    r_tick(out, gathered, 0.0 - r * frame.up, r)
+    r_tick(rt, out, gathered, 0.0 - r * frame.up, r)
 }
 
 // How far ticks of z stand apart at least: short labels need less.
@@ -57,57 +75,83 @@ fn label_room(frame: Frame) -> f64 {
 }
 
 // The ticks of the z ruler.
-fn z_ticks(out: Out, gathered: &mut [u8; GATHERED], frame: Frame) -> Out {
+fn z_ticks(rt: &HostRuntime, out: Out, gathered: &mut [u8; GATHERED], frame: Frame) -> Out {
     let step = step_for(frame.along, label_room(frame));
     let base = first_tick(frame.spec.z_min_mm, step);
     let mut o = out;
     let mut k: u64 = 0;
     while k < TICKS {
         let z = base + std::num::nearest_u64_to_f64(k) * step;
-        o = z_tick_at(o, gathered, frame, z);
+        o = z_tick_at(rt, o, gathered, frame, z);
         k += 1;
     }
     o
 }
 
 // The ticks of the radius' ruler.
-fn r_ticks(out: Out, gathered: &mut [u8; GATHERED], frame: Frame) -> Out {
+fn r_ticks(rt: &HostRuntime, out: Out, gathered: &mut [u8; GATHERED], frame: Frame) -> Out {
     let step = step_for(frame.up, 7.0);
     let mut o = out;
     let mut k: u64 = 0;
     while k < TICKS {
-        o = r_tick_at(o, gathered, frame, std::num::nearest_u64_to_f64(k) * step);
+        o = r_tick_at(
+            rt,
+            o,
+            gathered,
+            frame,
+            std::num::nearest_u64_to_f64(k) * step,
+        );
         k += 1;
     }
     o
 }
 
 // A line along the axis.
-fn line(out: Out, gathered: &mut [u8; GATHERED], frame: Frame, opening: &[u8]) -> Out {
-    let a = say(out, gathered, opening);
-    let b = number(a, gathered, frame.wide + 4.0);
-    say(b, gathered, b"\"/>\n")
+fn line(
+    rt: &HostRuntime,
+    out: Out,
+    gathered: &mut [u8; GATHERED],
+    frame: Frame,
+    opening: &[u8],
+) -> Out {
+    let a = say(rt, out, gathered, opening);
+    let b = number(rt, a, gathered, frame.wide + 4.0);
+    say(rt, b, gathered, b"\"/>\n")
 }
 
 // The axis, and the lines of both rulers.
-fn lines(out: Out, gathered: &mut [u8; GATHERED], frame: Frame) -> Out {
-    let a = line(out, gathered, frame, b"<path class=\"case\" d=\"M-4 0H");
-    let b = line(a, gathered, frame, b"<path class=\"axis\" d=\"M-4 0H");
-    let c = number_after(b, gathered, b"<path class=\"rule\" d=\"M0 4.5H", frame.wide);
-    let d = number_after(c, gathered, b"M-5 0V-", frame.high);
-    say(d, gathered, b"\"/>\n")
+fn lines(rt: &HostRuntime, out: Out, gathered: &mut [u8; GATHERED], frame: Frame) -> Out {
+    let a = line(rt, out, gathered, frame, b"<path class=\"case\" d=\"M-4 0H");
+    let b = line(rt, a, gathered, frame, b"<path class=\"axis\" d=\"M-4 0H");
+    let c = number_after(
+        rt,
+        b,
+        gathered,
+        b"<path class=\"rule\" d=\"M0 4.5H",
+        frame.wide,
+    );
+    let d = number_after(rt, c, gathered, b"M-5 0V-", frame.high);
+    say(rt, d, gathered, b"\"/>\n")
 }
 
 // What the rulers measure.
-fn names(out: Out, gathered: &mut [u8; GATHERED], frame: Frame) -> Out {
-    let a = number_after(out, gathered, b"<text x=\"-24\" y=\"-", frame.high + 4.5);
+fn names(rt: &HostRuntime, out: Out, gathered: &mut [u8; GATHERED], frame: Frame) -> Out {
+    let a = number_after(
+        rt,
+        out,
+        gathered,
+        b"<text x=\"-24\" y=\"-",
+        frame.high + 4.5,
+    );
     let b = number_after(
+        rt,
         a,
         gathered,
         b"\">radius in mm</text>\n<text x=\"",
         frame.wide,
     );
     say(
+        rt,
         b,
         gathered,
         b"\" y=\"15\" text-anchor=\"end\">z in mm</text>\n",
@@ -115,16 +159,22 @@ fn names(out: Out, gathered: &mut [u8; GATHERED], frame: Frame) -> Out {
 }
 
 // The axis and both rulers.
-pub fn both(out: Out, gathered: &mut [u8; GATHERED], frame: Frame) -> Out {
-    let a = lines(out, gathered, frame);
-    let b = say(a, gathered, b"<g class=\"rule\" text-anchor=\"middle\">\n");
-    let c = z_ticks(b, gathered, frame);
+pub fn both(rt: &HostRuntime, out: Out, gathered: &mut [u8; GATHERED], frame: Frame) -> Out {
+    let a = lines(rt, out, gathered, frame);
+    let b = say(
+        rt,
+        a,
+        gathered,
+        b"<g class=\"rule\" text-anchor=\"middle\">\n",
+    );
+    let c = z_ticks(rt, b, gathered, frame);
     let d = say(
+        rt,
         c,
         gathered,
         b"</g>\n<g class=\"rule\" text-anchor=\"end\">\n",
     );
-    let e = r_ticks(d, gathered, frame);
-    let f = say(e, gathered, b"</g>\n");
-    names(f, gathered, frame)
+    let e = r_ticks(rt, d, gathered, frame);
+    let f = say(rt, e, gathered, b"</g>\n");
+    names(rt, f, gathered, frame)
 }

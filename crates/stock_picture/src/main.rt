@@ -25,17 +25,19 @@ const CELL_NUMBERS: usize = 4 * CELL_LIMIT;
 const RING_NUMBERS: usize = 4 * RING_LIMIT;
 
 // What the file of a name tells.
-fn read_named(path: &[u8], cells: &mut [f64], rings: &mut [f64]) -> Kept
+fn read_named(rt: &HostRuntime, path: &[u8], cells: &mut [f64], rings: &mut [f64]) -> Kept
     ensures { ReadsStock cell_limit result cells rings }
 {
-    let fd = os::open_read(path);
-    if fd < 0 {
-        os::fail(path);
-        return Kept::RefusedAt(Refusal::FileMalformed, 1);
+    let opened = streams::open(rt, path);
+    match opened {
+        Ok(mut file) => {
+            stock_streams::read_stock(rt, &mut file, stock_streams::PART, CELL_LIMIT, cells, rings)
+        }
+        Err(e) => {
+            streams::fail_at(rt, path, e);
+            Kept::RefusedAt(Refusal::FileMalformed, 1)
+        }
     }
-    let kept = stock_streams::read_stock(fd, stock_streams::PART, CELL_LIMIT, cells, rings);
-    libc::close(fd);
-    kept
 }
 
 // The first n fours of numbers, all where there are fewer.
@@ -48,42 +50,56 @@ fn first_fours(xs: &[f64], n: usize) -> &[f64] {
 }
 
 // Gathers the line of a file that is refused; nothing where it tells a stock.
-fn gather_file(gathered: &mut [u8; GATHERED], file: u64, kept: Kept) -> Out
+fn gather_file(rt: &HostRuntime, gathered: &mut [u8; GATHERED], file: u64, kept: Kept) -> Out
     ensures { AllPut (file_refused file (kept_paper kept)) result gathered.new }
 {
     let mut line = [0u8; LINE_ROOM];
     let n = side_by_side::file_refused(&mut line, file, kept);
-    streams::put(1, streams::fresh(), gathered, text::front(&line, n))
+    streams::put(
+        rt,
+        &mut rt.stdout(),
+        streams::fresh(),
+        gathered,
+        text::front(&line, n),
+    )
 }
 
 // Gathers the line of two stocks that are refused; nothing where they are compared.
-fn gather_refused(gathered: &mut [u8; GATHERED], compared: Compared) -> Out
+fn gather_refused(rt: &HostRuntime, gathered: &mut [u8; GATHERED], compared: Compared) -> Out
     ensures { AllPut (pair_refused (compared_paper compared)) result gathered.new }
 {
     let mut line = [0u8; LINE_ROOM];
     let n = side_by_side::pair_refused(&mut line, compared);
-    streams::put(1, streams::fresh(), gathered, text::front(&line, n))
+    streams::put(
+        rt,
+        &mut rt.stdout(),
+        streams::fresh(),
+        gathered,
+        text::front(&line, n),
+    )
 }
 
 // Gathers the picture of one stock.
 fn gather_one(
+    rt: &HostRuntime,
     gathered: &mut [u8; GATHERED],
     stock: TurnStock,
     cells: &[f64],
     rings: &[f64],
 ) -> Out {
     let frame = page::frame_of(stock.spec);
-    let a = page::opening(streams::fresh(), gathered, frame, 64.0);
-    let b = page::told_one(a, gathered, frame, stock, cells, rings);
-    let c = page::patterns_one(b, gathered, frame);
-    let d = shapes::one(c, gathered, frame, cells, rings);
-    let e = axes::both(d, gathered, frame);
-    let f = page::about_one(e, gathered, frame, stock, cells, rings);
-    page::key_one(f, gathered)
+    let a = page::opening(rt, streams::fresh(), gathered, frame, 64.0);
+    let b = page::told_one(rt, a, gathered, frame, stock, cells, rings);
+    let c = page::patterns_one(rt, b, gathered, frame);
+    let d = shapes::one(rt, c, gathered, frame, cells, rings);
+    let e = axes::both(rt, d, gathered, frame);
+    let f = page::about_one(rt, e, gathered, frame, stock, cells, rings);
+    page::key_one(rt, f, gathered)
 }
 
 // Gathers the picture of two stocks of one bar.
 fn gather_two(
+    rt: &HostRuntime,
     gathered: &mut [u8; GATHERED],
     first: TurnStock,
     cells1: &[f64],
@@ -94,19 +110,20 @@ fn gather_two(
 ) -> Out {
     let frame = page::frame_of(first.spec);
     let n = cells1.len() / 4;
-    let a = page::opening(streams::fresh(), gathered, frame, 69.0);
-    let b = page::told_two(a, gathered, frame, first, second, n);
-    let c = page::patterns_two(b, gathered, frame);
-    let d = shapes::two(c, gathered, frame, cells1, rings1, cells2, rings2);
-    let e = axes::both(d, gathered, frame);
-    let f = page::about_first(e, gathered, first, cells1, rings1);
-    let g = page::about_second(f, gathered, second, cells2, rings2);
-    let h = page::about_bar(g, gathered, frame, n);
-    page::key_two(h, gathered)
+    let a = page::opening(rt, streams::fresh(), gathered, frame, 69.0);
+    let b = page::told_two(rt, a, gathered, frame, first, second, n);
+    let c = page::patterns_two(rt, b, gathered, frame);
+    let d = shapes::two(rt, c, gathered, frame, cells1, rings1, cells2, rings2);
+    let e = axes::both(rt, d, gathered, frame);
+    let f = page::about_first(rt, e, gathered, first, cells1, rings1);
+    let g = page::about_second(rt, f, gathered, second, cells2, rings2);
+    let h = page::about_bar(rt, g, gathered, frame, n);
+    page::key_two(rt, h, gathered)
 }
 
 // Gathers the picture of two stocks, or their refusal.
 fn gather_pair(
+    rt: &HostRuntime,
     gathered: &mut [u8; GATHERED],
     first: TurnStock,
     cells1: &[f64],
@@ -129,14 +146,15 @@ fn gather_pair(
     );
     match compared {
         Compared::Chunks(_) => {
-            gather_two(gathered, first, cells1, rings1, second, cells2, rings2)
+            gather_two(rt, gathered, first, cells1, rings1, second, cells2, rings2)
         }
-        Compared::Refused(_) => gather_refused(gathered, compared),
+        Compared::Refused(_) => gather_refused(rt, gathered, compared),
     }
 }
 
 // Gathers what a second file makes of a stock of n cells, which the first told.
 fn gather_second(
+    rt: &HostRuntime,
     gathered: &mut [u8; GATHERED],
     stock: TurnStock,
     n: usize,
@@ -146,9 +164,10 @@ fn gather_second(
 ) -> Out {
     let mut cells2 = [0.0f64; CELL_NUMBERS];
     let mut rings2 = [0.0f64; RING_NUMBERS];
-    let kept = read_named(second, &mut cells2, &mut rings2);
+    let kept = read_named(rt, second, &mut cells2, &mut rings2);
     match kept {
         Kept::Stock(other, m) => gather_pair(
+            rt,
             gathered,
             stock,
             first_fours(cells, n),
@@ -157,13 +176,14 @@ fn gather_second(
             first_fours(&cells2, m),
             first_fours(&rings2, other.rings),
         ),
-        Kept::Refused(_) => gather_file(gathered, 2, kept),
-        Kept::RefusedAt(_, _) => gather_file(gathered, 2, kept),
+        Kept::Refused(_) => gather_file(rt, gathered, 2, kept),
+        Kept::RefusedAt(_, _) => gather_file(rt, gathered, 2, kept),
     }
 }
 
 // Gathers what the files make of a stock of n cells, which the first told.
 fn gather_stock(
+    rt: &HostRuntime,
     gathered: &mut [u8; GATHERED],
     stock: TurnStock,
     n: usize,
@@ -173,9 +193,10 @@ fn gather_stock(
     second: &[u8],
 ) -> Out {
     if 2 < files {
-        return gather_second(gathered, stock, n, cells, rings, second);
+        return gather_second(rt, gathered, stock, n, cells, rings, second);
     }
     gather_one(
+        rt,
         gathered,
         stock,
         first_fours(cells, n),
@@ -184,31 +205,39 @@ fn gather_stock(
 }
 
 // Gathers the picture of one file or of two, or the one refusal.
-fn gather_files(gathered: &mut [u8; GATHERED], files: usize, first: &[u8], second: &[u8]) -> Out {
+fn gather_files(
+    rt: &HostRuntime,
+    gathered: &mut [u8; GATHERED],
+    files: usize,
+    first: &[u8],
+    second: &[u8],
+) -> Out {
     let mut cells = [0.0f64; CELL_NUMBERS];
     let mut rings = [0.0f64; RING_NUMBERS];
-    let kept = read_named(first, &mut cells, &mut rings);
+    let kept = read_named(rt, first, &mut cells, &mut rings);
     match kept {
-        Kept::Stock(stock, n) => gather_stock(gathered, stock, n, &cells, &rings, files, second),
-        Kept::Refused(_) => gather_file(gathered, 1, kept),
-        Kept::RefusedAt(_, _) => gather_file(gathered, 1, kept),
+        Kept::Stock(stock, n) => gather_stock(
+            rt, gathered, stock, n, &cells, &rings, files, second,
+        ),
+        Kept::Refused(_) => gather_file(rt, gathered, 1, kept),
+        Kept::RefusedAt(_, _) => gather_file(rt, gathered, 1, kept),
     }
 }
 
 // Draws the files that the arguments name.
-fn main() {
-    if !streams::hold_standard() {
+fn main(rt: HostRuntime) {
+    if !streams::hold_standard(&rt) {
         return;
     }
-    let files = os::arg_count();
+    let files = streams::argument_count(&rt);
     if 3 < files {
         io::write_all(2, b"stock_picture: only the first two files are drawn\n");
     }
     let mut first = io::buffer();
     let mut second = io::buffer();
-    let n = os::arg(1, &mut first);
-    let m = os::arg(2, &mut second);
+    let n = streams::argument(&rt, 1, &mut first);
+    let m = streams::argument(&rt, 2, &mut second);
     let mut gathered = [0u8; GATHERED];
-    let out = gather_files(&mut gathered, files, &first[..n], &second[..m]);
-    streams::flush(1, out, &gathered);
+    let out = gather_files(&rt, &mut gathered, files, &first[..n], &second[..m]);
+    streams::flush(&rt, &mut rt.stdout(), out, &gathered);
 }

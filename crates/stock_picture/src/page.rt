@@ -58,11 +58,19 @@ fn whole(x: f64) -> f64 {
 }
 
 // The numbers of the view: where it begins above the axis, and how wide and high it is.
-fn view(out: Out, gathered: &mut [u8; GATHERED], top: f64, wide: f64, high: f64) -> Out {
-    let a = number_after(out, gathered, b"mm\" viewBox=\"-26 ", 0.0 - top);
-    let b = number_after(a, gathered, b" ", wide);
-    let c = number_after(b, gathered, b" ", high);
+fn view(
+    rt: &HostRuntime,
+    out: Out,
+    gathered: &mut [u8; GATHERED],
+    top: f64,
+    wide: f64,
+    high: f64,
+) -> Out {
+    let a = number_after(rt, out, gathered, b"mm\" viewBox=\"-26 ", 0.0 - top);
+    let b = number_after(rt, a, gathered, b" ", wide);
+    let c = number_after(rt, b, gathered, b" ", high);
     say(
+        rt,
         c,
         gathered,
         b"\" style=\"background:#fff\" role=\"img\" aria-labelledby=\"title desc\">\n",
@@ -70,24 +78,32 @@ fn view(out: Out, gathered: &mut [u8; GATHERED], top: f64, wide: f64, high: f64)
 }
 
 // Opens the picture: so much lies below the axis.
-pub fn opening(out: Out, gathered: &mut [u8; GATHERED], frame: Frame, below: f64) -> Out {
+pub fn opening(
+    rt: &HostRuntime,
+    out: Out,
+    gathered: &mut [u8; GATHERED],
+    frame: Frame,
+    below: f64,
+) -> Out {
     let top = whole(frame.high) + 11.0;
     let wide = whole(floats::greatest(frame.wide + 12.0, WORDS)) + 26.0;
     let a = number_after(
+        rt,
         out,
         gathered,
         b"<svg xmlns=\"http://www.w3.org/2000/svg\" width=\"",
         wide,
     );
-    let b = number_after(a, gathered, b"mm\" height=\"", top + below);
-    view(b, gathered, top, wide, top + below)
+    let b = number_after(rt, a, gathered, b"mm\" height=\"", top + below);
+    view(rt, b, gathered, top, wide, top + below)
 }
 
 // ---- patterns
 
 // How lines, areas and words look.
-fn style(out: Out, gathered: &mut [u8; GATHERED]) -> Out {
+fn style(rt: &HostRuntime, out: Out, gathered: &mut [u8; GATHERED]) -> Out {
     say(
+        rt,
         out,
         gathered,
         b"<style>text{font-family:sans-serif;font-size:3.4px}.name{font-size:5px;font-weight:bold}.stock path,.key{stroke:#000;stroke-width:1.2;paint-order:stroke;vector-effect:non-scaling-stroke}\n\
@@ -98,6 +114,7 @@ fn style(out: Out, gathered: &mut [u8; GATHERED]) -> Out {
 
 // A pattern of 2 by 2, by scales of its own.
 fn pattern(
+    rt: &HostRuntime,
     out: Out,
     gathered: &mut [u8; GATHERED],
     name: &[u8],
@@ -105,21 +122,23 @@ fn pattern(
     y: f64,
     rest: &[u8],
 ) -> Out {
-    let a = say(out, gathered, b"<pattern id=\"");
-    let b = say(a, gathered, name);
+    let a = say(rt, out, gathered, b"<pattern id=\"");
+    let b = say(rt, a, gathered, name);
     let c = number_after(
+        rt,
         b,
         gathered,
         b"\" width=\"2\" height=\"2\" patternUnits=\"userSpaceOnUse\" patternTransform=\"scale(",
         x,
     );
-    let d = number_after(c, gathered, b",", y);
-    let e = say(d, gathered, b")");
-    say(e, gathered, rest)
+    let d = number_after(rt, c, gathered, b",", y);
+    let e = say(rt, d, gathered, b")");
+    say(rt, e, gathered, rest)
 }
 
 // A pattern for the stock, whose group is scaled, and the same for the key.
 fn pattern_pair(
+    rt: &HostRuntime,
     out: Out,
     gathered: &mut [u8; GATHERED],
     frame: Frame,
@@ -128,6 +147,7 @@ fn pattern_pair(
     rest: &[u8],
 ) -> Out {
     let a = pattern(
+        rt,
         out,
         gathered,
         name,
@@ -135,13 +155,19 @@ fn pattern_pair(
         0.0 - 1.0 / frame.up,
         rest,
     );
-    pattern(a, gathered, key, 1.0, 1.0, rest)
+    pattern(rt, a, gathered, key, 1.0, 1.0, rest)
 }
 
 // The look and the hatch of one stock.
-pub fn patterns_one(out: Out, gathered: &mut [u8; GATHERED], frame: Frame) -> Out {
-    let a = style(out, gathered);
+pub fn patterns_one(
+    rt: &HostRuntime,
+    out: Out,
+    gathered: &mut [u8; GATHERED],
+    frame: Frame,
+) -> Out {
+    let a = style(rt, out, gathered);
     pattern_pair(
+        rt,
         a,
         gathered,
         frame,
@@ -152,9 +178,15 @@ pub fn patterns_one(out: Out, gathered: &mut [u8; GATHERED], frame: Frame) -> Ou
 }
 
 // The look and the hatches of two.
-pub fn patterns_two(out: Out, gathered: &mut [u8; GATHERED], frame: Frame) -> Out {
-    let a = style(out, gathered);
+pub fn patterns_two(
+    rt: &HostRuntime,
+    out: Out,
+    gathered: &mut [u8; GATHERED],
+    frame: Frame,
+) -> Out {
+    let a = style(rt, out, gathered);
     let b = pattern_pair(
+        rt,
         a,
         gathered,
         frame,
@@ -163,6 +195,7 @@ pub fn patterns_two(out: Out, gathered: &mut [u8; GATHERED], frame: Frame) -> Ou
         b"rotate(-45)\"><path d=\"M0 0h2v2H0z\" fill=\"#d5e8f4\"/><path d=\"M0 1h2\" stroke=\"#0072b2\" stroke-width=\".7\"/></pattern>\n",
     );
     let c = pattern_pair(
+        rt,
         b,
         gathered,
         frame,
@@ -171,6 +204,7 @@ pub fn patterns_two(out: Out, gathered: &mut [u8; GATHERED], frame: Frame) -> Ou
         b"rotate(45)\"><path d=\"M0 0h2v2H0z\" fill=\"#fdf1d3\"/><path d=\"M0 1h2\" stroke=\"#e69f00\" stroke-width=\".7\"/></pattern>\n",
     );
     pattern_pair(
+        rt,
         c,
         gathered,
         frame,
@@ -183,34 +217,41 @@ pub fn patterns_two(out: Out, gathered: &mut [u8; GATHERED], frame: Frame) -> Ou
 // ---- words
 
 // The bins and the rings.
-fn bins(out: Out, gathered: &mut [u8; GATHERED], spec: TurnStockSpec, n: usize) -> Out {
-    let a = number_after(out, gathered, b"z ", spec.z_min_mm);
-    let b = number_after(a, gathered, b" to ", spec.z_max_mm);
-    let c = count_after(b, gathered, b" mm; bins: ", n as u64);
-    let d = number_after(c, gathered, b"; cell ", spec.cell_mm);
-    say(d, gathered, b" mm")
+fn bins(
+    rt: &HostRuntime,
+    out: Out,
+    gathered: &mut [u8; GATHERED],
+    spec: TurnStockSpec,
+    n: usize,
+) -> Out {
+    let a = number_after(rt, out, gathered, b"z ", spec.z_min_mm);
+    let b = number_after(rt, a, gathered, b" to ", spec.z_max_mm);
+    let c = count_after(rt, b, gathered, b" mm; bins: ", n as u64);
+    let d = number_after(rt, c, gathered, b"; cell ", spec.cell_mm);
+    say(rt, d, gathered, b" mm")
 }
 
 // The radii of the bar.
-fn radii(out: Out, gathered: &mut [u8; GATHERED], spec: TurnStockSpec) -> Out {
-    let a = number_after(out, gathered, b"outer radius ", spec.outer_radius_mm);
-    let b = number_after(a, gathered, b" mm, bore radius ", spec.bore_radius_mm);
-    say(b, gathered, b" mm")
+fn radii(rt: &HostRuntime, out: Out, gathered: &mut [u8; GATHERED], spec: TurnStockSpec) -> Out {
+    let a = number_after(rt, out, gathered, b"outer radius ", spec.outer_radius_mm);
+    let b = number_after(rt, a, gathered, b" mm, bore radius ", spec.bore_radius_mm);
+    say(rt, b, gathered, b" mm")
 }
 
 // A volume, with more decimals where it is small.
-fn volume(out: Out, gathered: &mut [u8; GATHERED], v: f64) -> Out {
+fn volume(rt: &HostRuntime, out: Out, gathered: &mut [u8; GATHERED], v: f64) -> Out {
     if v < 1.0 {
-        return number(out, gathered, v);
+        return number(rt, out, gathered, v);
     }
     if v < 1000000000000.0 {
-        return length(out, gathered, v);
+        return length(rt, out, gathered, v);
     }
-    count(out, gathered, numbers::whole_part(v))
+    count(rt, out, gathered, numbers::whole_part(v))
 }
 
 // How many rings, and both volumes.
 fn amount(
+    rt: &HostRuntime,
     out: Out,
     gathered: &mut [u8; GATHERED],
     spec: TurnStockSpec,
@@ -218,51 +259,52 @@ fn amount(
     rings: &[f64],
 ) -> Out {
     let k = rings.len() / 4;
-    let a = count_after(out, gathered, b"rings: ", k as u64);
-    let b = say(a, gathered, b"; volume ");
+    let a = count_after(rt, out, gathered, b"rings: ", k as u64);
+    let b = say(rt, a, gathered, b"; volume ");
     match queries::volume(spec, cells, rings, k) {
         Measured::Between(x, y) => {
-            let c = volume(b, gathered, x);
-            let d = say(c, gathered, b" to ");
-            let e = volume(d, gathered, y);
-            say(e, gathered, b" mm&#179;")
+            let c = volume(rt, b, gathered, x);
+            let d = say(rt, c, gathered, b" to ");
+            let e = volume(rt, d, gathered, y);
+            say(rt, e, gathered, b" mm&#179;")
         }
-        Measured::Refused(_) => say(b, gathered, b"unknown"),
+        Measured::Refused(_) => say(rt, b, gathered, b"unknown"),
     }
 }
 
 // A scale as drawings have it.
-fn scale(out: Out, gathered: &mut [u8; GATHERED], s: f64) -> Out {
+fn scale(rt: &HostRuntime, out: Out, gathered: &mut [u8; GATHERED], s: f64) -> Out {
     if s < 1.0 {
-        return number_after(out, gathered, b"1:", 1.0 / s);
+        return number_after(rt, out, gathered, b"1:", 1.0 / s);
     }
-    let a = number(out, gathered, s);
-    say(a, gathered, b":1")
+    let a = number(rt, out, gathered, s);
+    say(rt, a, gathered, b":1")
 }
 
 // The scale, or both, and how places are rounded.
-fn scales(out: Out, gathered: &mut [u8; GATHERED], frame: Frame) -> Out {
+fn scales(rt: &HostRuntime, out: Out, gathered: &mut [u8; GATHERED], frame: Frame) -> Out {
     if frame.along == frame.up {
-        let a = say(out, gathered, b"scale ");
-        let b = scale(a, gathered, frame.along);
-        return say(b, gathered, b"; places rounded to 0.0001 mm");
+        let a = say(rt, out, gathered, b"scale ");
+        let b = scale(rt, a, gathered, frame.along);
+        return say(rt, b, gathered, b"; places rounded to 0.0001 mm");
     }
-    let a = say(out, gathered, b"scale of z ");
-    let b = scale(a, gathered, frame.along);
-    let c = say(b, gathered, b", of the radius ");
-    let d = scale(c, gathered, frame.up);
-    say(d, gathered, b"; places rounded to 0.0001 mm")
+    let a = say(rt, out, gathered, b"scale of z ");
+    let b = scale(rt, a, gathered, frame.along);
+    let c = say(rt, b, gathered, b", of the radius ");
+    let d = scale(rt, c, gathered, frame.up);
+    say(rt, d, gathered, b"; places rounded to 0.0001 mm")
 }
 
 // An edition and its generation.
-fn stamp(out: Out, gathered: &mut [u8; GATHERED], stock: TurnStock) -> Out {
-    let a = say(out, gathered, b"edition ");
-    let b = edition(a, gathered, stock.stamp.edition);
-    count_after(b, gathered, b", generation ", stock.stamp.generation)
+fn stamp(rt: &HostRuntime, out: Out, gathered: &mut [u8; GATHERED], stock: TurnStock) -> Out {
+    let a = say(rt, out, gathered, b"edition ");
+    let b = edition(rt, a, gathered, stock.stamp.edition);
+    count_after(rt, b, gathered, b", generation ", stock.stamp.generation)
 }
 
 // The bar and its scales, a line each, or in one.
 fn bar(
+    rt: &HostRuntime,
     out: Out,
     gathered: &mut [u8; GATHERED],
     frame: Frame,
@@ -270,17 +312,18 @@ fn bar(
     one: &[u8],
     two: &[u8],
 ) -> Out {
-    let a = bins(out, gathered, frame.spec, n);
-    let b = say(a, gathered, one);
-    let c = radii(b, gathered, frame.spec);
-    let d = say(c, gathered, two);
-    scales(d, gathered, frame)
+    let a = bins(rt, out, gathered, frame.spec, n);
+    let b = say(rt, a, gathered, one);
+    let c = radii(rt, b, gathered, frame.spec);
+    let d = say(rt, c, gathered, two);
+    scales(rt, d, gathered, frame)
 }
 
 // ---- one stock
 
 // Its title and description, for who hears a picture.
 pub fn told_one(
+    rt: &HostRuntime,
     out: Out,
     gathered: &mut [u8; GATHERED],
     frame: Frame,
@@ -288,17 +331,19 @@ pub fn told_one(
     cells: &[f64],
     rings: &[f64],
 ) -> Out {
-    let a = say(out, gathered, b"<title id=\"title\">Stock of ");
-    let b = stamp(a, gathered, stock);
+    let a = say(rt, out, gathered, b"<title id=\"title\">Stock of ");
+    let b = stamp(rt, a, gathered, stock);
     let c = say(
+        rt,
         b,
         gathered,
         b"</title>\n<desc id=\"desc\">Half section of a bar, ",
     );
-    let d = bar(c, gathered, frame, cells.len() / 4, b"; ", b"; ");
-    let e = say(d, gathered, b"; ");
-    let f = amount(e, gathered, frame.spec, cells, rings);
+    let d = bar(rt, c, gathered, frame, cells.len() / 4, b"; ", b"; ");
+    let e = say(rt, d, gathered, b"; ");
+    let f = amount(rt, e, gathered, frame.spec, cells, rings);
     say(
+        rt,
         f,
         gathered,
         b". Solid is certainly metal, hatched is uncertain, empty is certainly gone; rings are cut out. A black bar under the axis: no metal may remain there.</desc>\n",
@@ -307,6 +352,7 @@ pub fn told_one(
 
 // The words under the drawing.
 pub fn about_one(
+    rt: &HostRuntime,
     out: Out,
     gathered: &mut [u8; GATHERED],
     frame: Frame,
@@ -314,12 +360,18 @@ pub fn about_one(
     cells: &[f64],
     rings: &[f64],
 ) -> Out {
-    let a = say(out, gathered, b"<text class=\"name\" y=\"24\">Stock of ");
-    let b = stamp(a, gathered, stock);
-    let c = say(b, gathered, b"</text>\n<text y=\"45\">");
-    let d = amount(c, gathered, frame.spec, cells, rings);
-    let e = say(d, gathered, b"</text>\n<text y=\"30\">");
+    let a = say(
+        rt,
+        out,
+        gathered,
+        b"<text class=\"name\" y=\"24\">Stock of ",
+    );
+    let b = stamp(rt, a, gathered, stock);
+    let c = say(rt, b, gathered, b"</text>\n<text y=\"45\">");
+    let d = amount(rt, c, gathered, frame.spec, cells, rings);
+    let e = say(rt, d, gathered, b"</text>\n<text y=\"30\">");
     let f = bar(
+        rt,
         e,
         gathered,
         frame,
@@ -327,12 +379,13 @@ pub fn about_one(
         b"</text>\n<text y=\"35\">",
         b"</text>\n<text y=\"40\">",
     );
-    say(f, gathered, b"</text>\n")
+    say(rt, f, gathered, b"</text>\n")
 }
 
 // What each area means, and the end of the picture.
-pub fn key_one(out: Out, gathered: &mut [u8; GATHERED]) -> Out {
+pub fn key_one(rt: &HostRuntime, out: Out, gathered: &mut [u8; GATHERED]) -> Out {
     say(
+        rt,
         out,
         gathered,
         b"<path class=\"key metal\" d=\"M0 50h8v4H0z\"/><text x=\"10\" y=\"53.3\">certainly metal</text>\n\
@@ -346,6 +399,7 @@ pub fn key_one(out: Out, gathered: &mut [u8; GATHERED]) -> Out {
 
 // Their title and description.
 pub fn told_two(
+    rt: &HostRuntime,
     out: Out,
     gathered: &mut [u8; GATHERED],
     frame: Frame,
@@ -354,20 +408,23 @@ pub fn told_two(
     n: usize,
 ) -> Out {
     let a = say(
+        rt,
         out,
         gathered,
         b"<title id=\"title\">Two stocks of one bar: first ",
     );
-    let b = stamp(a, gathered, first);
-    let c = say(b, gathered, b"; second ");
-    let d = stamp(c, gathered, second);
+    let b = stamp(rt, a, gathered, first);
+    let c = say(rt, b, gathered, b"; second ");
+    let d = stamp(rt, c, gathered, second);
     let e = say(
+        rt,
         d,
         gathered,
         b"</title>\n<desc id=\"desc\">Half section of a bar, ",
     );
-    let f = bar(e, gathered, frame, n, b"; ", b"; ");
+    let f = bar(rt, e, gathered, frame, n, b"; ", b"; ");
     say(
+        rt,
         f,
         gathered,
         b". Grey is metal that both may have, dotted where it is not certain in both. Blue with a rising hatch is metal that only the first may have, orange with a falling hatch only the second. A black bar under the axis: bins that are unequal.</desc>\n",
@@ -376,6 +433,7 @@ pub fn told_two(
 
 // One stock of two.
 fn about(
+    rt: &HostRuntime,
     out: Out,
     gathered: &mut [u8; GATHERED],
     which: &[u8],
@@ -383,17 +441,24 @@ fn about(
     cells: &[f64],
     rings: &[f64],
 ) -> Out {
-    let a = say(out, gathered, which);
-    let b = stamp(a, gathered, stock);
-    let c = say(b, gathered, b"; ");
-    let d = amount(c, gathered, stock.spec, cells, rings);
-    say(d, gathered, b"</text>\n")
+    let a = say(rt, out, gathered, which);
+    let b = stamp(rt, a, gathered, stock);
+    let c = say(rt, b, gathered, b"; ");
+    let d = amount(rt, c, gathered, stock.spec, cells, rings);
+    say(rt, d, gathered, b"</text>\n")
 }
 
 // The bar of both.
-pub fn about_bar(out: Out, gathered: &mut [u8; GATHERED], frame: Frame, n: usize) -> Out {
-    let a = say(out, gathered, b"<text y=\"40\">");
+pub fn about_bar(
+    rt: &HostRuntime,
+    out: Out,
+    gathered: &mut [u8; GATHERED],
+    frame: Frame,
+    n: usize,
+) -> Out {
+    let a = say(rt, out, gathered, b"<text y=\"40\">");
     let b = bar(
+        rt,
         a,
         gathered,
         frame,
@@ -401,11 +466,12 @@ pub fn about_bar(out: Out, gathered: &mut [u8; GATHERED], frame: Frame, n: usize
         b"</text>\n<text y=\"45\">",
         b"</text>\n<text y=\"50\">",
     );
-    say(b, gathered, b"</text>\n")
+    say(rt, b, gathered, b"</text>\n")
 }
 
 // The first of both.
 pub fn about_first(
+    rt: &HostRuntime,
     out: Out,
     gathered: &mut [u8; GATHERED],
     stock: TurnStock,
@@ -413,6 +479,7 @@ pub fn about_first(
     rings: &[f64],
 ) -> Out {
     about(
+        rt,
         out,
         gathered,
         b"<text class=\"name\" y=\"24\">Two stocks of one bar</text>\n<text y=\"30\">first: ",
@@ -424,6 +491,7 @@ pub fn about_first(
 
 // The second of both.
 pub fn about_second(
+    rt: &HostRuntime,
     out: Out,
     gathered: &mut [u8; GATHERED],
     stock: TurnStock,
@@ -431,6 +499,7 @@ pub fn about_second(
     rings: &[f64],
 ) -> Out {
     about(
+        rt,
         out,
         gathered,
         b"<text y=\"35\">second: ",
@@ -441,8 +510,9 @@ pub fn about_second(
 }
 
 // What each area means, and the end of the picture.
-pub fn key_two(out: Out, gathered: &mut [u8; GATHERED]) -> Out {
+pub fn key_two(rt: &HostRuntime, out: Out, gathered: &mut [u8; GATHERED]) -> Out {
     say(
+        rt,
         out,
         gathered,
         b"<path class=\"key both\" d=\"M0 55h8v4H0z\"/><text x=\"10\" y=\"58.3\">metal in both</text>\n\

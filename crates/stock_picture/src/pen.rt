@@ -15,59 +15,83 @@ const LAST_SCALE: usize = 27;
 const LAST: usize = 30;
 
 // Puts bytes.
-pub fn say(out: Out, gathered: &mut [u8; GATHERED], bytes: &[u8]) -> Out {
-    streams::put(1, out, gathered, bytes)
+pub fn say(rt: &HostRuntime, out: Out, gathered: &mut [u8; GATHERED], bytes: &[u8]) -> Out {
+    streams::put(rt, &mut rt.stdout(), out, gathered, bytes)
 }
 
 // Puts the first n bytes of a line.
-pub fn line(out: Out, gathered: &mut [u8; GATHERED], bytes: &[u8; LINE_ROOM], n: usize) -> Out {
-    say(out, gathered, text::front(bytes, n))
+pub fn line(
+    rt: &HostRuntime,
+    out: Out,
+    gathered: &mut [u8; GATHERED],
+    bytes: &[u8; LINE_ROOM],
+    n: usize,
+) -> Out {
+    say(rt, out, gathered, text::front(bytes, n))
 }
 
 // Puts a number of the layout, rounded to 1e-9.
-pub fn number(out: Out, gathered: &mut [u8; GATHERED], x: f64) -> Out {
+pub fn number(rt: &HostRuntime, out: Out, gathered: &mut [u8; GATHERED], x: f64) -> Out {
     let mut own = [0u8; 32];
     let n = text::put_millimetres(&mut own, 0, x);
-    say(out, gathered, text::front(&own, n))
+    say(rt, out, gathered, text::front(&own, n))
 }
 
 // Puts a length of a stock, rounded to 1e-4 mm.
-pub fn length(out: Out, gathered: &mut [u8; GATHERED], x: f64) -> Out {
+pub fn length(rt: &HostRuntime, out: Out, gathered: &mut [u8; GATHERED], x: f64) -> Out {
     let mut own = [0u8; LINE_ROOM];
     let n = picture::put_length(&mut own, 0, x);
-    line(out, gathered, &own, n)
+    line(rt, out, gathered, &own, n)
 }
 
 // Puts a whole number.
-pub fn count(out: Out, gathered: &mut [u8; GATHERED], n: u64) -> Out {
+pub fn count(rt: &HostRuntime, out: Out, gathered: &mut [u8; GATHERED], n: u64) -> Out {
     let mut own = [0u8; LINE_ROOM];
     let k = text::put_decimal(&mut own, 0, n);
-    line(out, gathered, &own, k)
+    line(rt, out, gathered, &own, k)
 }
 
 // Puts an edition.
-pub fn edition(out: Out, gathered: &mut [u8; GATHERED], n: u32) -> Out {
+pub fn edition(rt: &HostRuntime, out: Out, gathered: &mut [u8; GATHERED], n: u32) -> Out {
     let mut own = [0u8; LINE_ROOM];
     let k = text::put_eight(&mut own, 0, n);
-    line(out, gathered, &own, k)
+    line(rt, out, gathered, &own, k)
 }
 
 // Puts bytes, and behind them a number of the layout.
-pub fn number_after(out: Out, gathered: &mut [u8; GATHERED], bytes: &[u8], x: f64) -> Out {
-    let a = say(out, gathered, bytes);
-    number(a, gathered, x)
+pub fn number_after(
+    rt: &HostRuntime,
+    out: Out,
+    gathered: &mut [u8; GATHERED],
+    bytes: &[u8],
+    x: f64,
+) -> Out {
+    let a = say(rt, out, gathered, bytes);
+    number(rt, a, gathered, x)
 }
 
 // Puts bytes, and behind them a length of a stock.
-pub fn length_after(out: Out, gathered: &mut [u8; GATHERED], bytes: &[u8], x: f64) -> Out {
-    let a = say(out, gathered, bytes);
-    length(a, gathered, x)
+pub fn length_after(
+    rt: &HostRuntime,
+    out: Out,
+    gathered: &mut [u8; GATHERED],
+    bytes: &[u8],
+    x: f64,
+) -> Out {
+    let a = say(rt, out, gathered, bytes);
+    length(rt, a, gathered, x)
 }
 
 // Puts bytes, and behind them a whole number.
-pub fn count_after(out: Out, gathered: &mut [u8; GATHERED], bytes: &[u8], n: u64) -> Out {
-    let a = say(out, gathered, bytes);
-    count(a, gathered, n)
+pub fn count_after(
+    rt: &HostRuntime,
+    out: Out,
+    gathered: &mut [u8; GATHERED],
+    bytes: &[u8],
+    n: u64,
+) -> Out {
+    let a = say(rt, out, gathered, bytes);
+    count(rt, a, gathered, n)
 }
 
 // The greatest nice scale by which an extent finds room.

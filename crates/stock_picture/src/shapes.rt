@@ -14,6 +14,7 @@ fn bins(s: Stretch) -> usize {
 
 // One side of a contour.
 fn walk(
+    rt: &HostRuntime,
     out: Out,
     gathered: &mut [u8; GATHERED],
     look: Look,
@@ -29,7 +30,7 @@ fn walk(
     while k < n {
         let mut own = [0u8; LINE_ROOM];
         let step = picture::contour_step(&mut own, look, side, spec, cells1, cells2, s, k);
-        o = line(o, gathered, &own, step.len);
+        o = line(rt, o, gathered, &own, step.len);
         let next = step.next;
         if next <= k {
             return o;
@@ -41,6 +42,7 @@ fn walk(
 
 // The contour of a stretch.
 fn contour(
+    rt: &HostRuntime,
     out: Out,
     gathered: &mut [u8; GATHERED],
     look: Look,
@@ -53,6 +55,7 @@ fn contour(
         return out;
     }
     let a = walk(
+        rt,
         out,
         gathered,
         look,
@@ -62,25 +65,42 @@ fn contour(
         cells2,
         s,
     );
-    let b = walk(a, gathered, look, TurnSide::Inner, spec, cells1, cells2, s);
-    say(b, gathered, b"z")
+    let b = walk(
+        rt,
+        a,
+        gathered,
+        look,
+        TurnSide::Inner,
+        spec,
+        cells1,
+        cells2,
+        s,
+    );
+    say(rt, b, gathered, b"z")
 }
 
 // A mark under a stretch of bins.
-fn mark(out: Out, gathered: &mut [u8; GATHERED], spec: TurnStockSpec, s: Stretch) -> Out {
+fn mark(
+    rt: &HostRuntime,
+    out: Out,
+    gathered: &mut [u8; GATHERED],
+    spec: TurnStockSpec,
+    s: Stretch,
+) -> Out {
     if s.to <= s.from {
         return out;
     }
     let za = stock::bin_of(spec, s.from).za;
     let zb = stock::bin_of(spec, s.to - 1).zb;
-    let a = length_after(out, gathered, b"M", za - spec.z_min_mm);
-    let b = length_after(a, gathered, b" 1H", zb - spec.z_min_mm);
-    let c = length_after(b, gathered, b"v1.8H", za - spec.z_min_mm);
-    say(c, gathered, b"z")
+    let a = length_after(rt, out, gathered, b"M", za - spec.z_min_mm);
+    let b = length_after(rt, a, gathered, b" 1H", zb - spec.z_min_mm);
+    let c = length_after(rt, b, gathered, b"v1.8H", za - spec.z_min_mm);
+    say(rt, c, gathered, b"z")
 }
 
 // A stretch as it is drawn.
 fn shape(
+    rt: &HostRuntime,
     out: Out,
     gathered: &mut [u8; GATHERED],
     look: Look,
@@ -90,15 +110,16 @@ fn shape(
     s: Stretch,
 ) -> Out {
     match look {
-        Look::Metal => contour(out, gathered, look, spec, cells1, cells2, s),
-        Look::May => contour(out, gathered, look, spec, cells1, cells2, s),
-        Look::Gone => mark(out, gathered, spec, s),
-        Look::Unlike => mark(out, gathered, spec, s),
+        Look::Metal => contour(rt, out, gathered, look, spec, cells1, cells2, s),
+        Look::May => contour(rt, out, gathered, look, spec, cells1, cells2, s),
+        Look::Gone => mark(rt, out, gathered, spec, s),
+        Look::Unlike => mark(rt, out, gathered, spec, s),
     }
 }
 
 // Every stretch.
 fn stretches(
+    rt: &HostRuntime,
     out: Out,
     gathered: &mut [u8; GATHERED],
     look: Look,
@@ -111,7 +132,7 @@ fn stretches(
     let mut i: usize = 0;
     while i < n {
         let s = picture::next_stretch(look, spec, cells1, cells2, i);
-        o = shape(o, gathered, look, spec, cells1, cells2, s);
+        o = shape(rt, o, gathered, look, spec, cells1, cells2, s);
         let next = s.to;
         if next <= i {
             return o;
@@ -123,6 +144,7 @@ fn stretches(
 
 // A path of contours.
 fn band(
+    rt: &HostRuntime,
     out: Out,
     gathered: &mut [u8; GATHERED],
     opening: &[u8],
@@ -131,19 +153,19 @@ fn band(
     cells1: &[f64],
     cells2: &[f64],
 ) -> Out {
-    let a = say(out, gathered, opening);
-    let b = stretches(a, gathered, look, spec, cells1, cells2);
-    say(b, gathered, b"\"/>\n")
+    let a = say(rt, out, gathered, opening);
+    let b = stretches(rt, a, gathered, look, spec, cells1, cells2);
+    say(rt, b, gathered, b"\"/>\n")
 }
 
 // The path of a ring.
-fn ring(out: Out, gathered: &mut [u8; GATHERED], z_min: f64, q: Ring) -> Out {
-    let a = length_after(out, gathered, b"M", q.z0 - z_min);
-    let b = length_after(a, gathered, b" ", q.r0);
-    let c = length_after(b, gathered, b"H", q.z1 - z_min);
-    let d = length_after(c, gathered, b"V", q.r1);
-    let e = length_after(d, gathered, b"H", q.z0 - z_min);
-    say(e, gathered, b"z")
+fn ring(rt: &HostRuntime, out: Out, gathered: &mut [u8; GATHERED], z_min: f64, q: Ring) -> Out {
+    let a = length_after(rt, out, gathered, b"M", q.z0 - z_min);
+    let b = length_after(rt, a, gathered, b" ", q.r0);
+    let c = length_after(rt, b, gathered, b"H", q.z1 - z_min);
+    let d = length_after(rt, c, gathered, b"V", q.r1);
+    let e = length_after(rt, d, gathered, b"H", q.z0 - z_min);
+    say(rt, e, gathered, b"z")
 }
 
 // Ring i.
@@ -158,11 +180,18 @@ fn ring_at(rings: &[f64], i: usize) -> Ring {
 }
 
 // The first n rings.
-fn rings_to(out: Out, gathered: &mut [u8; GATHERED], z_min: f64, rings: &[f64], n: usize) -> Out {
+fn rings_to(
+    rt: &HostRuntime,
+    out: Out,
+    gathered: &mut [u8; GATHERED],
+    z_min: f64,
+    rings: &[f64],
+    n: usize,
+) -> Out {
     let mut o = out;
     let mut i: usize = 0;
     while i < n {
-        o = ring(o, gathered, z_min, ring_at(rings, i));
+        o = ring(rt, o, gathered, z_min, ring_at(rings, i));
         i += 1;
     }
     o
@@ -170,40 +199,50 @@ fn rings_to(out: Out, gathered: &mut [u8; GATHERED], z_min: f64, rings: &[f64], 
 
 // A path of rings.
 fn all_rings(
+    rt: &HostRuntime,
     out: Out,
     gathered: &mut [u8; GATHERED],
     opening: &[u8],
     z_min: f64,
     rings: &[f64],
 ) -> Out {
-    let a = say(out, gathered, opening);
-    let b = rings_to(a, gathered, z_min, rings, rings.len() / 4);
-    say(b, gathered, b"\"/>\n")
+    let a = say(rt, out, gathered, opening);
+    let b = rings_to(rt, a, gathered, z_min, rings, rings.len() / 4);
+    say(rt, b, gathered, b"\"/>\n")
 }
 
 // The first n pieces.
 fn pieces_to(
+    rt: &HostRuntime,
     out: Out,
     gathered: &mut [u8; GATHERED],
     z_min: f64,
     pieces: &[f64; 1024],
     n: usize,
 ) -> Out {
-    rings_to(out, gathered, z_min, pieces, n)
+    rings_to(rt, out, gathered, z_min, pieces, n)
 }
 
 // What the others leave of a ring.
-fn left(out: Out, gathered: &mut [u8; GATHERED], z_min: f64, q: Ring, others: &[f64]) -> Out {
+fn left(
+    rt: &HostRuntime,
+    out: Out,
+    gathered: &mut [u8; GATHERED],
+    z_min: f64,
+    q: Ring,
+    others: &[f64],
+) -> Out {
     let mut pieces = [0.0f64; 1024];
     let left = rings::left_of(others, others.len() / 4, q, &mut pieces);
     match left {
-        Left::Pieces(n) => pieces_to(out, gathered, z_min, &pieces, n),
+        Left::Pieces(n) => pieces_to(rt, out, gathered, z_min, &pieces, n),
         Left::Refused(_) => out,
     }
 }
 
 // What the others leave of every ring.
 fn all_left(
+    rt: &HostRuntime,
     out: Out,
     gathered: &mut [u8; GATHERED],
     opening: &[u8],
@@ -212,29 +251,31 @@ fn all_left(
     others: &[f64],
 ) -> Out {
     let n = rings.len() / 4;
-    let mut o = say(out, gathered, opening);
+    let mut o = say(rt, out, gathered, opening);
     let mut i: usize = 0;
     while i < n {
-        o = left(o, gathered, z_min, ring_at(rings, i), others);
+        o = left(rt, o, gathered, z_min, ring_at(rings, i), others);
         i += 1;
     }
-    say(o, gathered, b"\"/>\n")
+    say(rt, o, gathered, b"\"/>\n")
 }
 
 // The group in which a millimetre of the stock is a millimetre.
-fn open_group(out: Out, gathered: &mut [u8; GATHERED], frame: Frame) -> Out {
+fn open_group(rt: &HostRuntime, out: Out, gathered: &mut [u8; GATHERED], frame: Frame) -> Out {
     let a = number_after(
+        rt,
         out,
         gathered,
         b"<g class=\"stock\" transform=\"scale(",
         frame.along,
     );
-    let b = number_after(a, gathered, b",-", frame.up);
-    say(b, gathered, b")\">\n")
+    let b = number_after(rt, a, gathered, b",-", frame.up);
+    say(rt, b, gathered, b")\">\n")
 }
 
 // Marks, in a group in which a millimetre of the stock is one along z only.
 fn marked(
+    rt: &HostRuntime,
     out: Out,
     gathered: &mut [u8; GATHERED],
     look: Look,
@@ -243,18 +284,20 @@ fn marked(
     cells2: &[f64],
 ) -> Out {
     let a = number_after(
+        rt,
         out,
         gathered,
         b"</g>\n<path class=\"mark\" transform=\"scale(",
         frame.along,
     );
-    let b = say(a, gathered, b",1)\" d=\"");
-    let c = stretches(b, gathered, look, frame.spec, cells1, cells2);
-    say(c, gathered, b"\"/>\n")
+    let b = say(rt, a, gathered, b",1)\" d=\"");
+    let c = stretches(rt, b, gathered, look, frame.spec, cells1, cells2);
+    say(rt, c, gathered, b"\"/>\n")
 }
 
 // One stock.
 pub fn one(
+    rt: &HostRuntime,
     out: Out,
     gathered: &mut [u8; GATHERED],
     frame: Frame,
@@ -262,8 +305,9 @@ pub fn one(
     rings: &[f64],
 ) -> Out {
     let spec = frame.spec;
-    let a = open_group(out, gathered, frame);
+    let a = open_group(rt, out, gathered, frame);
     let b = band(
+        rt,
         a,
         gathered,
         b"<path fill=\"url(#doubt)\" d=\"",
@@ -273,6 +317,7 @@ pub fn one(
         cells,
     );
     let c = band(
+        rt,
         b,
         gathered,
         b"<path class=\"metal\" d=\"",
@@ -282,6 +327,7 @@ pub fn one(
         cells,
     );
     let d = all_rings(
+        rt,
         c,
         gathered,
         b"<path class=\"hole\" d=\"",
@@ -289,17 +335,19 @@ pub fn one(
         rings,
     );
     let e = all_rings(
+        rt,
         d,
         gathered,
         b"<path class=\"ring\" d=\"",
         spec.z_min_mm,
         rings,
     );
-    marked(e, gathered, Look::Gone, frame, cells, cells)
+    marked(rt, e, gathered, Look::Gone, frame, cells, cells)
 }
 
 // What each of two stocks has of the bins.
 fn bands(
+    rt: &HostRuntime,
     out: Out,
     gathered: &mut [u8; GATHERED],
     spec: TurnStockSpec,
@@ -307,6 +355,7 @@ fn bands(
     cells2: &[f64],
 ) -> Out {
     let a = band(
+        rt,
         out,
         gathered,
         b"<path id=\"a\" fill=\"url(#first)\" d=\"",
@@ -316,6 +365,7 @@ fn bands(
         cells1,
     );
     let b = band(
+        rt,
         a,
         gathered,
         b"<path id=\"b\" fill=\"url(#second)\" d=\"",
@@ -325,6 +375,7 @@ fn bands(
         cells2,
     );
     let c = band(
+        rt,
         b,
         gathered,
         b"<path fill=\"url(#maybe)\" d=\"",
@@ -334,6 +385,7 @@ fn bands(
         cells2,
     );
     band(
+        rt,
         c,
         gathered,
         b"<path class=\"both\" d=\"",
@@ -346,6 +398,7 @@ fn bands(
 
 // What only one of two stocks has in the rings of the other.
 fn parts(
+    rt: &HostRuntime,
     out: Out,
     gathered: &mut [u8; GATHERED],
     z_min: f64,
@@ -353,11 +406,13 @@ fn parts(
     rings2: &[f64],
 ) -> Out {
     let a = say(
+        rt,
         out,
         gathered,
         b"<clipPath id=\"A\"><use href=\"#a\"/></clipPath><clipPath id=\"B\"><use href=\"#b\"/></clipPath>\n",
     );
     let b = all_left(
+        rt,
         a,
         gathered,
         b"<path class=\"part\" fill=\"url(#second)\" clip-path=\"url(#B)\" d=\"",
@@ -366,6 +421,7 @@ fn parts(
         rings2,
     );
     all_left(
+        rt,
         b,
         gathered,
         b"<path class=\"part\" fill=\"url(#first)\" clip-path=\"url(#A)\" d=\"",
@@ -377,21 +433,30 @@ fn parts(
 
 // The rings of two stocks, and what only one of them has there.
 fn ringed(
+    rt: &HostRuntime,
     out: Out,
     gathered: &mut [u8; GATHERED],
     z_min: f64,
     rings1: &[f64],
     rings2: &[f64],
 ) -> Out {
-    let a = all_rings(out, gathered, b"<path class=\"hole\" d=\"", z_min, rings1);
-    let b = all_rings(a, gathered, b"<path class=\"hole\" d=\"", z_min, rings2);
-    let c = parts(b, gathered, z_min, rings1, rings2);
-    let d = all_rings(c, gathered, b"<path class=\"ring\" d=\"", z_min, rings1);
-    all_rings(d, gathered, b"<path class=\"ring\" d=\"", z_min, rings2)
+    let a = all_rings(
+        rt,
+        out,
+        gathered,
+        b"<path class=\"hole\" d=\"",
+        z_min,
+        rings1,
+    );
+    let b = all_rings(rt, a, gathered, b"<path class=\"hole\" d=\"", z_min, rings2);
+    let c = parts(rt, b, gathered, z_min, rings1, rings2);
+    let d = all_rings(rt, c, gathered, b"<path class=\"ring\" d=\"", z_min, rings1);
+    all_rings(rt, d, gathered, b"<path class=\"ring\" d=\"", z_min, rings2)
 }
 
 // Two stocks.
 pub fn two(
+    rt: &HostRuntime,
     out: Out,
     gathered: &mut [u8; GATHERED],
     frame: Frame,
@@ -400,8 +465,8 @@ pub fn two(
     cells2: &[f64],
     rings2: &[f64],
 ) -> Out {
-    let a = open_group(out, gathered, frame);
-    let b = bands(a, gathered, frame.spec, cells1, cells2);
-    let c = ringed(b, gathered, frame.spec.z_min_mm, rings1, rings2);
-    marked(c, gathered, Look::Unlike, frame, cells1, cells2)
+    let a = open_group(rt, out, gathered, frame);
+    let b = bands(rt, a, gathered, frame.spec, cells1, cells2);
+    let c = ringed(rt, b, gathered, frame.spec.z_min_mm, rings1, rings2);
+    marked(rt, c, gathered, Look::Unlike, frame, cells1, cells2)
 }

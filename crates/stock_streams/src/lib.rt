@@ -9,6 +9,8 @@ ghost use Rattle.stock_file.specs.Write.{line_for, lines_to};
 ghost use Rattle.stock_streams.specs.Read.{brought_by, may_be_more, held_by, ReadsOn, ReadsStock};
 ghost use Rattle.stock_streams.specs.Write.{text_in, AllPut, PutsStock, Asked};
 
+use std::io::{Read, Write};
+use std::rt::Clock;
 use stock::TurnStock;
 use stock_file::{Kept, Lines, Spelled};
 use stock_lines::Reading;
@@ -75,7 +77,8 @@ fn held_by(got: Got, len: usize) -> usize
 
 // Reads once, into lent bytes, and takes what came.
 fn take_once(
-    fd: i32,
+    rt: &(impl Eprint + Clock),
+    from: &mut impl Read,
     part: &mut [u8],
     reading: Reading,
     cells: &mut [f64],
@@ -85,7 +88,7 @@ fn take_once(
 ) -> Turn
     ensures { ReadsOn reading len cells rings line result.reading result.len }
 {
-    let got = streams::read_some(fd, part);
+    let got = streams::read_some(rt, from, part);
     let n = brought(got);
     let taken = stock_file::take_part(reading, cells, rings, line, len, text::front(part, n));
     let after = taken.reading;
@@ -98,7 +101,8 @@ fn take_once(
 
 // The same, at most so many bytes.
 fn take_some(
-    fd: i32,
+    rt: &(impl Eprint + Clock),
+    from: &mut impl Read,
     most: usize,
     reading: Reading,
     cells: &mut [f64],
@@ -110,13 +114,14 @@ fn take_some(
 {
     let mut buf = io::large_buffer();
     let end = part_size(most);
-    take_once(fd, &mut buf[..end], reading, cells, rings, line, len)
+    take_once(rt, from, &mut buf[..end], reading, cells, rings, line, len)
 }
 
 // Reads a stock file to the end of its input, at most so many bytes at a time, from 1 to 65,536; 16 at
 // a line, 1, 2, 3, 4.
 pub fn read_stock(
-    fd: i32,
+    rt: &(impl Eprint + Clock),
+    from: &mut impl Read,
     most: usize,
     max_cells: usize,
     cells: &mut [f64],
@@ -129,7 +134,7 @@ pub fn read_stock(
     let mut len: usize = 0;
     let mut turns = u64::MAX;
     loop {
-        let t = take_some(fd, most, reading, cells, rings, &mut line, len);
+        let t = take_some(rt, from, most, reading, cells, rings, &mut line, len);
         reading = t.reading;
         len = t.len;
         let got = t.got;
@@ -147,7 +152,8 @@ pub fn read_stock(
 
 // Puts line k of a stock's file behind what is gathered; past the last line, nothing.
 fn put_line(
-    fd: i32,
+    rt: &(impl Eprint + Clock),
+    to: &mut impl Write,
     out: Out,
     gathered: &mut [u8; GATHERED],
     stock: TurnStock,
@@ -161,14 +167,15 @@ fn put_line(
     let mut line = [0u8; LINE_ROOM];
     let spelled = stock_file::file_line(&mut line, stock, cells, rings, k);
     match spelled {
-        Spelled::Bytes(n) => streams::put(fd, out, gathered, text::front(&line, n)),
+        Spelled::Bytes(n) => streams::put(rt, to, out, gathered, text::front(&line, n)),
         Spelled::Refused(_) => out,
     }
 }
 
 // Gathers the first n lines of a stock's file, and writes of them what finds no room.
 fn gather_lines(
-    fd: i32,
+    rt: &(impl Eprint + Clock),
+    to: &mut impl Write,
     gathered: &mut [u8; GATHERED],
     stock: TurnStock,
     cells: &[f64],
@@ -181,7 +188,7 @@ fn gather_lines(
     let mut out = streams::fresh();
     let mut k: usize = 0;
     while k < n {
-        out = put_line(fd, out, gathered, stock, cells, rings, k);
+        out = put_line(rt, to, out, gathered, stock, cells, rings, k);
         k += 1;
     }
     out
@@ -189,7 +196,8 @@ fn gather_lines(
 
 // Gathers a stock's file. One that is refused counts as a write that failed.
 fn gather_stock(
-    fd: i32,
+    rt: &(impl Eprint + Clock),
+    to: &mut impl Write,
     gathered: &mut [u8; GATHERED],
     stock: TurnStock,
     cells: &[f64],
@@ -200,7 +208,7 @@ fn gather_stock(
     let spec = stock.spec;
     let lines = stock_file::line_count(spec, cells, rings, stock.rings);
     match lines {
-        Lines::Count(n) => gather_lines(fd, gathered, stock, cells, rings, n),
+        Lines::Count(n) => gather_lines(rt, to, gathered, stock, cells, rings, n),
         Lines::Refused(_) => Out {
             len: 0,
             failed: true,
@@ -209,10 +217,16 @@ fn gather_stock(
 }
 
 // Writes a stock's file, and tells whether all of it was written. A stock that is refused is not.
-pub fn write_stock(fd: i32, stock: TurnStock, cells: &[f64], rings: &[f64]) -> bool
+pub fn write_stock(
+    rt: &(impl Eprint + Clock),
+    to: &mut impl Write,
+    stock: TurnStock,
+    cells: &[f64],
+    rings: &[f64],
+) -> bool
     ensures { result ≡ true → Asked stock cells.now rings.now }
 {
     let mut gathered = [0u8; GATHERED];
-    let out = gather_stock(fd, &mut gathered, stock, cells, rings);
-    streams::flush(fd, out, &gathered)
+    let out = gather_stock(rt, to, &mut gathered, stock, cells, rings);
+    streams::flush(rt, to, out, &gathered)
 }

@@ -1,16 +1,28 @@
-// What every program reads and writes by: one way to read a descriptor, one way to write to one.
+// What every program reads and writes by: one way to read from a reader, one way to write to a writer,
+// and its arguments, of which some name files.
 //
 // A read that fails is no end of input: it cuts the input off. A call that a signal ended is made
-// again, and so is one on a descriptor that has nothing to give or no room yet, after a nap. Bytes to
+// again, and so is one on a reader that has nothing to give or a writer without room yet, after a nap. Bytes to
 // write are gathered, so that one call moves many of them; a write that fails is the last one. Either
 // failure is told on standard error.
 //
-// No contract can say which bytes the C library's `read` and `write` move: theirs are assumed, here
-// and in the programs above.
+// No contract can say which bytes the system's `read` and `write` move.
 ghost use Rattle.std.specs.Prelude.{◌≡◌, ◌++◌, ◌+◌, ◌≤◌, length, take, true, false};
+ghost use Rattle.io.specs.Counts.{IsPrefixLen};
 ghost use Rattle.streams.specs.Moves.{Reads, Takes, SameFront, Puts};
 
+use std::io;
+use std::io::{ErrorKind, Read, Write};
+use std::rt::Clock;
+
+mod names;
 mod rest;
+mod standard;
+
+pub use names::{
+    argument, argument_count, create, fail, fail_at, open, path_of, read_full, remove, rename,
+};
+pub use standard::hold_standard;
 
 // What a read brings: so many bytes at the front of the buffer, the end of the input, or a failure.
 #[derive(Clone, Copy)]
@@ -31,14 +43,13 @@ pub struct Out {
 // So many bytes are gathered at most.
 pub const GATHERED: usize = 65536;
 
-// Whether a call that failed is to be made again.
-fn is_again() -> bool {
-    let error = os::errno();
-    if error == libc::EINTR {
+// Whether a call that failed so is to be made again.
+fn is_again(rt: &impl Clock, error: io::Error) -> bool {
+    if error.kind() == ErrorKind::Interrupted {
         return true;
     }
-    if error == libc::EAGAIN {
-        rest::nap();
+    if error.kind() == ErrorKind::WouldBlock {
+        rest::nap(rt);
         return true;
     }
     false
@@ -47,21 +58,20 @@ fn is_again() -> bool {
 // ---- reading
 
 // Reads what comes next. With no room for a byte it finds the end.
-pub fn read_some(fd: i32, buf: &mut [u8]) -> Got
+pub fn read_some(rt: &(impl Eprint + Clock), from: &mut impl Read, buf: &mut [u8]) -> Got
     ensures { Reads result buf.new }
 {
     let mut turns = u64::MAX;
     while turns > 0 {
-        let got = libc::read(fd, buf);
-        if got > 0 {
-            return Got::Bytes(io::count(got, buf));
-        }
-        if got == 0 {
-            return Got::End;
-        }
-        if !is_again() {
-            os::fail(b"read");
-            return Got::Cut;
+        match from.read(buf) {
+            Ok(0) => return Got::End,
+            Ok(n) => return Got::Bytes(n),
+            Err(e) => {
+                if !is_again(rt, e) {
+                    fail(rt, "read", e);
+                    return Got::Cut;
+                }
+            }
         }
         turns -= 1;
     }
@@ -78,26 +88,27 @@ enum Took {
     Failed,
 }
 
-fn write_some(fd: i32, bytes: &[u8]) -> Took
+fn write_some(rt: &(impl Eprint + Clock), to: &mut impl Write, bytes: &[u8]) -> Took
     ensures { Takes result bytes.now }
 {
-    let put = libc::write(fd, bytes);
-    if put > 0 {
-        return Took::Bytes(io::count(put, bytes));
+    match to.write(bytes) {
+        Ok(0) => {
+            let _ = eprintln!(rt; "write: no byte was taken");
+            Took::Failed
+        }
+        Ok(n) => Took::Bytes(n),
+        Err(e) => {
+            if is_again(rt, e) {
+                return Took::Nothing;
+            }
+            fail(rt, "write", e);
+            Took::Failed
+        }
     }
-    if put == 0 {
-        io::write_all(libc::STDERR_FILENO, b"write: no byte was taken\n");
-        return Took::Failed;
-    }
-    if is_again() {
-        return Took::Nothing;
-    }
-    os::fail(b"write");
-    Took::Failed
 }
 
 // Writes all the bytes, and answers whether none is left.
-fn write_out(fd: i32, bytes: &[u8]) -> bool {
+fn write_out(rt: &(impl Eprint + Clock), to: &mut impl Write, bytes: &[u8]) -> bool {
     let mut done: usize = 0;
     let mut turns = u64::MAX;
     while done < bytes.len() {
@@ -105,7 +116,7 @@ fn write_out(fd: i32, bytes: &[u8]) -> bool {
             return false;
         }
         turns -= 1;
-        match write_some(fd, &bytes[done..]) {
+        match write_some(rt, to, &bytes[done..]) {
             Took::Bytes(n) => {
                 done += n;
             }
@@ -119,11 +130,16 @@ fn write_out(fd: i32, bytes: &[u8]) -> bool {
 }
 
 // Writes the first len bytes, all where there are fewer.
-fn write_front(fd: i32, gathered: &[u8], len: usize) -> bool {
+fn write_front(
+    rt: &(impl Eprint + Clock),
+    to: &mut impl Write,
+    gathered: &[u8],
+    len: usize,
+) -> bool {
     if gathered.len() <= len {
-        return write_out(fd, gathered);
+        return write_out(rt, to, gathered);
     }
-    write_out(fd, &gathered[..len])
+    write_out(rt, to, &gathered[..len])
 }
 
 // The bytes at a place of those that are gathered.
@@ -156,7 +172,13 @@ pub fn fresh() -> Out
 }
 
 // Gathers some bytes more. Where they find no room, what was gathered is written first.
-pub fn put(fd: i32, out: Out, gathered: &mut [u8; GATHERED], bytes: &[u8]) -> Out
+pub fn put(
+    rt: &(impl Eprint + Clock),
+    to: &mut impl Write,
+    out: Out,
+    gathered: &mut [u8; GATHERED],
+    bytes: &[u8],
+) -> Out
     ensures { Puts out gathered.old bytes.now result gathered.new }
 {
     if out.failed {
@@ -171,7 +193,7 @@ pub fn put(fd: i32, out: Out, gathered: &mut [u8; GATHERED], bytes: &[u8]) -> Ou
             failed: false,
         };
     }
-    if !write_front(fd, gathered, len) {
+    if !write_front(rt, to, gathered, len) {
         return Out {
             len: 0,
             failed: true,
@@ -184,7 +206,7 @@ pub fn put(fd: i32, out: Out, gathered: &mut [u8; GATHERED], bytes: &[u8]) -> Ou
             failed: false,
         };
     }
-    let ok = write_out(fd, bytes);
+    let ok = write_out(rt, to, bytes);
     Out {
         len: 0,
         failed: !ok,
@@ -192,40 +214,13 @@ pub fn put(fd: i32, out: Out, gathered: &mut [u8; GATHERED], bytes: &[u8]) -> Ou
 }
 
 // Writes what is gathered, and answers whether all that was put has been written.
-pub fn flush(fd: i32, out: Out, gathered: &[u8; GATHERED]) -> bool
+pub fn flush(
+    rt: &(impl Eprint + Clock),
+    to: &mut impl Write,
+    out: Out,
+    gathered: &[u8; GATHERED],
+) -> bool
     ensures { out.failed ≡ true → result ≡ false }
 {
-    !out.failed && write_front(fd, gathered, out.len)
-}
-
-// ---- a program's own descriptors
-
-fn is_closed(fd: i32) -> bool {
-    if libc::lseek(fd, 0, libc::SEEK_CUR) < 0 {
-        os::errno() == libc::EBADF
-    } else {
-        false
-    }
-}
-
-// Takes the numbers of standard input, output and error where the program was started with one of
-// them closed, so that no file that is opened later gets it. Each is opened the wrong way round: a
-// read or a write of it still fails. Answers whether all three are taken.
-pub fn hold_standard() -> bool {
-    if is_closed(libc::STDIN_FILENO) {
-        if os::open_overwrite(b"/dev/null") != libc::STDIN_FILENO {
-            return false;
-        }
-    }
-    if is_closed(libc::STDOUT_FILENO) {
-        if os::open_read(b"/dev/null") != libc::STDOUT_FILENO {
-            return false;
-        }
-    }
-    if is_closed(libc::STDERR_FILENO) {
-        if os::open_read(b"/dev/null") != libc::STDERR_FILENO {
-            return false;
-        }
-    }
-    true
+    !out.failed && write_front(rt, to, gathered, out.len)
 }

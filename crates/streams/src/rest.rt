@@ -1,14 +1,8 @@
 // A wait of ten milliseconds, or until a signal comes.
-use libc::types::timespec;
+use std::rt::Clock;
+use std::thread;
+use std::time::Duration;
 
-pub fn nap() {
-    let asked = timespec {
-        tv_sec: 0,
-        tv_nsec: 10000000,
-    };
-    let mut left = timespec {
-        tv_sec: 0,
-        tv_nsec: 0,
-    };
-    libc::nanosleep(&asked, &mut left);
+pub fn nap(rt: &impl Clock) {
+    thread::sleep(rt, Duration::from_millis(10));
 }

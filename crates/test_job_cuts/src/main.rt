@@ -4,6 +4,7 @@
 // It writes each name with how many bytes were cut, and whether every cut left the run, the cells and
 // the rings of the whole file.
 use job_run::{CELL_NUMBERS, LINE_LIMIT, RING_NUMBERS, Run, Taken};
+use std::fs::File;
 use stock::TurnStockSpec;
 
 // Files are cut to so many bytes.
@@ -185,18 +186,11 @@ fn whole_and_cut(bytes: &[u8]) -> bool {
     all_cuts(bytes, whole, &cells, &rings)
 }
 
-// The job that argument i names, to so many bytes of it: its name, and whether its cuts are all the same.
-fn cut_file(i: usize) {
-    let mut path = io::buffer();
-    let length = os::arg(i, &mut path);
-    let fd = os::open_read(&path[..length]);
-    if fd < 0 {
-        return;
-    }
+// The job in an open file of that name.
+fn cut_open(name: &[u8], file: &mut File) {
     let mut bytes = io::buffer();
-    let n = io::read_full(fd, &mut bytes);
-    libc::close(fd);
-    io::write_all(1, &path[..length]);
+    let n = streams::read_full(file, &mut bytes);
+    io::write_all(1, name);
     io::write_all(1, b": ");
     io::print_decimal(1, n as u64);
     if whole_and_cut(&bytes[..n]) {
@@ -206,14 +200,25 @@ fn cut_file(i: usize) {
     io::write_all(1, b" bytes, NOT THE SAME\n");
 }
 
-fn main() {
-    if !streams::hold_standard() {
+// The job that argument i names, to so many bytes of it: its name, and whether its cuts are all the same.
+fn cut_file(rt: &HostRuntime, i: usize) {
+    let mut path = io::buffer();
+    let length = streams::argument(rt, i, &mut path);
+    let opened = streams::open(rt, &path[..length]);
+    match opened {
+        Ok(mut file) => cut_open(&path[..length], &mut file),
+        Err(_) => {}
+    }
+}
+
+fn main(rt: HostRuntime) {
+    if !streams::hold_standard(&rt) {
         return;
     }
-    let n = os::arg_count();
+    let n = streams::argument_count(&rt);
     let mut i: usize = 1;
     while i < n {
-        cut_file(i);
+        cut_file(&rt, i);
         i += 1;
     }
 }

@@ -4,31 +4,31 @@
 // The last argument is a folder: its read fails, so that its job is cut off.
 use job_run::{CELL_NUMBERS, LINE_LIMIT, RING_NUMBERS};
 use job_streams::End;
+use std::fs::File;
 
 // The job in an open file.
-fn run_file(fd: i32) {
+fn run_file(rt: &HostRuntime, file: &mut File) {
     let mut cells = [0.0f64; CELL_NUMBERS];
     let mut rings = [0.0f64; RING_NUMBERS];
     let mut line = [0u8; LINE_LIMIT];
     let start = job_run::fresh(0);
-    let ended = job_streams::read_job(fd, 7, start, &mut cells, &mut rings, &mut line);
+    let ended = job_streams::read_job(rt, file, 7, start, &mut cells, &mut rings, &mut line);
     let run = ended.run;
-    job_streams::write_answer(1, run, &cells, &rings);
-    job_help::write_why(1, ended, &line);
+    job_streams::write_answer(rt, &mut rt.stdout(), run, &cells, &rings);
+    job_help::write_why(rt, &mut rt.stdout(), ended, &line);
 }
 
 // The job that argument i names.
-fn run_case(i: usize) {
+fn run_case(rt: &HostRuntime, i: usize) {
     let mut path = io::buffer();
-    let length = os::arg(i, &mut path);
+    let length = streams::argument(rt, i, &mut path);
     io::write_all(1, &path[..length]);
     io::write_all(1, b"\n");
-    let fd = os::open_read(&path[..length]);
-    if fd < 0 {
-        return;
+    let opened = streams::open(rt, &path[..length]);
+    match opened {
+        Ok(mut file) => run_file(rt, &mut file),
+        Err(_) => {}
     }
-    run_file(fd);
-    libc::close(fd);
 }
 
 // The words for the last generation, which no job file gets to.
@@ -39,15 +39,15 @@ fn say_spent() {
     io::write_all(1, text::front(&words, n));
 }
 
-fn main() {
-    if !streams::hold_standard() {
+fn main(rt: HostRuntime) {
+    if !streams::hold_standard(&rt) {
         return;
     }
     say_spent();
-    let n = os::arg_count();
+    let n = streams::argument_count(&rt);
     let mut i: usize = 1;
     while i < n {
-        run_case(i);
+        run_case(&rt, i);
         i += 1;
     }
 }

@@ -9,24 +9,24 @@ fn write_name(name: &[u8], behind: &[u8]) {
 }
 
 // The files that arguments i and i + 1 name.
-fn compare_pair(i: usize) {
+fn compare_pair(rt: &HostRuntime, i: usize) {
     let mut first = io::buffer();
     let mut second = io::buffer();
-    let n = os::arg(i, &mut first);
-    let m = os::arg(std::num::wrapping_add_usize(i, 1), &mut second);
+    let n = streams::argument(rt, i, &mut first);
+    let m = streams::argument(rt, std::num::wrapping_add_usize(i, 1), &mut second);
     write_name(&first[..n], b" ");
     write_name(&second[..m], b"\n");
-    side_streams::write_differences(1, &first[..n], &second[..m]);
+    side_streams::write_differences(rt, &mut rt.stdout(), &first[..n], &second[..m]);
 }
 
-fn main() {
-    if !streams::hold_standard() {
+fn main(rt: HostRuntime) {
+    if !streams::hold_standard(&rt) {
         return;
     }
-    let pairs = os::arg_count() / 2;
+    let pairs = streams::argument_count(&rt) / 2;
     let mut k: usize = 0;
     while k < pairs {
-        compare_pair(2 * k + 1);
+        compare_pair(&rt, 2 * k + 1);
         k += 1;
     }
     many::say_all();

@@ -10,6 +10,7 @@ mod shown;
 mod ways;
 
 use shown::LENT;
+use std::fs::File;
 use stock_file::{Kept, Taken};
 use text::LINE_ROOM;
 
@@ -200,30 +201,34 @@ fn say_case(i: usize, bytes: &[u8]) {
     }
 }
 
-// The file that argument i names, to so many bytes of it.
-fn run_case(i: usize) {
-    let mut path = io::buffer();
-    let length = os::arg(i, &mut path);
-    let fd = os::open_read(&path[..length]);
-    if fd < 0 {
-        return;
-    }
+// The open file of that name, which argument i has.
+fn run_open(i: usize, name: &[u8], file: &mut File) {
     let mut bytes = io::buffer();
-    let n = io::read_full(fd, &mut bytes);
-    libc::close(fd);
-    io::write_all(1, &path[..length]);
+    let n = streams::read_full(file, &mut bytes);
+    io::write_all(1, name);
     io::write_all(1, b": ");
     say_case(i, &bytes[..n]);
 }
 
-fn main() {
-    if !streams::hold_standard() {
+// The file that argument i names, to so many bytes of it.
+fn run_case(rt: &HostRuntime, i: usize) {
+    let mut path = io::buffer();
+    let length = streams::argument(rt, i, &mut path);
+    let opened = streams::open(rt, &path[..length]);
+    match opened {
+        Ok(mut file) => run_open(i, &path[..length], &mut file),
+        Err(_) => {}
+    }
+}
+
+fn main(rt: HostRuntime) {
+    if !streams::hold_standard(&rt) {
         return;
     }
-    let n = os::arg_count();
+    let n = streams::argument_count(&rt);
     let mut i: usize = 1;
     while i < n {
-        run_case(i);
+        run_case(&rt, i);
         i += 1;
     }
     long::say_all();

@@ -5,4 +5,4 @@ use borrow.Author.Rules.{rules}
 use Rattle.streams.proofs.flush.Goals as goal
 
 pub returns-then-not-out : goal.returns-then-not-out
-returns-then-not-out c = search (rules, ap not e)
+returns-then-not-out c e = search (rules, ap not e)

@@ -3,9 +3,10 @@ use Rattle.std.proofs.Common.{◌≡◌, ◌-◌, ◌^◌, ◌<◌, ◌≤◌, l
 use Rattle.chop_lines.specs.Scan.{ScanRoom, in_hand, bytes_to}
 use Rattle.chop_lines.proofs.Taking.{bytes-step, bytes-end}
 use Rattle.chop_lines.proofs.scan.take_bytes.Goals as goal
+use Rattle.chop_lines.proofs.scan.take_bytes.Goals.{Start}
 
 -- a slice's length is a usize
-few : (c : tie.Start invariant-loop decreases-loop) → length c.args.bytes.now < 2 ^ 64
+few : (c : Start) → length c.args.bytes.now < 2 ^ 64
 few c = omega arith
 
 pub loop-i-init : goal.loop-i-init
@@ -17,7 +18,7 @@ take_byte-t-requires c = let l = c.loop-i.invariant in
     (record { numbers = l.2 ∙ p.numbers; line = l.3 ∙ p.line }, l.1)
 
 pub overflow_add-i : goal.overflow_add-i
-overflow_add-i c = omega (arith, few c, c.loop-i-test.true)
+overflow_add-i c = omega (arith, few c.before.before.before.before.before.before.before.before.before.before.before.before.before.before, c.loop-i-test.true)
 
 pub loop-i-preserved : goal.loop-i-preserved
 loop-i-preserved c = (search rules, c.take_byte-t.ensures.1, search rules, search rules, c.loop-i.invariant.4 ∙ bytes-step _ _ _ _ c.loop-i-test.true c.take_byte-t.ensures.0)

@@ -1,0 +1,91 @@
+// A program's arguments, files by name, and what is told where one cannot be opened.
+ghost use Rattle.std.specs.Prelude.{◌≤◌, length};
+ghost use Rattle.io.specs.Counts.{IsPrefixLen};
+
+use std::env::FillError;
+use std::io::{ErrorKind, Read};
+use std::rt::{Env, Files};
+use std::{fs, io};
+
+// Tells on standard error what failed, and why.
+pub fn fail(rt: &impl Eprint, what: &str, error: io::Error) {
+    let _ = eprintln!(rt; "{what}: {error}");
+}
+
+// The same of a file, by its name.
+pub fn fail_at(rt: &impl Eprint, name: &[u8], error: io::Error) {
+    match path_of(name) {
+        Ok(path) => fail(rt, path, error),
+        Err(_) => fail(rt, "a file", error),
+    }
+}
+
+// How many arguments there are, the program's own name among them.
+pub fn argument_count(rt: &impl Env) -> usize {
+    let mut room = [0u8; 1];
+    let mut i: usize = 0;
+    while i < usize::MAX {
+        match rt.arg(i, &mut room) {
+            Err(FillError::NotPresent) => return i,
+            Err(FillError::TooLong) => {}
+            Ok(_) => {}
+        }
+        i += 1;
+    }
+    i
+}
+
+// Puts argument i at the front of the buffer, and answers its length; 0 where there is none, or where
+// it finds no room.
+pub fn argument(rt: &impl Env, i: usize, buf: &mut [u8]) -> usize
+    ensures { IsPrefixLen result buf.new }
+{
+    match rt.arg(i, buf) {
+        Ok(n) => n,
+        Err(_) => 0,
+    }
+}
+
+// A name as a path, which is text.
+pub fn path_of(name: &[u8]) -> io::Result<&str> {
+    match str::from_utf8(name) {
+        Ok(path) => Ok(path),
+        Err(_) => Err(io::Error::new(ErrorKind::InvalidInput, "the name is no UTF-8 text")),
+    }
+}
+
+// Opens the file of a name to read it.
+pub fn open<R: Files>(rt: &R, name: &[u8]) -> io::Result<R::File> {
+    fs::open(rt, path_of(name)?)
+}
+
+// Opens the file of a name to write it, emptied where it is there.
+pub fn create<R: Files>(rt: &R, name: &[u8]) -> io::Result<R::File> {
+    fs::create(rt, path_of(name)?)
+}
+
+// Gives a file another name, in the place of one that has it.
+pub fn rename(rt: &impl Files, from: &[u8], to: &[u8]) -> io::Result<()> {
+    fs::rename(rt, path_of(from)?, path_of(to)?)
+}
+
+// Takes the file of a name away.
+pub fn remove(rt: &impl Files, name: &[u8]) -> io::Result<()> {
+    fs::remove_file(rt, path_of(name)?)
+}
+
+// Reads until the buffer is full, the input ends or a read fails, and answers how many bytes it put at
+// the buffer's front.
+pub fn read_full(from: &mut impl Read, buf: &mut [u8]) -> usize
+    ensures { IsPrefixLen result buf.new }
+{
+    let mut done: usize = 0;
+    while done < buf.len() {
+        match from.read(&mut buf[done..]) {
+            Ok(0) => return done,
+            Ok(n) => done += n,
+            Err(_) => return done,
+        }
+    }
+    done
+}
