@@ -1,12 +1,10 @@
 -- `envelope::number_of` meets its contract. Assumes nothing.
-use borrow.Author.Rules.{rules}
 use mathlib.Core.Path.{ap, sym, ◌∙◌}
 use borrow.Author.Tests.{not-true, not-false}
 use Rattle.envelope.specs.declared.Scanned.{Scanned}
 use Rattle.envelope.proofs.Kept.{odd, long, good-is, kept-outside, kept-good, order-up, order-down, order-mixed}
 use Rattle.envelope.proofs.number_of.Goals as goal
 
--- `envelope::number_of` meets its contract. Assumes nothing.
 pub returns-then-len-ne0 : goal.returns-then-len-ne0
 returns-then-len-ne0 c = kept-outside _ (odd _ c.if-len-ne0.true)
 

@@ -1,13 +1,11 @@
 -- `job_answer::gen_line` meets its contract. Assumes nothing.
 use mathlib.Core.Path.{refl}
 use native.Mathlib.Omega.{arith}
-use borrow.Author.Rules.{rules}
 use Rattle.text.proofs.Sets.{and_then, put-wrote}
 use Rattle.text.proofs.Spelling.{decimal-short}
 use Rattle.job_answer.specs.Lines.{gen_line}
 use Rattle.job_answer.proofs.gen_line.Goals as goal
 
--- `job_answer::gen_line` meets its contract. Assumes nothing.
 pub returns : goal.returns
 unfolding gen_line
 returns c = let h = decimal-short c.args.n in

@@ -5,15 +5,8 @@ use Rattle.std.proofs.Common.{◌≡◌, ◌-◌, ◌^◌, ◌<◌, ◌≤◌, l
 use mathlib.Core.List.{foldl}
 use Rattle.job_run.proofs.take_bytes.Goals as goal
 
--- a slice's length is a usize
-few : (c : tie.Start invariant-loop decreases-loop) → length c.args.bytes.now < 2 ^ 64
-few c = omega arith
-
 pub loop-i-init : goal.loop-i-init
 loop-i-init c = (search rules, search rules, search rules, search rules, refl, refl, refl)
-
-pub overflow_add-i : goal.overflow_add-i
-overflow_add-i c = omega (arith, few c, c.loop-i-test.true)
 
 pub loop-i-preserved : goal.loop-i-preserved
 loop-i-preserved c = (search rules, search rules, search rules, search rules, search rules, search rules, c.loop-i.invariant.6 ∙ bytes-step _ _ _ _ c.loop-i-test.true c.take_byte-t.ensures)

@@ -1,9 +1,7 @@
 -- `profile::bulge_at` meets its contract. Assumes nothing.
-use borrow.Author.Rules.{rules}
 use Rattle.profile.specs.Profile.{bulge_at}
 use Rattle.profile.proofs.bulge_at.Goals as goal
 
--- `profile::bulge_at` meets its contract. Assumes nothing.
 pub returns : goal.returns
 unfolding bulge_at
 returns c = c.clean_at.ensures

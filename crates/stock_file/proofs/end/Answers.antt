@@ -1,10 +1,8 @@
 -- `stock_file::end` meets its contract. Assumes nothing.
 use mathlib.Core.Path.{◌∙◌}
 use Rattle.stock_file.proofs.Ends.{ended-stopped, ended-cut, ended-missing, ended-whole}
-use borrow.Author.Rules.{rules}
 use Rattle.stock_file.proofs.end.Goals as goal
 
--- `stock_file::end` meets its contract. Assumes nothing.
 pub returns-then-reading : goal.returns-then-reading
 returns-then-reading c = ended-stopped _ _ c.if-reading.true
 

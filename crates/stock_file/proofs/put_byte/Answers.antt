@@ -2,9 +2,7 @@
 use native.Mathlib.Omega.{arith}
 use mathlib.Core.Path.{sym}
 use lib.Seq.{set_out}
-use borrow.Author.Rules.{rules}
 use Rattle.stock_file.proofs.put_byte.Goals as goal
 
--- `stock_file::put_byte` meets its contract. Assumes nothing.
 pub returns-else-at-line : goal.returns-else-at-line
 returns-else-at-line c = sym (set_out _ _ _ (omega arith))

@@ -1,6 +1,5 @@
 -- `stock_file::take_part` meets its contract. Assumes nothing.
-use native.Mathlib.Omega.{arith}
-use mathlib.Core.Path.{◌≡◌, refl, sym, ap, ◌∙◌, subst}
+use mathlib.Core.Path.{◌≡◌, refl, sym}
 use lib.ListN.{length}
 use Rattle.text.specs.Wrote.{line_room}
 use Rattle.text.proofs.Sets.{put-room}
@@ -9,7 +8,6 @@ use Rattle.stock_file.proofs.Held.{few-held, part-taken}
 use borrow.Author.Rules.{rules}
 use Rattle.stock_file.proofs.take_part.Goals as goal
 
--- `stock_file::take_part` meets its contract. Assumes nothing.
 pub slice_bounds-take_bytes-end : goal.slice_bounds-take_bytes-end
 slice_bounds-take_bytes-end c = sym (put-room c.put.ensures)
 

@@ -1,12 +1,11 @@
 -- `stock_lines::put_bar` meets its contract. Assumes nothing.
-use Rattle.std.proofs.Common.{sym, append-nil, arith, rules}
+use Rattle.std.proofs.Common.{sym, append-nil, arith}
 use Rattle.text.specs.Lines.{field}
 use Rattle.text.proofs.Sets.{and_then, retext, put-wrote}
 use Rattle.text.proofs.Spelling.{field-long}
 use Rattle.stock_lines.specs.Form.{fields_text}
 use Rattle.stock_lines.proofs.put_bar.Goals as goal
 
--- `stock_lines::put_bar` meets its contract. Assumes nothing.
 pub returns : goal.returns
 unfolding fields_text
 returns c = let b = c.args.bar in

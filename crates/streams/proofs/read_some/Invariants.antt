@@ -3,7 +3,6 @@ use mathlib.Core.Path.{◌≡◌}
 use lib.ListN.{length}
 use Rattle.streams.proofs.read_some.Given as goal
 
--- `streams::read_some` meets its contract. Assumes nothing.
 abbrev pub invariant-loop-turns : goal.invariant-loop-turns
 invariant-loop-turns g l = length l.buf ≡ length l.initial.buf
 

@@ -3,7 +3,6 @@ use Prim.Native.Nat.{◌≤◌}
 use lib.ListN.{length}
 use Rattle.streams.proofs.write_out.Given as goal
 
--- `streams::write_out` meets its contract. Assumes nothing.
 abbrev pub invariant-loop-done : goal.invariant-loop-done
 invariant-loop-done g l = l.done ≤ length l.bytes
 

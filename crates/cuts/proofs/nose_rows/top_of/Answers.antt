@@ -7,7 +7,6 @@ use Rattle.reach.specs.Low.{low_paper}
 use Rattle.cuts.proofs.Rests.{topped}
 use Rattle.cuts.proofs.nose_rows.top_of.Goals as goal
 
--- `cuts::nose_rows::top_of` meets its contract. Assumes nothing.
 pub returns-then-low-high : goal.returns-then-low-high
 unfolding low_paper
 returns-then-low-high c = let l = c.in-At.is in
@@ -19,3 +18,14 @@ unfolding low_paper
 returns-then-high-low c = let l = c.in-At.is in
     let h = c.in-At-h.is in
     topped _ _ _ _ _ l h (le_same _ (le-number-r _ _ (so c.if-high-low.true))) (so c.if-high-low.true)
+pub returns-in_default : goal.returns-in_default
+unfolding low_paper
+returns-in_default c = tt
+
+pub returns-in_default-h : goal.returns-in_default-h
+unfolding low_paper
+returns-in_default-h c = tt
+
+pub returns : goal.returns
+unfolding low_paper
+returns c = tt

@@ -1,16 +1,10 @@
 -- `envelope::segments::highest_in` meets its contract. Assumes nothing.
-use borrow.Author.Rules.{rules}
-use Prim.Native.Nat.{◌+◌, ◌-◌, ◌≤◌, ◌<◌}
-use mathlib.Core.Path.{◌≡◌, ap, sym, ◌∙◌}
-use mathlib.Core.Option.{Option}
-use lib.Ieee.{Float}
-use native.Mathlib.Omega.{arith}
-use Rattle.envelope.specs.Envelope.{point_at, higher, segment_at, highest_to}
+use Prim.Native.Nat.{◌-◌, ◌≤◌, ◌<◌}
+use mathlib.Core.Path.{◌≡◌}
+use Rattle.envelope.specs.Envelope.{highest_to}
 use Rattle.envelope.specs.Halving.{radius_of}
-use Rattle.envelope.proofs.Steps.{highest-more}
 use Rattle.envelope.proofs.segments.highest_in.Given as goal
 
--- `envelope::segments::highest_in` meets its contract. Assumes nothing.
 abbrev pub invariant-loop-i : goal.invariant-loop-i
 invariant-loop-i l = (l.start ≤ l.i) × (l.i < l.end) × (radius_of l.found ≡ highest_to l.points l.u l.start (l.i - l.start))
 

@@ -1,13 +1,11 @@
 -- `insert::candidates::with_candidate` meets its contract. Assumes nothing.
-use borrow.Author.Rules.{rules}
-use mathlib.Core.Path.{◌≡◌, sym, ap, ap₂, ◌∙◌}
+use mathlib.Core.Path.{sym, ap, ◌∙◌}
 use Rattle.floats.specs.Pick.{pick_true, pick-false}
 use Rattle.envelope.specs.Halving.{radius_of}
 use Rattle.envelope.specs.Envelope.{higher}
 use Rattle.insert.specs.Insert.{with_candidate}
 use Rattle.insert.proofs.candidates.with_candidate.Goals as goal
 
--- `insert::candidates::with_candidate` meets its contract. Assumes nothing.
 pub returns-then-a-u : goal.returns-then-a-u
 unfolding with_candidate
 returns-then-a-u c = let a = c.args in

@@ -1,13 +1,11 @@
 -- `insert::candidates::with_point` meets its contract. Assumes nothing.
-use borrow.Author.Rules.{rules}
-use mathlib.Core.Path.{◌≡◌, sym, ap, ap₂, ◌∙◌}
+use mathlib.Core.Path.{ap, ◌∙◌}
 use mathlib.Core.Option.{Option}
 use lib.Ieee.{Float}
 use Rattle.floats.specs.Numbers.{◌+₆₄◌}
 use Rattle.insert.specs.Insert.{with_candidate, with_point}
 use Rattle.insert.proofs.candidates.with_point.Goals as goal
 
--- `insert::candidates::with_point` meets its contract. Assumes nothing.
 pub returns : goal.returns
 unfolding with_point
 returns c = let a = c.args in

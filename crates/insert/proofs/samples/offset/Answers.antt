@@ -1,12 +1,10 @@
 -- `insert::samples::offset` meets its contract. Assumes nothing.
-use borrow.Author.Rules.{rules}
-use mathlib.Core.Path.{◌≡◌, sym, ap, ap₂, ◌∙◌}
+use mathlib.Core.Path.{sym, ap, ◌∙◌}
 use Rattle.envelope.specs.Halving.{radius_of}
 use mathlib.Core.Option.{some}
 use Rattle.insert.specs.Insert.{moved_of, offset_of}
 use Rattle.insert.proofs.samples.offset.Goals as goal
 
--- `insert::samples::offset` meets its contract. Assumes nothing.
 pub returns-in-Nowhere : goal.returns-in-Nowhere
 unfolding offset_of moved_of radius_of
 returns-in-Nowhere c = let a = c.args in

@@ -1,13 +1,11 @@
 -- `insert::samples::with_inside` meets its contract. Assumes nothing.
-use borrow.Author.Rules.{rules}
-use mathlib.Core.Path.{◌≡◌, sym, ap, ap₂, ◌∙◌}
+use mathlib.Core.Path.{sym, ap, ◌∙◌}
 use Rattle.floats.specs.Pick.{pick_true, pick-false}
 use Rattle.envelope.specs.Halving.{radius_of}
 use Rattle.envelope.specs.Envelope.{u_at}
 use Rattle.insert.specs.Insert.{both, with_inside}
 use Rattle.insert.proofs.samples.with_inside.Goals as goal
 
--- `insert::samples::with_inside` meets its contract. Assumes nothing.
 pub own_sample-requires : goal.own_sample-requires
 unfolding u_at
 own_sample-requires c = (c.requires.0, c.clean-u.ensures)

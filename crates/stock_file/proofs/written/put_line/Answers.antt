@@ -2,10 +2,8 @@
 use Rattle.stock_lines.specs.Form.{written_form}
 use Rattle.stock_file.specs.Write.{opening}
 use Rattle.stock_file.proofs.Lined.{reline, no_line, first-line, cell-line, ring-line, last_line, past-line}
-use borrow.Author.Rules.{rules}
 use Rattle.stock_file.proofs.written.put_line.Goals as goal
 
--- `stock_file::written::put_line` meets its contract. Assumes nothing.
 pub returns-then-k-eq0 : goal.returns-then-k-eq0
 returns-then-k-eq0 c = reline (first-line _ _ _ _ _ _ c.if-k-eq0.true) c.stock_line.ensures
 

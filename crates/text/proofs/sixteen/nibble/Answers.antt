@@ -1,9 +1,8 @@
 -- `text::sixteen::nibble` meets its contract. Assumes nothing.
-use Rattle.std.proofs.Common.{◌∙◌, arith, rules}
+use Rattle.std.proofs.Common.{◌∙◌, arith}
 use Rattle.text.proofs.Reading.{nibble-is-low, nibble-is-high, nibble-first, nibble-between, nibble-last}
 use Rattle.text.proofs.sixteen.nibble.Goals as goal
 
--- `text::sixteen::nibble` meets its contract. Assumes nothing.
 pub returns-then-b-lt48 : goal.returns-then-b-lt48
 returns-then-b-lt48 c = nibble-first _ c.if-b-lt48.true
 
