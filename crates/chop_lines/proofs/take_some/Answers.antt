@@ -1,5 +1,4 @@
 -- `chop_lines::take_some` meets its contract. Assumes nothing.
-use Rattle.std.proofs.Common.{◌∙◌, rules}
 use Rattle.chop_lines.proofs.take_some.Goals as goal
 
 pub returns : goal.returns

@@ -1,5 +1,5 @@
 -- `chop_lines::scan::first_line` meets its contract. Assumes nothing.
-use Rattle.std.proofs.Common.{sym, refl, ap, ◌∙◌, rules}
+use Rattle.std.proofs.Common.{sym, refl, ap, ◌∙◌}
 use Rattle.chop_lines.specs.Scan.{first_line}
 use Rattle.chop_lines.proofs.Reading.{scan-is}
 use Rattle.chop_lines.proofs.scan.first_line.Goals as goal

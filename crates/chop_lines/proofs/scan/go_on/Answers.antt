@@ -1,5 +1,5 @@
 -- `chop_lines::scan::go_on` meets its contract. Assumes nothing.
-use Rattle.std.proofs.Common.{refl, rules}
+use Rattle.std.proofs.Common.{refl}
 use Rattle.chop_lines.proofs.Reading.{scan-is}
 use Rattle.chop_lines.proofs.scan.go_on.Goals as goal
 

@@ -1,5 +1,5 @@
 -- `chop_lines::scan::on_line` meets its contract. Assumes nothing.
-use Rattle.std.proofs.Common.{◌*◌, take, refl, rules}
+use Rattle.std.proofs.Common.{◌*◌, take, refl}
 use Rattle.chop_lines.specs.Scan.{state}
 use Rattle.chop_lines.proofs.Reading.{line_first, line-point, line-twice, line-bad}
 use Rattle.chop_lines.proofs.scan.on_line.Goals as goal

@@ -1,6 +1,5 @@
 -- `chop_lines::scan::refuse` meets its contract. Assumes nothing.
 use Rattle.chop_lines.proofs.Reading.{scan-is}
-use Rattle.std.proofs.Common.{rules}
 use Rattle.chop_lines.proofs.scan.refuse.Goals as goal
 
 pub returns : goal.returns

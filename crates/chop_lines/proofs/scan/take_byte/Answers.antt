@@ -1,5 +1,5 @@
 -- `chop_lines::scan::take_byte` meets its contract. Assumes nothing.
-use Rattle.std.proofs.Common.{◌*◌, take, ap, ◌∙◌, arith, rules}
+use Rattle.std.proofs.Common.{◌*◌, take, ap, ◌∙◌, arith}
 use Rattle.chop_lines.specs.Scan.{state, on_line}
 use Rattle.chop_lines.proofs.Taking.{byte-stopped, byte-ends, byte-goes, byte-over}
 use Rattle.chop_lines.proofs.scan.take_byte.Goals as goal

@@ -1,6 +1,5 @@
 -- `chop_lines::scan::take_bytes` meets its contract. Assumes nothing.
-use Rattle.std.proofs.Common.{◌≡◌, ◌-◌, ◌^◌, ◌<◌, ◌≤◌, length, drop, sym, refl, ◌∙◌, arith, rules}
-use Rattle.chop_lines.specs.Scan.{ScanRoom, in_hand, bytes_to}
+use Rattle.std.proofs.Common.{sym, refl, ◌∙◌, rules}
 use Rattle.chop_lines.proofs.Taking.{bytes-step, bytes-end}
 use Rattle.chop_lines.proofs.scan.take_bytes.Goals as goal
 
