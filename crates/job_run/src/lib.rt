@@ -2,6 +2,8 @@
 //
 // Lines are carried out one by one, to the first refusal. Only the unfinished line is held over, in
 // lent memory with room for it, so that a job has no size limit.
+#![tactic(auto)]
+
 mod line;
 
 ghost use Rattle.std.specs.Prelude.{◌≡◌, ◌*◌, ◌≤◌, [], length, take, slice_index_or, slice_set};
