@@ -22,6 +22,9 @@ def split_decls(text):
     """Splits into use lines and declarations, each with the comments above it."""
     uses, decls, pending, cur = [], [], [], None
     for line in text.split("\n"):
+        if cur is not None and line[:1] in (")", "]", "}"):
+            cur["lines"].append(line)
+            continue
         if cur is None or re.match(r"\S", line):
             if line.startswith("use ") or line.startswith("pub use "):
                 uses.append(line)
@@ -49,6 +52,10 @@ def split_decls(text):
         else:
             cur["lines"].append(line)
     return uses, decls, pending
+
+
+def undoubled(head, text):
+    return "\n".join(l for l in text.split("\n") if l not in head)
 
 
 def named(o):
@@ -85,6 +92,8 @@ class Function:
         self.changed = d["changed"]
         self.typed = d["typed"]
         self.flags = []
+        self.params = d["params"]
+        self.newplaces = d["places_by_name"]
 
     def need(self, old):
         o = norm(re.sub(r"^Need-", "", old))
@@ -148,8 +157,13 @@ class Function:
         ren = dict((norm(a), b) for a, b in self.places[q][4] if True)
         if rest and norm(rest[0]) in ren:
             rest = [ren[norm(rest[0])]] + rest[1:]
-        if rest and rest[0] == "branch":
-            rest = ["branch-raw"] + rest[1:] if False else rest
+        if len(rest) > 1 and rest[0] == "auto" and rest[1].isdigit():
+            n, k = 0, 1
+            while k < len(rest) and rest[k] == "1":
+                n, k = n + 1, k + 1
+            names_of = self.params.get(self.places[q][3] or "", [])
+            if n < len(names_of):
+                rest = ["auto", names_of[n]] + rest[k + 1:]
         return at, ".".join([var, new] + rest)
 
     def descends(self, k, q):
@@ -159,16 +173,38 @@ class Function:
             k = self.parent(k)
         return False
 
-    def body(self, text, var, at):
+    def ups(self, at, to):
+        n = 0
+        while at is not None and at != to:
+            at = self.parent(at)
+            n += 1
+        return n if at is not None else None
+
+    def body(self, text, var, at, helpers={}):
         """Respells the paths of a body whose record `var` is at the place `at`."""
         names = {var: at}
         text = re.sub(r"[ \t]+\n", "\n", text)
+        prefix = {}
+
+        def call(m):
+            h, v, path = m.group(1), m.group(2), m.group(3)
+            if v not in names:
+                return m.group(0)
+            n = self.ups(at, helpers[h])
+            if n is None:
+                self.flags.append("cannot reach the place of " + h)
+                return m.group(0)
+            return f"{h} \u0001" + ".before" * n
+
+        if helpers:
+            hp = "|".join(re.escape(h) for h in sorted(helpers, key=len, reverse=True))
+            early = re.compile(r"(?<![\w'.·-])(%s) (%s|[a-z]\w*'*)((?:\.before)*)(?![\w'.-])" % (hp, re.escape(var)))
 
         def one(m):
             v = m.group(1)
             if v not in names:
                 return m.group(0)
-            path = m.group(2)[1:].split(".")
+            path = prefix.get(v, []) + m.group(2)[1:].split(".")
             where, new = self.chain(var, names[v], path)
             if new is None:
                 return "@" + str(where)
@@ -176,21 +212,32 @@ class Function:
 
         # let-bound places first, in order
         pat = re.compile(r"(?<![\w'.·-])(%s)((?:\.%s)+)" % (r"[A-Za-z_₀-₉'\w]+", r"[\w'-]+"))
+        spot = 0
         while True:
-            m = re.search(r"let (\w+'*) = (\w+'*)((?:\.before)+) in\s*", text)
-            if not m or m.group(2) not in names:
-                m2 = re.search(r"let (\w+'*) = (%s) in\s*" % re.escape(var), text)
-                if m2:
-                    names[m2.group(1)] = names[var]
-                    text = text[: m2.start()] + text[m2.end():]
-                    continue
+            m = re.compile(r"let (\w+'*) = (\w+'*)((?:\.[\w'-]+)*) in\s*").search(text, spot)
+            if not m:
                 break
-            where, _ = self.chain(var, names[m.group(2)], m.group(3)[1:].split("."))
-            names[m.group(1)] = where
+            spot = m.end()
+            if m.group(2) not in names:
+                continue
+            fields = prefix.get(m.group(2), []) + (m.group(3)[1:].split(".") if m.group(3) else [])
+            base = names[m.group(2)]
+            if all(it == "before" for it in fields):
+                for _ in fields:
+                    up = self.parent(base) if base is not None else None
+                    base = up if up is not None else base
+                names[m.group(1)] = base
+            elif fields[-1] == "given" or re.search(r"(?<![\w'.·-])%s\.given" % re.escape(m.group(1)), text):
+                names[m.group(1)], prefix[m.group(1)] = base, fields
+            else:
+                continue
             text = text[: m.start()] + text[m.end():]
-        # inner lets inside lambdas may hide names: flagged by the check
+            spot = m.start()
+        if helpers:
+            text = early.sub(call, text)
         text = pat.sub(one, text)
         text = re.sub(r"@(\d+)", var, text)
+        text = text.replace("\u0001", var)
         for n in names:
             if n != var and re.search(r"(?<![\w'.·-])%s(?![\w'-])" % re.escape(n), text):
                 text = re.sub(r"(?<![\w'.·-])%s(?![\w'-])" % re.escape(n), var, text)
@@ -235,6 +282,13 @@ def convert(root, crate, names, folder):
     if k != len(f.needs):
         pass
     goalname = {}
+    helpers, places_used = {}, []
+    for d in decls:
+        h = re.match(r"(%s) : \(c : tie\.(%s)((?: [\w'-]+)*)\) → " % (W, W), d["lines"][0])
+        if d is not top and h and not any(d["name"] == sl[-1] for sl in slots if sl[0] == "need"):
+            q = f.index.get(norm(h.group(2)))
+            if q is not None:
+                helpers[d["name"]] = q
     for s in slots:
         if s[0] == "inv":
             d = s[1]
@@ -305,8 +359,9 @@ def convert(root, crate, names, folder):
             if var is None:
                 f.flags.append("answer with no argument: " + a)
                 var = "c"
+            more = [x for x in ps[1:] if not (new.endswith("requires") or "-requires-" in new)]
             for extra in ps[1:]:
-                if extra != "_" and re.search(r"(?<![\w'.-])%s(?![\w'-])" % re.escape(extra), body):
+                if extra not in more and extra != "_" and re.search(r"(?<![\w'.-])%s(?![\w'-])" % re.escape(extra), body):
                     f.flags.append("uses " + extra + " in " + a)
         else:
             d = {"notes": []}
@@ -317,27 +372,33 @@ def convert(root, crate, names, folder):
                     f.flags.append("argument of another form: " + a[:60])
                 continue
             ps = lam.group(1).split()
+            more = [x for x in ps[1:] if not (new.endswith("requires") or "-requires-" in new)]
             var, body = ps[0], lam.group(2)
             if body.strip() in ("tt", "search rules", "(tt, tt)"):
                 continue
             if "search" not in body and "grind" not in body and "simp" not in body:
                 pass
-        body = f.body(body, var, place)
+        body = f.body(body, var, place, helpers)
         if body.strip() in ("search rules", "omega arith") and not unf:
             continue
         if re.match(r"(enum_|known_told|shared_slice|way_told|enum-|element_)", new) and body.strip() == "search rules":
             continue
-        ans.append("\n".join(d["notes"] + [f"pub {new} : goal.{new}"] + unf + [f"{new} {var} = {body.rstrip()}"]))
+        ans.append("\n".join(d["notes"] + [f"pub {new} : goal.{new}"] + unf + [f"{' '.join([new, var] + more)} = {body.rstrip()}"]))
     for d in decls:
         if d is top or d["name"] in used:
             continue
         t = "\n".join(d["notes"] + d["lines"])
+        if d["name"] in helpers:
+            q = helpers[d["name"]]
+            new = f.newplaces[q]
+            places_used.append(new)
+            t = re.sub(r"\(c : tie\.%s(?: [\w'-]+)*\)" % W, f"(c : {new})", t, 1)
+            t = f.body(t, "c", q, {h: k for h, k in helpers.items() if h != d["name"]})
         if "tie." in t:
             f.flags.append("helper over a place: " + d["name"])
         other.append(t)
     # where helper lemmas stand before answers that use them
     keep = [u for u in uses if not re.search(r"\.(Statement|Tie|Reads|Lts)(\.\{| as |$)", u)]
-    first = [l for l in text.split("\n") if l.startswith("--")][:1]
     head = [l for l in [text.split("\n")[0]] if l.startswith("--")]
     said = []
     if inv:
@@ -348,7 +409,9 @@ def convert(root, crate, names, folder):
         open(os.path.join(folder, "Invariants.antt"), "w", encoding="utf-8").write("\n".join(out))
         other = [o for o in other if o not in helpers]
     if ans or other:
-        out = head + keep + [f"use Rattle.{crate}.proofs.{rel}.Goals as goal", ""] + ["\n\n".join(other + ans), ""]
+        other, ans = [undoubled(head, it) for it in other], [undoubled(head, it) for it in ans]
+        more = [f"use Rattle.{crate}.proofs.{rel}.Goals.{{{', '.join(sorted(set(places_used)))}}}"] if places_used else []
+        out = head + keep + [f"use Rattle.{crate}.proofs.{rel}.Goals as goal"] + more + [""] + ["\n\n".join(other + ans), ""]
         open(os.path.join(folder, "Answers.antt"), "w", encoding="utf-8").write("\n".join(out))
     os.remove(path)
     return "; ".join(f.flags) if f.flags else None

@@ -1,7 +1,7 @@
 -- What a call of the C boundary returns, and what it leaves in its out-parameters. Assumes nothing.
 use Rattle.std.specs.Prelude.{◌≡◌, List, ℕ, ◌*◌, ◌/◌, ◌%◌, ◌^◌, length, Float, eqb}
 use Rattle.std.proofs.Math.Option.{Option, none, some}
-use Rattle.std.specs.Borrow.{Bor}
+use Rattle.std.specs.Borrow.{MutBor}
 use denote.Triple.Both.{Both}
 use Rattle.floats.specs.Pick.{pick}
 use Rattle.refusals.specs.declared.Refusal.{Refusal}
@@ -233,7 +233,7 @@ pub record GivesFoundTwo {A : Type 0} (first second : A → Float) (p : Paper (O
 
 -- a number that is lent to be written
 abbrev pub Out : Type 0 → Type 0
-Out A = Both (Bor A) (Bor A)
+Out A = Both (MutBor A) (MutBor A)
 
 abbrev pub Hands : {A : Type 0} → Paper A → ℕ → Out A → Type 0
 Hands p r x = Gives p r x.entry.now x.exit.now

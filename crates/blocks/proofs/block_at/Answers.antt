@@ -9,7 +9,6 @@ use Rattle.blocks.specs.Block.{block_at}
 use Rattle.blocks.proofs.Steps.{block-there}
 use Rattle.blocks.proofs.block_at.Goals as goal
 
--- `blocks::block_at` meets its contract. Assumes nothing.
 pub returns-then-j-blocks : goal.returns-then-j-blocks
 returns-then-j-blocks c = block-there _ _ _ _ (omega arith) c.clean.ensures c.clean-then-j-blocks.ensures
 

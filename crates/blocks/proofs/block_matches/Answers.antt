@@ -7,7 +7,6 @@ use Rattle.blocks.specs.Block.{same_block}
 use Rattle.blocks.proofs.Lots.{block-is}
 use Rattle.blocks.proofs.block_matches.Goals as goal
 
--- `blocks::block_matches` meets its contract. Assumes nothing.
 pub returns-then-cells-to : goal.returns-then-cells-to
 returns-then-cells-to c = ap (λ (x : Band). same_block c.args.kept x) c.block_of-found.ensures
 

@@ -12,7 +12,6 @@ use Rattle.refusals.proofs.Written.{over_none, over-all}
 use Rattle.blocks.proofs.Steps.{clear_to, length-clear, clear-more}
 use Rattle.blocks.proofs.clear.Given as goal
 
--- `blocks::clear` meets its contract. The loop's invariant: the numbers passed are cleared, the rest as they were. Assumes nothing.
 abbrev pub invariant-loop-i : goal.invariant-loop-i
 invariant-loop-i l = (l.i ≤ length l.initial.blocks) × (length l.blocks ≡ length l.initial.blocks) × (l.blocks ≡ over (clear_to l.initial.blocks l.i) l.initial.blocks)
 

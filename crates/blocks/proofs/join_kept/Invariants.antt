@@ -6,7 +6,6 @@ use Rattle.blocks.specs.Way.{join_from}
 use Rattle.blocks.proofs.Steps.{join_more, join-none}
 use Rattle.blocks.proofs.join_kept.Given as goal
 
--- `blocks::join_kept` meets its contract. The loop's invariant: what is found is said of the blocks passed. Assumes nothing.
 abbrev pub invariant-loop-j : goal.invariant-loop-j
 invariant-loop-j l = (l.a ≤ l.j) × (l.j ≤ max l.a l.e) × (l.found ≡ join_from l.initial.found l.blocks l.a (l.j - l.a))
 

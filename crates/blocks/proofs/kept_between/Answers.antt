@@ -5,7 +5,6 @@ use borrow.Author.Tests.{not-true, not-false}
 use Rattle.blocks.proofs.Ranges.{over-room, kept-none, kept-some}
 use Rattle.blocks.proofs.kept_between.Goals as goal
 
--- `blocks::kept_between` meets its contract. Assumes nothing.
 pub returns-then-not-lo-hi : goal.returns-then-not-lo-hi
 returns-then-not-lo-hi c = kept-none _ _ _ _ _ _ (not-true _ c.if-not-lo-hi.true-raw)
 

@@ -3,7 +3,6 @@ use borrow.Author.Rules.{rules}
 use Rattle.blocks.proofs.Steps.{stays_open, leaves-open}
 use Rattle.blocks.proofs.leave_block.Goals as goal
 
--- `blocks::leave_block` meets its contract. Assumes nothing.
 pub returns-then-block-last : goal.returns-then-block-last
 returns-then-block-last c = stays_open _ _ _ _ _ _ c.if-block-last.true
 

@@ -7,7 +7,6 @@ use Rattle.blocks.specs.Block.{match_to, blocks_in}
 use Rattle.blocks.proofs.Steps.{match-more}
 use Rattle.blocks.proofs.match_to.Given as goal
 
--- `blocks::match_to` meets its contract. The loop's invariant: what is found so far is said of the blocks passed. Assumes nothing.
 abbrev pub invariant-loop-j : goal.invariant-loop-j
 invariant-loop-j l = (l.j ≤ l.count) × (l.count ≤ blocks_in l.n) × (l.ok ≡ match_to l.s l.n l.cells l.blocks l.j)
 

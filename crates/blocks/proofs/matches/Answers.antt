@@ -3,7 +3,6 @@ use borrow.Author.Rules.{rules}
 use Rattle.blocks.proofs.Steps.{match-short, match-all}
 use Rattle.blocks.proofs.matches.Goals as goal
 
--- `blocks::matches` meets its contract. Assumes nothing.
 pub returns-then-blocks-count : goal.returns-then-blocks-count
 returns-then-blocks-count c = match-short _ _ _ _ _ c.blocks_in-count.ensures c.if-blocks-count.true
 

@@ -3,7 +3,6 @@ use borrow.Author.Rules.{rules}
 use Rattle.blocks.proofs.Steps.{kept_whole, kept-cells}
 use Rattle.blocks.proofs.most_kept.Goals as goal
 
--- `blocks::most_kept` meets its contract. Assumes nothing.
 pub returns-then-first-behind : goal.returns-then-first-behind
 returns-then-first-behind c = let args = c.args in
     kept_whole args.s args.cells.now args.blocks.now args.a args.e _ _ c.blocks_in-first.ensures c.no_material.ensures _ _ _ c.if-first-behind.true c.fold-head.ensures c.join_kept-whole.ensures c.fold.ensures

@@ -7,7 +7,6 @@ use lib.ListN.{length-set}
 use Rattle.blocks.proofs.Steps.{put-room, put-none}
 use Rattle.blocks.proofs.put_block.Goals as goal
 
--- `blocks::put_block` meets its contract. Assumes nothing.
 pub returns-then-blocks-j : goal.returns-then-blocks-j
 returns-then-blocks-j c = sym (put-none c.args.blocks.now c.args.j c.args.b (omega arith))
 

@@ -6,11 +6,8 @@ use Rattle.stock.specs.Spec.{counted_paper}
 use Rattle.blocks.proofs.Ranges.{range-refused}
 use Rattle.blocks.proofs.range.Goals as goal
 
--- `blocks::range` meets its contract. Assumes nothing.
 pub returns-in-Refused : goal.returns-in-Refused
-returns-in-Refused c = let told = c.counted-1.given in
-    range-refused _ _ _ _ _ (reason_of told.0.0) (sym c.kept_cells-counted.ensures ∙ ap counted_paper told.1)
+returns-in-Refused c = range-refused _ _ _ _ _ (reason_of c.in-Refused.r) (sym c.kept_cells-counted.ensures ∙ ap counted_paper c.in-Refused.is)
 
 pub returns-in-Cells : goal.returns-in-Cells
-returns-in-Cells c = let told = c.counted-in-Cells-1.given in
-    c.range_kept.ensures.ruled (sym c.kept_cells-counted.ensures ∙ ap counted_paper told.1)
+returns-in-Cells c = c.range_kept.ensures.ruled (sym c.kept_cells-counted.ensures ∙ ap counted_paper c.in-Cells.is)

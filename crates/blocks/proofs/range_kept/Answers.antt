@@ -4,7 +4,6 @@ use Rattle.stock.proofs.Bins.{HeldSpec}
 use Rattle.blocks.proofs.Ranges.{kept-promise}
 use Rattle.blocks.proofs.range_kept.Goals as goal
 
--- `blocks::range_kept` meets its contract. Assumes nothing.
 pub returns : goal.returns
 returns c = let args = c.args in
     let g = c.well_formed.0 in

@@ -4,7 +4,6 @@ use borrow.Author.Rules.{rules}
 use Rattle.blocks.proofs.Steps.{no_block, new-block}
 use Rattle.blocks.proofs.renew_block.Goals as goal
 
--- `blocks::renew_block` meets its contract. Assumes nothing.
 pub returns-then-blocks_in-j : goal.returns-then-blocks_in-j
 returns-then-blocks_in-j c = no_block _ _ _ _ _ _ c.blocks_in.ensures c.if-blocks_in-j.true
 

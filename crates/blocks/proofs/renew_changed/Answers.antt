@@ -3,7 +3,6 @@ use borrow.Author.Rules.{rules}
 use Rattle.blocks.proofs.Steps.{changed-done}
 use Rattle.blocks.proofs.renew_changed.Goals as goal
 
--- `blocks::renew_changed` meets its contract. Assumes nothing.
 pub returns : goal.returns
 returns c = let args = c.args in
     changed-done args.s args.n args.cells.now args.blocks.now _ _ args.indices.now args.k _ c.clear.ensures c.lesser.ensures c.renew_over.ensures

@@ -8,7 +8,6 @@ use Rattle.blocks.specs.Renew.{Open, open_after}
 use Rattle.blocks.proofs.Steps.{open_more, over_done, leave-length, at_length}
 use Rattle.blocks.proofs.renew_over.Given as goal
 
--- `blocks::renew_over` meets its contract. The loop's invariant: the bins passed are gone through. Assumes nothing.
 abbrev pub invariant-loop-i : goal.invariant-loop-i
 invariant-loop-i l = (l.i ≤ l.k) × (l.k ≤ length l.indices) × (length l.blocks ≡ length l.initial.blocks) × (l.blocks ≡ (open_after l.s l.n l.cells l.initial.blocks (take l.i l.indices)).numbers) × (l.block ≡ (open_after l.s l.n l.cells l.initial.blocks (take l.i l.indices)).block)
 

@@ -7,7 +7,6 @@ use Rattle.blocks.specs.Block.{block_to, same_block}
 use Rattle.blocks.proofs.Lots.{whole-found}
 use Rattle.blocks.proofs.whole_matches.Goals as goal
 
--- `blocks::whole_matches` meets its contract. Assumes nothing.
 pub returns-then-all_held : goal.returns-then-all_held
 returns-then-all_held c = let args = c.args in
     whole-found args.s args.cells.now args.a args.kept _ _ _ _ _ c.of_block-found.ensures c.all_held.ensures c.if-all_held.true c.no_material.ensures c.span.ensures c.join-b.ensures

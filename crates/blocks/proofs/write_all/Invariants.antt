@@ -10,7 +10,6 @@ use Rattle.blocks.specs.Block.{blocks_to, blocks_in}
 use Rattle.blocks.proofs.Steps.{length-blocks, blocks_more}
 use Rattle.blocks.proofs.write_all.Given as goal
 
--- `blocks::write_all` meets its contract. The loop's invariant: the blocks passed are those of the cells, the rest as they were. Assumes nothing.
 abbrev pub invariant-loop-j : goal.invariant-loop-j
 invariant-loop-j l = (l.j ≤ l.count) × (l.count ≡ blocks_in l.n) × (length l.initial.blocks ≡ 2 * l.count) × (l.blocks ≡ over (blocks_to l.s l.n l.cells l.j) l.initial.blocks)
 

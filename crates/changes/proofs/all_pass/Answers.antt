@@ -29,6 +29,6 @@ loop-i-preserved c = let a = c.args in
     )
 
 pub returns : goal.returns
-returns c = let a = c.args in
+returns c t = let a = c.args in
     let e : c.loop-i.i ≡ a.k = omega arith in
     ap (λ (j : ℕ). each_from a.s a.n a.cells.now 0 (changes_from a.indices.now a.records.now j)) (sym e) ∙ c.loop-i.invariant.2 t

@@ -12,7 +12,6 @@ use Rattle.changes.specs.Commit.{each_from}
 use Rattle.changes.proofs.Decided.{each-passes}
 use Rattle.changes.proofs.all_pass.Given as goal
 
--- `changes::all_pass` meets its contract. The loop's invariant: where the changes passed by all pass, so says the rule. Assumes nothing.
 abbrev pub invariant-loop-i : goal.invariant-loop-i
 invariant-loop-i l = (l.i ≤ l.k) × (l.k ≤ room_of (length l.indices) (length l.records)) × (l.ok ≡ true → each_from l.s l.n l.cells 0 (changes_from l.indices l.records l.i) ≡ answers tt)
 

@@ -9,20 +9,16 @@ use Rattle.changes.proofs.Written.{apply-refused, apply-short, left}
 use Rattle.changes.proofs.Kept.{kept-refused, apply-keeps}
 use Rattle.changes.proofs.apply.Goals as goal
 
--- `changes::apply` meets its contract. Assumes nothing.
 pub returns-then-room-list : goal.returns-then-room-list
 returns-then-room-list c = let a = c.args in
-    let told = c.counted-in-Cells-1.given in
-    let e = apply-short a.stock a.cells.now a.blocks.now a.list a.indices.now a.records.now told.0.0 (sym c.asked_cells-counted.ensures ∙ ap counted_paper told.1) (omega (arith, c.room.ensures)) in
+    let e = apply-short a.stock a.cells.now a.blocks.now a.list a.indices.now a.records.now c.in-Cells.n (sym c.asked_cells-counted.ensures ∙ ap counted_paper c.in-Cells.is) (omega (arith, c.room.ensures)) in
     kept-refused _ _ _ _ _ _ e (left _ _ _ _ e)
 
 pub returns-in-Refused : goal.returns-in-Refused
-returns-in-Refused c = let told = c.counted-1.given in
-    let e = apply-refused _ _ _ _ _ _ (reason_of told.0.0) (sym c.asked_cells-counted.ensures ∙ ap counted_paper told.1) in
-    kept-refused _ _ _ _ _ _ e (left _ _ told.0.0 _ e)
+returns-in-Refused c = let e = apply-refused _ _ _ _ _ _ (reason_of c.in-Refused.r) (sym c.asked_cells-counted.ensures ∙ ap counted_paper c.in-Refused.is) in
+    kept-refused _ _ _ _ _ _ e (left _ _ c.in-Refused.r _ e)
 
 pub returns-else-room-list : goal.returns-else-room-list
 returns-else-room-list c = let g = c.well_formed.0 in
     let held : HeldSpec c.args.stock.spec = record { z-min = search (rules, g); z-max = search (rules, g); outer = search (rules, g); bore = search (rules, g); cell = search (rules, g.1.1.0) } in
-    let told = c.counted-in-Cells-1.given in
-    apply-keeps _ _ _ _ _ _ told.0.0 held c.slice_known-1.given c.slice_known-2-1.given (sym c.asked_cells-counted.ensures ∙ ap counted_paper told.1) (omega (arith, c.room.ensures)) _ _ _ c.commit_kept.ensures
+    apply-keeps _ _ _ _ _ _ c.in-Cells.n held c.slice_known-1.given c.slice_known-2-1.given (sym c.asked_cells-counted.ensures ∙ ap counted_paper c.in-Cells.is) (omega (arith, c.room.ensures)) _ _ _ c.commit_kept.ensures

@@ -8,7 +8,6 @@ use Rattle.changes.specs.Commit.{passing_paper}
 use Rattle.changes.proofs.Decided.{no-bin, holds-other, adds, asked-all}
 use Rattle.changes.proofs.asked.Goals as goal
 
--- `changes::asked` meets its contract. Assumes nothing.
 pub returns-then-n-index : goal.returns-then-n-index
 unfolding passing_paper
 returns-then-n-index c = no-bin _ _ _ c.if-n-index.true

@@ -9,25 +9,20 @@ use Rattle.blocks.specs.Block.{matches_of}
 use Rattle.changes.proofs.Written.{asked-refused, asked-stale, asked-unmatched, asked_is}
 use Rattle.changes.proofs.asked_cells.Goals as goal
 
--- `changes::asked_cells` meets its contract. Assumes nothing.
 pub returns-then-not-same_stamp : goal.returns-then-not-same_stamp
-returns-then-not-same_stamp c = let told = c.counted-in-Cells-1.given in
-    sym (asked-stale _ _ _ _ told.0.0 (sym c.cells_fit-counted.ensures ∙ ap counted_paper told.1) (sym c.same_stamp.ensures ∙ not-true _ c.if-not-same_stamp.true-raw))
+returns-then-not-same_stamp c = sym (asked-stale _ _ _ _ c.in-Cells.n (sym c.cells_fit-counted.ensures ∙ ap counted_paper c.in-Cells.is) (sym c.same_stamp.ensures ∙ not-true _ c.if-not-same_stamp.true-raw))
 
 pub returns-then-not-matches : goal.returns-then-not-matches
 returns-then-not-matches c = let a = c.args in
-    let told = c.counted-in-Cells-1.given in
     sym
-    (asked-unmatched _ _ _ _ told.0.0 (sym c.cells_fit-counted.ensures ∙ ap counted_paper told.1) (sym c.same_stamp.ensures ∙ not-false _ c.if-not-same_stamp.false-raw)
-    (ap (λ (s : TurnStockSpec). matches_of s told.0.0 a.cells.now a.blocks.now) (sym c.clean_spec.ensures) ∙ sym c.matches.ensures ∙ not-true _ c.if-not-matches.true-raw))
+    (asked-unmatched _ _ _ _ c.in-Cells.n (sym c.cells_fit-counted.ensures ∙ ap counted_paper c.in-Cells.is) (sym c.same_stamp.ensures ∙ not-false _ c.if-not-same_stamp.false-raw)
+    (ap (λ (s : TurnStockSpec). matches_of s c.in-Cells.n a.cells.now a.blocks.now) (sym c.clean_spec.ensures) ∙ sym c.matches.ensures ∙ not-true _ c.if-not-matches.true-raw))
 
 pub returns-in-Refused : goal.returns-in-Refused
-returns-in-Refused c = let told = c.counted-1.given in
-    sym (asked-refused _ _ _ _ (reason_of told.0.0) (sym c.cells_fit-counted.ensures ∙ ap counted_paper told.1))
+returns-in-Refused c = sym (asked-refused _ _ _ _ (reason_of c.in-Refused.r) (sym c.cells_fit-counted.ensures ∙ ap counted_paper c.in-Refused.is))
 
 pub returns-else-not-matches : goal.returns-else-not-matches
 returns-else-not-matches c = let a = c.args in
-    let told = c.counted-in-Cells-1.given in
     sym
-    (asked_is _ _ _ _ told.0.0 (sym c.cells_fit-counted.ensures ∙ ap counted_paper told.1) (sym c.same_stamp.ensures ∙ not-false _ c.if-not-same_stamp.false-raw)
-    (ap (λ (s : TurnStockSpec). matches_of s told.0.0 a.cells.now a.blocks.now) (sym c.clean_spec.ensures) ∙ sym c.matches.ensures ∙ not-false _ c.if-not-matches.false-raw))
+    (asked_is _ _ _ _ c.in-Cells.n (sym c.cells_fit-counted.ensures ∙ ap counted_paper c.in-Cells.is) (sym c.same_stamp.ensures ∙ not-false _ c.if-not-same_stamp.false-raw)
+    (ap (λ (s : TurnStockSpec). matches_of s c.in-Cells.n a.cells.now a.blocks.now) (sym c.clean_spec.ensures) ∙ sym c.matches.ensures ∙ not-false _ c.if-not-matches.false-raw))

@@ -3,7 +3,6 @@ use mathlib.Core.Path.{refl}
 use Rattle.changes.specs.Commit.{passing_paper}
 use Rattle.changes.proofs.begin.Goals as goal
 
--- `changes::begin` meets its contract. Assumes nothing.
 pub returns : goal.returns
 unfolding passing_paper
 returns c = refl

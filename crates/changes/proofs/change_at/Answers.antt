@@ -14,7 +14,6 @@ use Rattle.changes.specs.Change.{room_of}
 use Rattle.changes.proofs.Passed.{before_at, after-at}
 use Rattle.changes.proofs.change_at.Goals as goal
 
--- `changes::change_at` meets its contract. Assumes nothing.
 abbrev alike : TurnCell → TurnChange
 alike x = record { index = 0; before = x; after = x }
 

@@ -7,7 +7,6 @@ use Rattle.changes.specs.Commit.{passes, passing_paper}
 use Rattle.changes.proofs.Decided.{at_once}
 use Rattle.changes.proofs.change_passes.Goals as goal
 
--- `changes::change_passes` meets its contract. Assumes nothing.
 pub returns-then-not-cell_fits : goal.returns-then-not-cell_fits
 unfolding passes passing_paper
 returns-then-not-cell_fits c = search (papers, picks, ← c.cell_fits.ensures)

@@ -6,7 +6,6 @@ use Rattle.floats.specs.Pick.{pick-false}
 use Rattle.changes.proofs.Kept.{then-renewed}
 use Rattle.changes.proofs.commit_kept.Goals as goal
 
--- `changes::commit_kept` meets its contract. Assumes nothing.
 pub returns-then-not-is_accepted : goal.returns-then-not-is_accepted
 returns-then-not-is_accepted c = record { left = c.commit_unasked-answer.ensures; kept = sym (pick-false _ _ _ (sym c.is_accepted.ensures ∙ not-true _ c.if-not-is_accepted.true-raw)) }
 

@@ -13,7 +13,6 @@ use Rattle.changes.specs.Decide.{raised_of}
 use Rattle.changes.proofs.Decided.{raised-in, puts-in, written, refused}
 use Rattle.changes.proofs.commit_unasked.Goals as goal
 
--- `changes::commit_unasked` meets its contract. Assumes nothing.
 pub returns-then-not-is_accepted : goal.returns-then-not-is_accepted
 returns-then-not-is_accepted c = let a = c.args in
     let k = a.stock in

@@ -13,7 +13,6 @@ use Rattle.changes.proofs.Rising.{kept, made}
 use Rattle.changes.specs.Difference.{other_cell}
 use Rattle.changes.proofs.count_differences.Given as goal
 
--- `changes::count_differences` meets its contract. The loop's invariant: k differ among the cells passed. Assumes nothing.
 abbrev pub invariant-loop-i : goal.invariant-loop-i
 invariant-loop-i l = (l.i ≤ l.n) × (l.k ≤ l.i) × (l.k ≡ length (changes_to (other_cell l.after) l.cells l.i))
 

@@ -2,7 +2,6 @@
 use Rattle.floats.specs.Pick.{picks}
 use Rattle.changes.proofs.fall_at.Goals as goal
 
--- `changes::fall_at` meets its contract. Assumes nothing.
 pub returns-then-rises : goal.returns-then-rises
 returns-then-rises c = search picks
 

@@ -13,7 +13,6 @@ use Rattle.changes.specs.Commit.{first_fall}
 use Rattle.changes.proofs.Falls.{fall-one, fall-next, fall-stops}
 use Rattle.changes.proofs.first_fall.Given as goal
 
--- `changes::first_fall` meets its contract. Assumes nothing.
 abbrev pub invariant-loop-i : goal.invariant-loop-i
 invariant-loop-i l = (0 < l.i) × (l.i ≤ l.k) × (l.k ≤ room_of (length l.indices) (length l.records)) × (first_fall (changes_from l.indices l.records l.i) ≡ none)
 

@@ -17,9 +17,8 @@ loop-i-init c = (search rules, search rules, refl)
 pub returns-in-RefusedAt : goal.returns-in-RefusedAt
 unfolding passing_paper
 returns-in-RefusedAt c = let a = c.args in
-    let told = c.found-1.given in
     let on = each_next a.cells.now a.s a.n a.indices.now a.records.now c.loop-i.i _ _ _ c.loop-i.invariant.2 (omega arith) c.change_at-change.ensures c.found_next-found.ensures in
-    sym (each-stops a.cells.now a.s a.n a.indices.now a.records.now (c.loop-i.i + 1) a.k (reason_at told.0.0 told.0.1.0) (omega arith) (sym on ∙ ap passing_paper told.1))
+    sym (each-stops a.cells.now a.s a.n a.indices.now a.records.now (c.loop-i.i + 1) a.k (reason_at c.in-RefusedAt.r c.in-RefusedAt.at) (omega arith) (sym on ∙ ap passing_paper c.in-RefusedAt.is))
 
 pub loop-i-preserved : goal.loop-i-preserved
 loop-i-preserved c = let a = c.args in (

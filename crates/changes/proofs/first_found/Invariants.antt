@@ -10,7 +10,6 @@ use Rattle.changes.specs.Commit.{passing_paper, each_from}
 use Rattle.changes.proofs.Decided.{each_next, each-stops}
 use Rattle.changes.proofs.first_found.Given as goal
 
--- `changes::first_found` meets its contract. The loop's invariant: what is found is what the changes passed by say. Assumes nothing.
 abbrev pub invariant-loop-i : goal.invariant-loop-i
 invariant-loop-i l = (l.i ≤ l.k) × (l.k ≤ room_of (length l.indices) (length l.records)) × (passing_paper l.found ≡ each_from l.s l.n l.cells 0 (changes_from l.indices l.records l.i))
 

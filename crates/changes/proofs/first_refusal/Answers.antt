@@ -18,7 +18,6 @@ use Rattle.changes.proofs.first_refusal.Goals as goal
 risen : (s : TurnStockSpec) (n : ℕ) (cs : List Float) (is : List ℕ) (xs : List Float) (held k : ℕ) → rises (changes_from is xs held) ≡ true → held ≡ k → each_from s n cs 0 (changes_from is xs held) ≡ pass_all s n cs (changes_from is xs k)
 risen s n cs is xs held k r e = rising-is s n cs (changes_from is xs held) r ∙ ap (λ (j : ℕ). pass_all s n cs (changes_from is xs j)) e
 
--- `changes::first_refusal` meets its contract. Assumes nothing.
 pub returns-then-not-indices_rise : goal.returns-then-not-indices_rise
 unfolding passing_paper
 returns-then-not-indices_rise c = let a = c.args in

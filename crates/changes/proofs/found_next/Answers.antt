@@ -4,7 +4,6 @@ use Rattle.refusals.specs.Paper.{onward-answers, onward-refuses}
 use Rattle.changes.specs.Commit.{passing_paper}
 use Rattle.changes.proofs.found_next.Goals as goal
 
--- `changes::found_next` meets its contract. Assumes nothing.
 pub returns-in-Refused : goal.returns-in-Refused
 unfolding passing_paper
 returns-in-Refused c = search (onward-refuses, c.in-Refused.is)

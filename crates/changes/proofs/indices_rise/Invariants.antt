@@ -11,7 +11,6 @@ use Rattle.changes.specs.Decide.{rises}
 use Rattle.changes.proofs.Passed.{rises-one, rises_next}
 use Rattle.changes.proofs.indices_rise.Given as goal
 
--- `changes::indices_rise` meets its contract. The loop's invariant: what is found so far is said of the changes passed. Assumes nothing.
 abbrev pub invariant-loop-i : goal.invariant-loop-i
 invariant-loop-i l = (0 < l.i) × (l.i ≤ l.k) × (l.k ≤ room_of (length l.indices) (length l.records)) × (l.ok ≡ rises (changes_from l.indices l.records l.i))
 

@@ -6,7 +6,6 @@ use borrow.Author.Rules.{rules}
 use Rattle.changes.proofs.Placed.{list_same, list-none, list_put}
 use Rattle.changes.proofs.list_change.Goals as goal
 
--- `changes::list_change` meets its contract. Assumes nothing.
 pub returns-then-same_cell : goal.returns-then-same_cell
 returns-then-same_cell c = list_same c.args.k c.args.change _ _ (sym c.same_cell.ensures ∙ c.if-same_cell.true)
 

@@ -9,7 +9,6 @@ use Rattle.changes.proofs.Proposals.{settled-listed, settled-full}
 use Rattle.changes.specs.Difference.{other_cell}
 use Rattle.changes.proofs.list_differences.Goals as goal
 
--- `changes::list_differences` meets its contract. Assumes nothing.
 -- there is room for every bin
 pub write_differences-requires : goal.write_differences-requires
 write_differences-requires c = (c.requires.0, c.requires.1, omega (arith, at_most (other_cell c.args.after.now) c.args.cells.now c.args.n, c.room-room.ensures))

@@ -5,7 +5,6 @@ use Rattle.changes.specs.declared.Tally.{Tally}
 use Rattle.changes.specs.Change.{tally_paper, stamped}
 use Rattle.changes.proofs.list_of.Goals as goal
 
--- `changes::list_of` meets its contract. Assumes nothing.
 pub returns-in-Refused : goal.returns-in-Refused
 returns-in-Refused c = sym (ap (λ (t : Tally). stamped c.args.stamp (tally_paper t)) c.in-Refused.is)
 

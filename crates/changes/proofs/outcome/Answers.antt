@@ -5,7 +5,6 @@ use Rattle.changes.specs.Commit.{passing_paper}
 use Rattle.changes.specs.Decide.{outcome_of}
 use Rattle.changes.proofs.outcome.Goals as goal
 
--- `changes::outcome` meets its contract. Assumes nothing.
 pub returns-then-not-st : goal.returns-then-not-st
 unfolding outcome_of passing_paper
 returns-then-not-st c = search (papers, picks)

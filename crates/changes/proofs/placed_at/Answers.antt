@@ -4,7 +4,6 @@ use Rattle.refusals.specs.Paper.{papers}
 use Rattle.changes.specs.Commit.{passing_paper}
 use Rattle.changes.proofs.placed_at.Goals as goal
 
--- `changes::placed_at` meets its contract. Assumes nothing.
 pub returns-in-Pass : goal.returns-in-Pass
 unfolding passing_paper
 returns-in-Pass c = search (papers, c.in-Pass.is)

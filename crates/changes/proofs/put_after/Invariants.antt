@@ -10,7 +10,6 @@ use Rattle.changes.specs.Commit.{put_all}
 use Rattle.changes.proofs.Passed.{after-at, put_next, put-length}
 use Rattle.changes.proofs.put_after.Given as goal
 
--- `changes::put_after` meets its contract. The loop's invariant: the after-cells of the changes passed are in the cells. Assumes nothing.
 abbrev pub invariant-loop-i : goal.invariant-loop-i
 invariant-loop-i l = (l.i ≤ l.held) × (l.held ≡ min l.k (room_of (length l.indices) (length l.records))) × (l.cells ≡ put_all l.initial.cells (changes_from l.indices l.records l.i))
 

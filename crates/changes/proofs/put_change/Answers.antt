@@ -35,7 +35,6 @@ bounds-records-at-8 c = simp length-set (omega arith)
 pub shape_of-records : goal.shape_of-records
 shape_of-records c = simp length-set
 
--- `changes::put_change` meets its contract. Assumes nothing.
 pub returns : goal.returns
 returns c = let at = 8 * c.args.k in
     let e1 : at + 1 ≡ suc at = omega arith in

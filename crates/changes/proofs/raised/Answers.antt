@@ -12,7 +12,6 @@ use Rattle.changes.specs.Decide.{raised_of}
 use Rattle.changes.proofs.Decided.{raised-stops, raised-spent, raised-next}
 use Rattle.changes.proofs.raised.Goals as goal
 
--- `changes::raised` meets its contract. Assumes nothing.
 pub returns-then-generation : goal.returns-then-generation
 unfolding passing_paper
 returns-then-generation c = let k = c.args.stock in
@@ -32,8 +31,7 @@ pub returns-in-RefusedAt : goal.returns-in-RefusedAt
 unfolding passing_paper
 returns-in-RefusedAt c = let k = c.args.stock in
     let g = k.stamp.generation in
-    let told = c.found-in-RefusedAt-1.given in
-    sym (ap (stock_at k) (ap (λ (f : Passing). raised_of (passing_paper f) g) told.1 ∙ raised-stops (reason_at told.0.0 told.0.1.0) g))
+    sym (ap (stock_at k) (ap (λ (f : Passing). raised_of (passing_paper f) g) c.in-RefusedAt.is ∙ raised-stops (reason_at c.in-RefusedAt.r c.in-RefusedAt.k) g))
 
 pub returns-else-generation : goal.returns-else-generation
 unfolding passing_paper

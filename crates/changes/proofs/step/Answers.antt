@@ -5,7 +5,6 @@ use lib.Dec.{ltb}
 use Rattle.changes.specs.Commit.{passing_paper}
 use Rattle.changes.proofs.step.Goals as goal
 
--- `changes::step` meets its contract. Assumes nothing.
 pub returns : goal.returns
 returns c = let a = c.args in
     λ i. record {

@@ -6,7 +6,6 @@ use Rattle.chop_lines.specs.Chopped.{text_of}
 use Rattle.chop_lines.proofs.Putting.{all-put}
 use Rattle.chop_lines.proofs.chop.Goals as goal
 
--- `chop_lines::chop` meets its contract. Assumes nothing.
 pub read_profile-read-requires : goal.read_profile-read-requires
 read_profile-read-requires c = record { numbers = search rules; line = search rules }
 

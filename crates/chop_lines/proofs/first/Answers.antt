@@ -2,7 +2,6 @@
 use Rattle.std.proofs.Common.{◌*◌, sym, arith, length-take-le, take_all, rules}
 use Rattle.chop_lines.proofs.first.Goals as goal
 
--- `chop_lines::first` meets its contract. Assumes nothing.
 pub returns-then-numbers-n : goal.returns-then-numbers-n
 returns-then-numbers-n c = let a = c.args in sym (take_all (3 * a.n) a.numbers.now (omega arith))
 

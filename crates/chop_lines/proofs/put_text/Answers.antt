@@ -5,7 +5,6 @@ use Rattle.chop_lines.specs.Chopped.{AllPut}
 use Rattle.chop_lines.proofs.Putting.{all-put, text-scan, text-refused, text-chords, chords-fit}
 use Rattle.chop_lines.proofs.put_text.Goals as goal
 
--- `chop_lines::put_text` meets its contract. Assumes nothing.
 pub returns-then-scan-ne0 : goal.returns-then-scan-ne0
 returns-then-scan-ne0 c = let a = c.args in
     all-put (text-scan (state a.scan a.points.now) c.if-scan-ne0.true) c.put_refused.ensures

@@ -5,7 +5,6 @@ use Rattle.chop_lines.specs.Scan.{fresh, ScanRoom, in_hand, finish_of}
 use Rattle.chop_lines.proofs.Taking.{after-fresh, after_more, done}
 use Rattle.chop_lines.proofs.read_profile.Given as goal
 
--- `chop_lines::read_profile` meets its contract. Assumes nothing.
 abbrev pub invariant-loop-got : goal.invariant-loop-got
 invariant-loop-got l = ScanRoom l.numbers l.line × (l.len ≤ 127) × After (hand fresh []) (in_hand l.scan l.numbers l.points l.line l.len)
 

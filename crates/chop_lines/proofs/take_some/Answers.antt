@@ -2,7 +2,6 @@
 use Rattle.std.proofs.Common.{◌∙◌, rules}
 use Rattle.chop_lines.proofs.take_some.Goals as goal
 
--- `chop_lines::take_some` meets its contract. Assumes nothing.
 pub returns : goal.returns
 returns c = let t = c.take_bytes-taken.ensures in
     record { after = record { bytes = c.front.result.now; same = t.0 }; within = t.1 }

@@ -3,7 +3,6 @@ use borrow.Author.Rules.{rules}
 use Rattle.cuts.specs.Tool.{preview_tool}
 use Rattle.cuts.proofs.preview.Goals as goal
 
--- `cuts::preview` meets its contract: it is that of the tool's preview. Assumes nothing.
 pub returns : goal.returns
 unfolding preview_tool
 returns c = c.preview_tool.ensures

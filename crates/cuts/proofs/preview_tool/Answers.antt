@@ -3,6 +3,5 @@ use borrow.Author.Rules.{rules}
 use Rattle.changes.proofs.Proposals.{as-list}
 use Rattle.cuts.proofs.preview_tool.Goals as goal
 
--- `cuts::preview_tool` meets its contract. Assumes nothing.
 pub returns : goal.returns
 returns c = as-list c.list_of.ensures c.tally_tool-tally.ensures

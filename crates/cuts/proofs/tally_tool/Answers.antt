@@ -10,25 +10,20 @@ use Rattle.cuts.proofs.Previews.{ready}
 use Rattle.cuts.proofs.Tools.{tool-refused, tool-outside, tool-is}
 use Rattle.cuts.proofs.tally_tool.Goals as goal
 
--- `cuts::tally_tool` meets its contract. Assumes nothing.
 pub returns-then-not-tool_inside : goal.returns-then-not-tool_inside
-returns-then-not-tool_inside c = let told = c.counted-in-Cells-1.given in
-    left _ _ _ _ (tool-outside _ _ _ _ _ _ (sym c.cells_fit-counted.ensures ∙ ap counted_paper told.1) (sym c.tool_inside.ensures ∙ not-true _ c.if-not-tool_inside.true-raw))
+returns-then-not-tool_inside c = left _ _ _ _ (tool-outside _ _ _ _ _ _ (sym c.cells_fit-counted.ensures ∙ ap counted_paper c.in-Cells.is) (sym c.tool_inside.ensures ∙ not-true _ c.if-not-tool_inside.true-raw))
 
 pub tool_in-requires : goal.tool_in-requires
-tool_in-requires c = let told = c.counted-in-Cells-1.given in
-    let a = c.args in
+tool_in-requires c = let a = c.args in
     let g = c.well_formed.0 in
     let held : HeldSpec a.spec = record { z-min = search (rules, g); z-max = search (rules, g); outer = search (rules, g); bore = search (rules, g.1.1.1.1); cell = search (rules, g.1.1.1.1) } in
-    ready a.spec _ _ _ held c.clean_spec.ensures (sym c.cells_fit-counted.ensures ∙ ap counted_paper told.1)
+    ready a.spec _ _ _ held c.clean_spec.ensures (sym c.cells_fit-counted.ensures ∙ ap counted_paper c.in-Cells.is)
 
 pub returns-in-Refused : goal.returns-in-Refused
-returns-in-Refused c = let told = c.counted-1.given in
-    left _ told.0.0 _ _ (tool-refused _ _ _ _ _ (reason_of told.0.0) (sym c.cells_fit-counted.ensures ∙ ap counted_paper told.1))
+returns-in-Refused c = left _ c.in-Refused.r _ _ (tool-refused _ _ _ _ _ (reason_of c.in-Refused.r) (sym c.cells_fit-counted.ensures ∙ ap counted_paper c.in-Refused.is))
 
 pub returns-else-not-tool_inside : goal.returns-else-not-tool_inside
-returns-else-not-tool_inside c = let told = c.counted-in-Cells-1.given in
-    let a = c.args in
+returns-else-not-tool_inside c = let a = c.args in
     same-proposal _ _ _ _ _ _ _
-    (tool-is _ _ _ _ _ _ (sym c.cells_fit-counted.ensures ∙ ap counted_paper told.1) _ c.clean_spec.ensures (sym c.tool_inside.ensures ∙ not-false _ c.if-not-tool_inside.false-raw))
+    (tool-is _ _ _ _ _ _ (sym c.cells_fit-counted.ensures ∙ ap counted_paper c.in-Cells.is) _ c.clean_spec.ensures (sym c.tool_inside.ensures ∙ not-false _ c.if-not-tool_inside.false-raw))
     c.tool_in.ensures

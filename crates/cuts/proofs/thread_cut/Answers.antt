@@ -2,6 +2,5 @@
 use borrow.Author.Rules.{rules}
 use Rattle.cuts.proofs.thread_cut.Goals as goal
 
--- `cuts::thread_cut` meets its contract: it is that of the cut's preview. Assumes nothing.
 pub returns : goal.returns
 returns c = c.preview_cut.ensures

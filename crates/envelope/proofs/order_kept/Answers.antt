@@ -8,7 +8,6 @@ use Rattle.envelope.proofs.Kept.{outside, inside}
 use Rattle.envelope.proofs.Rules.{order-kept}
 use Rattle.envelope.proofs.order_kept.Goals as goal
 
--- `envelope::order_kept` meets its contract. Assumes nothing.
 pub returns-then-order-eq-OUTSIDE : goal.returns-then-order-eq-OUTSIDE
 unfolding kept_order
 returns-then-order-eq-OUTSIDE c = order-kept c.args.points.now c.args.order _ (sym (demand-false _ _ _ (outside _ (reads c.args.order 2 c.ranges.order c.if-order-eq-OUTSIDE.true))))

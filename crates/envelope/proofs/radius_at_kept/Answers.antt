@@ -10,7 +10,6 @@ use Rattle.floats.proofs.Bools.{so}
 use Rattle.envelope.proofs.Rules.{at-kept}
 use Rattle.envelope.proofs.radius_at_kept.Goals as goal
 
--- `envelope::radius_at_kept` meets its contract. Assumes nothing.
 pub returns-then-order-eq-OUTSIDE : goal.returns-then-order-eq-OUTSIDE
 unfolding kept_at
 returns-then-order-eq-OUTSIDE c = at-kept c.args.points.now c.shared_slice_known-1.given c.args.order c.args.u (so c.well_formed.1.1.0.1) _

@@ -11,7 +11,6 @@ use Rattle.floats.proofs.Bools.{so}
 use Rattle.envelope.proofs.Rules.{range-kept}
 use Rattle.envelope.proofs.radius_range_kept.Goals as goal
 
--- `envelope::radius_range_kept` meets its contract. Assumes nothing.
 pub returns-then-order-eq-OUTSIDE : goal.returns-then-order-eq-OUTSIDE
 unfolding kept_range
 returns-then-order-eq-OUTSIDE c = range-kept c.args.points.now c.shared_slice_known-1.given c.args.order c.args.lo c.args.hi (so c.well_formed.1.1.0.1) (so c.well_formed.1.1.1.0.1) _

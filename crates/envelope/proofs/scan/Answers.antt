@@ -20,7 +20,6 @@ loop-i-init c = (search rules, refl, refl, refl)
 pub loop-i-preserved : goal.loop-i-preserved
 loop-i-preserved c = let ps = c.args.points.now in
     let i = c.loop-i.i in
-    let held = c.shared_slice_known-1.given in
     let inv = c.loop-i.invariant in (
       search rules,
       rw (usable-more ps i, ← inv.1, ← c.is_usable.ensures, ← c.is_usable-in-loop-i.ensures),

@@ -10,7 +10,6 @@ use Rattle.envelope.proofs.Steps.{usable-more, rises_next, falls-next}
 use Rattle.envelope.proofs.Kept.{scan-made, scan-none}
 use Rattle.envelope.proofs.scan.Given as goal
 
--- `envelope::scan` meets its contract. Assumes nothing.
 abbrev pub invariant-loop-i : goal.invariant-loop-i
 invariant-loop-i l = (l.i ≤ l.last) × (l.good ≡ usable_to l.points (2 * l.i)) × (l.rises ≡ rises_to l.points l.i) × (l.falls ≡ falls_to l.points l.i)
 

@@ -12,19 +12,17 @@ use Rattle.envelope.proofs.Kept.{Lies, rule-outside, rule-refused, rule-answered
 use Rattle.floats.proofs.Bools.{so}
 use Rattle.envelope.proofs.Rules.{within-kept}
 use Rattle.envelope.proofs.span_kept.Goals as goal
+use Rattle.envelope.proofs.span_kept.Goals.{After-struct_known-1}
 
--- `envelope::span_kept` meets its contract. Assumes nothing.
 -- the part that was found, and that it lies among the points
-found : (c : tie.After-struct-known) → c.before.part_of.result ≡ halved_part c.before.before.before.before.before.before.before.before.before.args.points.now c.before.before.before.before.before.before.before.before.before.args.order (clean_of c.before.before.before.before.before.before.before.before.before.args.lo) (clean_of c.before.before.before.before.before.before.before.before.before.args.hi)
+found : (c : After-struct_known-1) → c.part_of-s.result ≡ halved_part c.args.points.now c.args.order (clean_of c.args.lo) (clean_of c.args.hi)
 found c =
-    let s = c.before.before.before.before.before.before.before.before.before in
-    let ps = s.args.points.now in
-    c.before.part_of.ensures ∙ ap (λ z. halved_part ps z c.before.before.before.clean.result c.before.before.clean2.result) (to_z-of_z s.ranges.order) ∙ ap₂ (halved_part ps s.args.order) c.before.before.before.clean.ensures c.before.before.clean2.ensures
+    let ps = c.args.points.now in
+    c.part_of-s.ensures ∙ ap (λ z. halved_part ps z c.clean.result c.clean-2.result) (to_z-of_z c.ranges.order) ∙ ap₂ (halved_part ps c.args.order) c.clean.ensures c.clean-2.ensures
 
-lies : (c : tie.After-struct-known) → Lies c.before.part_of.result (count c.before.before.before.before.before.before.before.before.before.args.points.now)
+lies : (c : After-struct_known-1) → Lies c.part_of-s.result (count c.args.points.now)
 lies c =
-    let s = c.before.before.before.before.before.before.before.before.before in
-    rw (← found c) at (part_lies s.args.points.now s.args.order (clean_of s.args.lo) (clean_of s.args.hi))
+    rw (← found c) at (part_lies c.args.points.now c.args.order (clean_of c.args.lo) (clean_of c.args.hi))
 
 pub returns-then-order-eq-OUTSIDE : goal.returns-then-order-eq-OUTSIDE
 unfolding kept_within

@@ -9,7 +9,6 @@ use mathlib.Core.Path.{◌∙◌, ◌≡◌, ap, sym}
 use native.Mathlib.Omega.{arith}
 use Rattle.envelope.proofs.split.Given as goal
 
--- `envelope::split` meets its contract (`Halves.antt` has the loop's turn). Assumes nothing.
 abbrev pub invariant-loop-a : goal.invariant-loop-a
 invariant-loop-a l = (l.a ≤ l.b) × (l.b ≤ length l.points / 2) × (split_of l.points l.t l.x ≡ halve l.points l.t l.x (l.b - l.a) l.a l.b)
 

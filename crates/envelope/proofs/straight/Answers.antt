@@ -5,7 +5,6 @@ use Rattle.floats.specs.Pick.{pick_true, pick-false}
 use Rattle.envelope.specs.Halving.{straight}
 use Rattle.envelope.proofs.straight.Goals as goal
 
--- `envelope::straight` meets its contract. Assumes nothing.
 pub returns-then-s : goal.returns-then-s
 unfolding straight
 returns-then-s c = sym (pick_true _ _ _ (le-leb _ _ c.if-s.true))

@@ -10,14 +10,13 @@ use Rattle.envelope.proofs.Kept.{within-fits, within-numbers, within_none}
 use Rattle.floats.proofs.Bools.{so}
 use Rattle.envelope.proofs.Rules.{numbers-kept}
 use Rattle.envelope.proofs.within_kept.Goals as goal
+use Rattle.envelope.proofs.within_kept.Goals.{In-Part}
 
--- `envelope::within_kept` meets its contract. Assumes nothing.
 -- what `span_kept` answers lies among the points
-room : (c : tie.After-known-told) → c.before.first.given.0.0 + c.before.first.given.0.1.0 ≤ count c.before.before.before.before.before.args.points.now
+room : (c : In-Part) → c.in-Part.first + c.in-Part.many ≤ count c.args.points.now
 room c =
-    let s = c.before.before.before.before.before in
-    within-fits s.args.points.now s.args.order s.args.lo s.args.hi _ _
-    (ap spanned_paper (sym c.before.first.given.1) ∙ c.before.before.before.span-kept.ensures.found ∙ ap (λ z. kept_within s.args.points.now z s.args.lo s.args.hi) (to_z-of_z s.ranges.order))
+    within-fits c.args.points.now c.args.order c.args.lo c.args.hi _ _
+    (ap spanned_paper (sym c.in-Part.is) ∙ c.span_kept.ensures.found ∙ ap (λ z. kept_within c.args.points.now z c.args.lo c.args.hi) (to_z-of_z c.ranges.order))
 
 pub returns-in_default : goal.returns-in_default
 returns-in_default c = numbers-kept c.args.points.now c.shared_slice_known-1.given c.args.order c.args.lo c.args.hi (so c.well_formed.1.1.0.1) (so c.well_formed.1.1.1.0.1) _

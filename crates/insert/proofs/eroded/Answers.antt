@@ -16,7 +16,6 @@ use Rattle.insert.proofs.Steps.{kept-refused, kept-accepted, asks-outside, asks-
 use Rattle.insert.proofs.Held.{held_none, carried}
 use Rattle.insert.proofs.eroded.Goals as goal
 
--- `insert::eroded` meets its contract. Assumes nothing.
 pub returns-then-order-eq-OUTSIDE : goal.returns-then-order-eq-OUTSIDE
 unfolding eroded_of eroded_asks
 returns-then-order-eq-OUTSIDE c = let n = c.number_of-order in

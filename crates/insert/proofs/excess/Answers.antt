@@ -2,6 +2,5 @@
 use borrow.Author.Rules.{rules}
 use Rattle.insert.proofs.excess.Goals as goal
 
--- `insert::excess` meets its contract. Assumes nothing.
 pub returns : goal.returns
 returns c = c.touching.ensures

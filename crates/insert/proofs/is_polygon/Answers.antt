@@ -9,7 +9,6 @@ use Rattle.insert.specs.Insert.{polygon_good}
 use Rattle.insert.proofs.Steps.{kept-refused, kept-accepted}
 use Rattle.insert.proofs.is_polygon.Goals as goal
 
--- `insert::is_polygon` meets its contract. Assumes nothing.
 pub returns-then-polygon-gt-POINT_LIMIT : goal.returns-then-polygon-gt-POINT_LIMIT
 unfolding polygon_good
 returns-then-polygon-gt-POINT_LIMIT c = rw (lt-leb _ _ c.if-polygon-gt-POINT_LIMIT.true)

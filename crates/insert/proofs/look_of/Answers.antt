@@ -7,7 +7,6 @@ use Rattle.insert.specs.declared.Which.TheVariants.{Least, Greatest}
 use Rattle.insert.specs.Insert.{most_of, end_of}
 use Rattle.insert.proofs.look_of.Goals as goal
 
--- `insert::look_of` meets its contract. Assumes nothing.
 pub returns-in-Greatest : goal.returns-in-Greatest
 returns-in-Greatest c = let ps = c.args.points.now in
     let e = sym c.in-Greatest.is in

@@ -14,7 +14,6 @@ use Rattle.insert.specs.Insert.{touch_asks, touch_of, touched}
 use Rattle.insert.proofs.Steps.{kept-refused, kept-accepted, asks-outside, asks-refused, asks-answered}
 use Rattle.insert.proofs.touching.Goals as goal
 
--- `insert::touching` meets its contract. Assumes nothing.
 pub returns-then-order-eq-OUTSIDE : goal.returns-then-order-eq-OUTSIDE
 unfolding touched touch_asks
 returns-then-order-eq-OUTSIDE c = let n = c.number_of-order in

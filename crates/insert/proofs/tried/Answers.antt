@@ -11,7 +11,6 @@ use Rattle.insert.specs.Insert.{polygon_to, touch_of}
 use Rattle.insert.proofs.Held.{held_none, carried}
 use Rattle.insert.proofs.tried.Goals as goal
 
--- `insert::tried` meets its contract. Assumes nothing.
 pub returns-then-polygon-eq0 : goal.returns-then-polygon-eq0
 unfolding touch_of radius_of
 returns-then-polygon-eq0 c = sym (pick_true _ _ _ (eq-eqb _ _ c.if-polygon-eq0.true))

@@ -3,7 +3,6 @@ use borrow.Author.Rules.{rules}
 use Rattle.job_answer.proofs.Nth.{is-refused, past-refused, is-cell, is-ring, is-gen, is-past, none, reline}
 use Rattle.job_answer.proofs.answer_line.Goals as goal
 
--- `job_answer::answer_line` meets its contract. Assumes nothing.
 pub returns-then-k-eq0 : goal.returns-then-k-eq0
 returns-then-k-eq0 c = let a = c.args in
     reline (is-refused a.refused a.line a.generation a.cells.now a.rings.now a.k c.if-refused-ne0.true c.if-k-eq0.true) c.refused_line.ensures

@@ -7,7 +7,6 @@ use Rattle.text.proofs.Spelling.{decimal-short, four-long}
 use Rattle.job_answer.specs.Lines.{cell_line}
 use Rattle.job_answer.proofs.cell_line.Goals as goal
 
--- `job_answer::cell_line` meets its contract. Assumes nothing.
 pub returns : goal.returns
 unfolding cell_line
 returns c = let s = c.args in

@@ -7,7 +7,6 @@ use Rattle.text.proofs.Spelling.{decimal-short}
 use Rattle.job_answer.specs.Lines.{gen_line}
 use Rattle.job_answer.proofs.gen_line.Goals as goal
 
--- `job_answer::gen_line` meets its contract. Assumes nothing.
 pub returns : goal.returns
 unfolding gen_line
 returns c = let h = decimal-short c.args.n in

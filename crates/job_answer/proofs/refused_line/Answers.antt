@@ -7,7 +7,6 @@ use Rattle.text.proofs.Spelling.{decimal-short}
 use Rattle.job_answer.specs.Lines.{refused_line}
 use Rattle.job_answer.proofs.refused_line.Goals as goal
 
--- `job_answer::refused_line` meets its contract. Assumes nothing.
 pub returns : goal.returns
 unfolding refused_line
 returns c = let s = c.args in

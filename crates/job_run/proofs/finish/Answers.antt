@@ -3,7 +3,6 @@ use Rattle.job_run.proofs.Lines.{finish-stopped, finish-cut, finish-empty, finis
 use Rattle.std.proofs.Common.{sym, ◌∙◌, rules}
 use Rattle.job_run.proofs.finish.Goals as goal
 
--- `job_run::finish` meets its contract. Assumes nothing.
 pub returns-then-run-ne0 : goal.returns-then-run-ne0
 returns-then-run-ne0 c = finish-stopped _ _ c.if-run-ne0.true
 

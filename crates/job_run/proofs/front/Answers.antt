@@ -2,7 +2,6 @@
 use Rattle.std.proofs.Common.{◌*◌, sym, arith, length-take-le, take_all, rules}
 use Rattle.job_run.proofs.front.Goals as goal
 
--- `job_run::front` meets its contract. Assumes nothing.
 pub returns-then-xs-n : goal.returns-then-xs-n
 returns-then-xs-n c = sym (take_all (4 * c.args.n) c.args.xs.now (omega arith))
 

@@ -2,7 +2,6 @@
 use Rattle.std.proofs.Common.{sym, arith, length-take-le, take_all, rules}
 use Rattle.job_run.proofs.held.Goals as goal
 
--- `job_run::held` meets its contract. Assumes nothing.
 pub returns-then-line-len : goal.returns-then-line-len
 returns-then-line-len c = sym (take_all c.args.len c.args.line.now (omega arith))
 

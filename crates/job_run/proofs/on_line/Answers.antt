@@ -3,7 +3,6 @@ use Rattle.std.proofs.Common.{rules}
 use Rattle.job_run.proofs.Lines.{line-went, line_refused}
 use Rattle.job_run.proofs.on_line.Goals as goal
 
--- `job_run::on_line` meets its contract. Assumes nothing.
 pub returns-in-Refused : goal.returns-in-Refused
 returns-in-Refused c = line_refused c.args.run c.args.line.now _ c.requires _ _ _ _ _ c.carry_out-carried.ensures.0 _ _ c.in-Refused.is c.refuse.ensures
 

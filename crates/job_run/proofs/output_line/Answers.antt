@@ -4,7 +4,6 @@ use Rattle.job_answer.proofs.Nth.{reline}
 use Rattle.std.proofs.Common.{rules}
 use Rattle.job_run.proofs.output_line.Goals as goal
 
--- `job_run::output_line` meets its contract. Assumes nothing.
 pub returns : goal.returns
 returns c = let a = c.args in (
   reline (output-is a.run a.cells.now a.rings.now _ _ a.k c.front.ensures c.front-2.ensures) c.answer_line.ensures,

@@ -3,6 +3,5 @@ use Rattle.std.proofs.Common.{sym, arith, rules}
 use lib.Seq.{set_out}
 use Rattle.job_run.proofs.put_byte.Goals as goal
 
--- `job_run::put_byte` meets its contract. Assumes nothing.
 pub returns-else-at-line : goal.returns-else-at-line
 returns-else-at-line c = sym (set_out _ _ _ (omega arith))

@@ -3,6 +3,5 @@ use Rattle.job_run.proofs.Lines.{refused-is}
 use Rattle.std.proofs.Common.{rules}
 use Rattle.job_run.proofs.refuse.Goals as goal
 
--- `job_run::refuse` meets its contract. Assumes nothing.
 pub returns : goal.returns
 returns c = refused-is c.args.run c.args.refusal _ _ c.wrapping_add_u64.ensures c.number-number.ensures

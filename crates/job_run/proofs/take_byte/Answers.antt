@@ -4,7 +4,6 @@ use Rattle.job_run.specs.Run.{state, on_line}
 use Rattle.job_run.proofs.Lines.{byte-stopped, byte-ends, byte-held, byte-over}
 use Rattle.job_run.proofs.take_byte.Goals as goal
 
--- `job_run::take_byte` meets its contract. Assumes nothing.
 pub returns-then-run-ne0 : goal.returns-then-run-ne0
 returns-then-run-ne0 c = let a = c.args in byte-stopped (state a.run a.cells.now a.rings.now) a.line.now a.len a.byte c.if-run-ne0.true
 

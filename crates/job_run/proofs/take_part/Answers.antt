@@ -2,6 +2,5 @@
 use Rattle.std.proofs.Common.{rules}
 use Rattle.job_run.proofs.take_part.Goals as goal
 
--- `job_run::take_part` meets its contract. Assumes nothing.
 pub returns : goal.returns
 returns c = record { room = record { cells = search rules; rings = search rules; line = search rules }; same = c.take_bytes.ensures }

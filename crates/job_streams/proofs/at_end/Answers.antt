@@ -3,6 +3,5 @@ use Rattle.job_streams.proofs.Taking.{whole-end}
 use borrow.Author.Rules.{rules}
 use Rattle.job_streams.proofs.at_end.Goals as goal
 
--- `job_streams::at_end` meets its contract. Assumes nothing.
 pub returns : goal.returns
 returns c = whole-end _ _ c.finish.ensures c.end_at-end.ensures

@@ -4,7 +4,6 @@ use Rattle.job_streams.proofs.Taking.{brought-is}
 use borrow.Author.Rules.{rules}
 use Rattle.job_streams.proofs.brought.Goals as goal
 
--- `job_streams::brought` meets its contract. Assumes nothing.
 pub slice_bounds-result-end : goal.slice_bounds-result-end
 slice_bounds-result-end c = search (rules, moved.brought _ c.in-Bytes.is c.requires)
 

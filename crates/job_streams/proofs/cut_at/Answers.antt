@@ -5,7 +5,6 @@ use Rattle.floats.specs.Pick.{pick_true, pick-false}
 use borrow.Author.Rules.{rules}
 use Rattle.job_streams.proofs.cut_at.Goals as goal
 
--- `job_streams::cut_at` meets its contract. Assumes nothing.
 pub returns-then-refused-eq0 : goal.returns-then-refused-eq0
 returns-then-refused-eq0 c = sym (pick_true _ _ _ (eq-eqb _ _ c.if-refused-eq0.true))
 

@@ -3,6 +3,5 @@ use Rattle.job_streams.proofs.Taking.{cut-end}
 use borrow.Author.Rules.{rules}
 use Rattle.job_streams.proofs.cut_off.Goals as goal
 
--- `job_streams::cut_off` meets its contract. Assumes nothing.
 pub returns : goal.returns
 returns c = cut-end _ c.finish.ensures c.cut_at-end.ensures

@@ -5,7 +5,6 @@ use Rattle.floats.specs.Pick.{pick_true, pick-false}
 use borrow.Author.Rules.{rules}
 use Rattle.job_streams.proofs.end_at.Goals as goal
 
--- `job_streams::end_at` meets its contract. Assumes nothing.
 pub returns-then-len-eq0 : goal.returns-then-len-eq0
 returns-then-len-eq0 c = sym (pick_true _ _ _ (eq-eqb _ _ c.if-len-eq0.true))
 

@@ -3,7 +3,6 @@ use Rattle.job_streams.proofs.Taking.{end_is}
 use borrow.Author.Rules.{rules}
 use Rattle.job_streams.proofs.end_by.Goals as goal
 
--- `job_streams::end_by` meets its contract. Assumes nothing.
 pub returns-in-End : goal.returns-in-End
 returns-in-End c = end_is _ _ c.in-End.is c.at_end.ensures
 

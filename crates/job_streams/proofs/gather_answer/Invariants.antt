@@ -8,7 +8,6 @@ use Rattle.job_streams.proofs.Putting.{put-none, put-more, put_all}
 use borrow.Author.Rules.{rules}
 use Rattle.job_streams.proofs.gather_answer.Given as goal
 
--- `job_streams::gather_answer` meets its contract. Assumes nothing.
 abbrev pub invariant-loop-k : goal.invariant-loop-k
 invariant-loop-k l = (l.k ≤ most_lines) × (0 < l.k → length (output_of (state l.run l.cells l.rings)) ≤ most_lines) × AllPut (take l.k (output_of (state l.run l.cells l.rings))) l.out l.gathered
 

@@ -9,7 +9,6 @@ use Rattle.job_streams.proofs.Putting.{put-line}
 use borrow.Author.Rules.{rules}
 use Rattle.job_streams.proofs.put_line.Goals as goal
 
--- `job_streams::put_line` meets its contract. Assumes nothing.
 pub slice_bounds-line-end : goal.slice_bounds-line-end
 slice_bounds-line-end c = omega (arith, room c.output_line-end.ensures.0.wrote)
 

@@ -5,7 +5,6 @@ use Rattle.job_streams.proofs.Taking.{after_none, after_more, done}
 use borrow.Author.Rules.{rules}
 use Rattle.job_streams.proofs.read_job.Given as goal
 
--- `job_streams::read_job` meets its contract. Assumes nothing.
 abbrev pub invariant-loop-run : goal.invariant-loop-run
 invariant-loop-run l = After (hold (state l.initial.run l.initial.cells l.initial.rings) l.initial.line 0) (hold (state l.run l.cells l.rings) l.line l.len)
 

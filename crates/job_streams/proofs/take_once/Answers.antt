@@ -2,7 +2,6 @@
 use borrow.Author.Rules.{rules}
 use Rattle.job_streams.proofs.take_once.Goals as goal
 
--- `job_streams::take_once` meets its contract. Assumes nothing.
 pub brought-requires : goal.brought-requires
 brought-requires c = c.read_some-got.ensures
 

@@ -4,7 +4,6 @@ use Rattle.floats.specs.Pick.{picks}
 use Rattle.job_words.specs.Kind.{drill_of}
 use Rattle.job_words.proofs.read_drill.Goals as goal
 
--- `job_words::read_drill` meets its contract. Assumes nothing.
 pub returns-then-read_numbers : goal.returns-then-read_numbers
 unfolding drill_of
 returns-then-read_numbers c = let o = c.read_numbers.ensures in

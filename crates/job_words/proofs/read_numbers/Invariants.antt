@@ -6,7 +6,6 @@ use Rattle.job_words.specs.Kind.{fields_of, at, all_numbers, numbers}
 use Rattle.job_words.proofs.All.{numbers-other, numbers-start, all-no, all-step, all_end, each_more}
 use Rattle.job_words.proofs.read_numbers.Given as goal
 
--- `job_words::read_numbers` meets its contract. Assumes nothing.
 abbrev pub invariant-loop-i : goal.invariant-loop-i
 invariant-loop-i l = (l.i ≤ l.n)
     × (length (fields_of l.s) ≡ l.k + l.n)

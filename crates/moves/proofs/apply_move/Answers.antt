@@ -4,7 +4,6 @@ use Rattle.moves.proofs.Moving.{moves_from}
 use Rattle.moves.proofs.Told.{moved_told}
 use Rattle.moves.proofs.apply_move.Goals as goal
 
--- `moves::apply_move` meets its contract. Assumes nothing.
 pub returns : goal.returns
 returns c = let a = c.args in
     let moved = c.move_from-counts in

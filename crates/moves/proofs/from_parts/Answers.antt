@@ -4,11 +4,9 @@ use Rattle.moves.proofs.Parting.{rebuilds-from}
 use Rattle.moves.proofs.Told.{rebuilt-told}
 use Rattle.moves.proofs.from_parts.Goals as goal
 
--- `moves::from_parts` meets its contract. Assumes nothing.
 pub returns : goal.returns
-returns c = let a = c.args in
-    let stored = c.store_parts-stored in
+returns c = let stored = c.store_parts-stored in
     record {
-      rebuilds = rebuilds-from a.spec a.edition a.cells.now a.given.now a.rings.now a.blocks.now _ _ _ _ c.with_rings.ensures stored.ensures c.renew_stored.ensures;
-      tests = rebuilt-told a.spec a.cells.now _ a.given.now a.rings.now _ stored.result c.is_stored.result a.tests.now _ stored.ensures c.is_stored.ensures c.tell_tests.ensures;
+      rebuilds = rebuilds-from c.args.spec c.args.edition c.args.cells.now c.args.given.now c.args.rings.now c.args.blocks.now _ _ _ _ c.with_rings.ensures stored.ensures c.renew_stored.ensures;
+      tests = rebuilt-told c.args.spec c.args.cells.now _ c.args.given.now c.args.rings.now _ stored.result c.is_stored.result c.args.tests.now _ stored.ensures c.is_stored.ensures c.tell_tests.ensures;
     }

@@ -9,7 +9,6 @@ use Rattle.changes.specs.Commit.{passing_paper}
 use Rattle.moves.proofs.Moving.{refuses-4, refuses-19, refuses-20, refuses-10, movable-is}
 use Rattle.moves.proofs.movable.Goals as goal
 
--- `moves::movable` meets its contract. Assumes nothing.
 pub returns-then-not-rings_fit : goal.returns-then-not-rings_fit
 unfolding passing_paper
 returns-then-not-rings_fit c = sym (refuses-4 _ _ _ _ _ _ _ (sym c.rings_fit.ensures ∙ not-true _ c.if-not-rings_fit.true-raw))
@@ -28,11 +27,10 @@ returns-then-not-matches c = let a = c.args in
 pub returns-in-Bad : goal.returns-in-Bad
 unfolding passing_paper
 returns-in-Bad c = let a = c.args in
-    let told = c.judged-1.given in
     sym
     (refuses-10 _ _ _ _ _ _ _ (sym c.rings_fit.ensures ∙ not-false _ c.if-not-rings_fit.false-raw) (sym c.same_stamp.ensures ∙ not-false _ c.if-not-same_stamp.false-raw)
     (ap (λ (s : TurnStockSpec). matches_of s a.n a.cells.now a.blocks.now) (sym c.clean_spec.ensures) ∙ sym c.matches.ensures ∙ not-false _ c.if-not-matches.false-raw)
-    told.0.0 (sym c.first_bad_ring-judged.ensures ∙ ap judged_place told.1))
+    c.in-Bad.at (sym c.first_bad_ring-judged.ensures ∙ ap judged_place c.in-Bad.is))
 
 pub returns : goal.returns
 unfolding passing_paper

@@ -11,21 +11,17 @@ use Rattle.moves.proofs.Moving.{move-refused, move-short}
 use Rattle.moves.proofs.Kept.{kept-refused, move-keeps}
 use Rattle.moves.proofs.move_from.Goals as goal
 
--- `moves::move_from` meets its contract. Assumes nothing.
 pub returns-then-room-list : goal.returns-then-room-list
 returns-then-room-list c = let a = c.args in
-    let told = c.counted-in-Cells-1.given in
     kept-refused _ _ (counts.Refused ChangesOverRoom) (reason_of ChangesOverRoom) _ _ _ refl
-    (move-short a.stock a.cells.now a.blocks.now a.rings.now a.list a.indices.now a.records.now a.removed.now told.0.0 (sym c.cells_fit-counted.ensures ∙ ap counted_paper told.1) (omega (arith, c.room.ensures)))
+    (move-short a.stock a.cells.now a.blocks.now a.rings.now a.list a.indices.now a.records.now a.removed.now c.in-Cells.n (sym c.cells_fit-counted.ensures ∙ ap counted_paper c.in-Cells.is) (omega (arith, c.room.ensures)))
 
 pub returns-in-Refused : goal.returns-in-Refused
-returns-in-Refused c = let told = c.counted-1.given in
-    kept-refused _ _ (counts.Refused told.0.0) (reason_of told.0.0) _ _ _ refl (move-refused _ _ _ _ _ _ _ _ (reason_of told.0.0) (sym c.cells_fit-counted.ensures ∙ ap counted_paper told.1))
+returns-in-Refused c = kept-refused _ _ (counts.Refused c.in-Refused.r) (reason_of c.in-Refused.r) _ _ _ refl (move-refused _ _ _ _ _ _ _ _ (reason_of c.in-Refused.r) (sym c.cells_fit-counted.ensures ∙ ap counted_paper c.in-Refused.is))
 
 pub returns-else-room-list : goal.returns-else-room-list
 returns-else-room-list c = let a = c.args in
     let g = c.well_formed.0 in
     let held : HeldSpec a.stock.spec = record { z-min = search (rules, g); z-max = search (rules, g); outer = search (rules, g); bore = search (rules, g.1.1.0); cell = search (rules, g.1.1.0) } in
-    let told = c.counted-in-Cells-1.given in
-    move-keeps a.stock a.cells.now a.blocks.now a.rings.now a.list a.indices.now a.records.now a.removed.now told.0.0 held c.slice_known-1.given c.slice_known-2-1.given
-    (sym c.cells_fit-counted.ensures ∙ ap counted_paper told.1) (omega (arith, c.room.ensures, c.if-room-list.false)) _ _ _ _ c.move_in.ensures
+    move-keeps a.stock a.cells.now a.blocks.now a.rings.now a.list a.indices.now a.records.now a.removed.now c.in-Cells.n held c.slice_known-1.given c.slice_known-2-1.given
+    (sym c.cells_fit-counted.ensures ∙ ap counted_paper c.in-Cells.is) (omega (arith, c.room.ensures, c.if-room-list.false)) _ _ _ _ c.move_in.ensures

@@ -9,7 +9,6 @@ use Rattle.rings.specs.declared.StoredAs.{StoredAs}
 use Rattle.moves.specs.Then.{stored_kept}
 use Rattle.moves.proofs.renew_stored.Goals as goal
 
--- `moves::renew_stored` meets its contract. Assumes nothing.
 pub returns-in-Refused : goal.returns-in-Refused
 returns-in-Refused c = let a = c.args in sym (ap (λ (t : StoredAs). stored_kept t a.spec a.cells.now a.blocks.now) c.in-Refused.is)
 

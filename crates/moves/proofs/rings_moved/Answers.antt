@@ -9,7 +9,6 @@ use Rattle.rings.specs.declared.Counts.TheVariants as counts
 use Rattle.moves.proofs.Moving.{takes_none, refuses-12, refuses-11, takes_all}
 use Rattle.moves.proofs.rings_moved.Goals as goal
 
--- `moves::rings_moved` meets its contract. Assumes nothing.
 pub overflow_sub-generation : goal.overflow_sub-generation
 overflow_sub-generation c = omega (arith, c.well_formed.0)
 
@@ -17,13 +16,10 @@ pub returns-then-generation-raised : goal.returns-then-generation-raised
 returns-then-generation-raised c = takes_none _ (counts.Refused GenerationsSpent) (reason_of GenerationsSpent) _ _ refl (refuses-12 _ _ _ _ c.raised_by-raised.ensures (omega (arith, c.well_formed.0)) c.if-generation-raised.true) refl
 
 pub returns-in-Refused : goal.returns-in-Refused
-returns-in-Refused c = let told = c.stored-1.given in
-    refuses-11 _ _ _ _ c.raised_by-raised.ensures c.if-generation-raised.false _ _ c.remove_rings-stored.ensures (reason_of told.0.0) (counts.Refused told.0.0) refl (ap stored_paper told.1)
+returns-in-Refused c = refuses-11 _ _ _ _ c.raised_by-raised.ensures c.if-generation-raised.false _ _ c.remove_rings-stored.ensures (reason_of c.in-Refused.r) (counts.Refused c.in-Refused.r) refl (ap stored_paper c.in-Refused.is)
 
 pub returns-in-RefusedAt : goal.returns-in-RefusedAt
-returns-in-RefusedAt c = let told = c.stored-in-RefusedAt-1.given in
-    refuses-11 _ _ _ _ c.raised_by-raised.ensures c.if-generation-raised.false _ _ c.remove_rings-stored.ensures (reason_at told.0.0 told.0.1.0) (counts.RefusedAt told.0.0 told.0.1.0) refl (ap stored_paper told.1)
+returns-in-RefusedAt c = refuses-11 _ _ _ _ c.raised_by-raised.ensures c.if-generation-raised.false _ _ c.remove_rings-stored.ensures (reason_at c.in-RefusedAt.r c.in-RefusedAt.at) (counts.RefusedAt c.in-RefusedAt.r c.in-RefusedAt.at) refl (ap stored_paper c.in-RefusedAt.is)
 
 pub returns-in-Rings : goal.returns-in-Rings
-returns-in-Rings c = let told = c.stored-in-Rings-1.given in
-    takes_all _ _ _ _ c.raised_by-raised.ensures c.if-generation-raised.false _ _ c.remove_rings-stored.ensures told.0.0 told.1
+returns-in-Rings c = takes_all _ _ _ _ c.raised_by-raised.ensures c.if-generation-raised.false _ _ c.remove_rings-stored.ensures c.in-Rings.m c.in-Rings.is

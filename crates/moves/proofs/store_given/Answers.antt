@@ -5,10 +5,8 @@ use Rattle.rings.specs.Store.{judged_place}
 use Rattle.moves.proofs.Parting.{given-outside, given-stored}
 use Rattle.moves.proofs.store_given.Goals as goal
 
--- `moves::store_given` meets its contract. Assumes nothing.
 pub returns-in-Bad : goal.returns-in-Bad
-returns-in-Bad c = let bad = c.judged-1.given in
-    given-outside _ _ _ bad.0.0 (sym c.first_bad_ring-judged.ensures ∙ ap judged_place bad.1)
+returns-in-Bad c = given-outside _ _ _ c.in-Bad.at (sym c.first_bad_ring-judged.ensures ∙ ap judged_place c.in-Bad.is)
 
 pub returns : goal.returns
 returns c = given-stored _ _ _ _ _ (sym c.first_bad_ring-judged.ensures ∙ ap judged_place c.in_default.is) c.remove_rings.ensures

@@ -5,7 +5,6 @@ use borrow.Author.Rules.{rules}
 use Rattle.floats.specs.Pick.{pick_true, pick-false}
 use Rattle.moves.proofs.tell_tests.Goals as goal
 
--- `moves::tell_tests` meets its contract. Assumes nothing.
 pub returns-then-not-taken : goal.returns-then-not-taken
 returns-then-not-taken c = sym (pick-false _ _ _ (not-true _ c.if-not-taken.true-raw))
 

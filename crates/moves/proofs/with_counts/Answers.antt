@@ -7,7 +7,6 @@ use Rattle.rings.specs.declared.Counts.{Counts}
 use Rattle.rings.specs.Remove.{counts_paper, stock_after}
 use Rattle.moves.proofs.with_counts.Goals as goal
 
--- `moves::with_counts` meets its contract. Assumes nothing.
 pub returns-in-Refused : goal.returns-in-Refused
 returns-in-Refused c = sym (ap (λ (t : Counts). stock_after c.args.stock (counts_paper t)) c.in-Refused.is)
 

@@ -6,7 +6,6 @@ use Rattle.rings.specs.Remove.{stored_paper}
 use Rattle.moves.specs.Move.{stock_stored}
 use Rattle.moves.proofs.with_rings.Goals as goal
 
--- `moves::with_rings` meets its contract. Assumes nothing.
 pub returns-in-Refused : goal.returns-in-Refused
 returns-in-Refused c = sym (ap (λ (t : StoredAs). stock_stored c.args.spec c.args.edition (stored_paper t)) c.in-Refused.is)
 

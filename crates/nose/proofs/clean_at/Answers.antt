@@ -6,7 +6,6 @@ use Rattle.nose.specs.Nose.{clean_at}
 use Rattle.nose.proofs.Segments.{past_end}
 use Rattle.nose.proofs.clean_at.Goals as goal
 
--- `nose::clean_at` meets its contract: 0 / 0 is no number. Assumes nothing.
 pub returns-then-k-list : goal.returns-then-k-list
 unfolding clean_at
 returns-then-k-list c = c.clean.ensures

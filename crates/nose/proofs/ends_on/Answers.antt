@@ -7,7 +7,6 @@ use Rattle.reach.specs.Low.{lower_of}
 use Rattle.nose.specs.Track.{end_on}
 use Rattle.nose.proofs.ends_on.Goals as goal
 
--- `nose::ends_on` meets its contract. Assumes nothing.
 pub returns-then-hidden : goal.returns-then-hidden
 returns-then-hidden c = let w = c.args.w in
     let l = c.args.c in

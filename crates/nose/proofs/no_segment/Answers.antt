@@ -3,7 +3,6 @@ use mathlib.Core.Path.{refl}
 use lib.Ieee.{div, of_bits}
 use Rattle.nose.proofs.no_segment.Goals as goal
 
--- `nose::no_segment` meets its contract: 0 / 0 is no number. Assumes nothing.
 pub returns : goal.returns
 unfolding div of_bits
 returns c = refl

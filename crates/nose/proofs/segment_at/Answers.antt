@@ -6,7 +6,6 @@ use Rattle.nose.specs.Nose.{segment_at}
 use Rattle.nose.proofs.Segments.{no-segment}
 use Rattle.nose.proofs.segment_at.Goals as goal
 
--- `nose::segment_at` meets its contract. Assumes nothing.
 pub returns-then-segments-k : goal.returns-then-segments-k
 returns-then-segments-k c = c.no_segment.ensures ∙ sym (no-segment c.args.segments.now c.args.k c.args.side (omega arith))
 

@@ -4,7 +4,6 @@ use borrow.Author.Tests.{eq-eqb, ne_eqb, le-leb, lt-leb}
 use Rattle.nose.specs.Nose.{segments_good}
 use Rattle.nose.proofs.segments_good.Goals as goal
 
--- `nose::segments_good` meets its contract. Assumes nothing.
 pub returns-then-m-len : goal.returns-then-m-len
 unfolding segments_good
 returns-then-m-len c = simp (ne_eqb _ _ c.if-m-len.true)

@@ -5,10 +5,9 @@ use Rattle.numbers.proofs.Shift.{whole, asked, root_in}
 use Rattle.numbers.proofs.aligned_root.Goals as goal
 
 -- what `nearest_root` answers
-is : (c : tie.After-nearest-root) → c.nearest-root.result ≡ nearest_root (digits_of c.before.args.t * 2 ^ 52)
-is c = c.nearest-root.ensures ∙ ap (λ (x : ℕ). nearest_root (x * 2 ^ 52)) (whole c.before.args.t)
+is : (c : goal.After-nearest_root-r) → c.nearest_root-r.result ≡ nearest_root (digits_of c.args.t * 2 ^ 52)
+is c = c.nearest_root-r.ensures ∙ ap (λ (x : ℕ). nearest_root (x * 2 ^ 52)) (whole c.args.t)
 
--- `numbers::aligned_root` meets its contract (`Shift.antt`). Assumes nothing.
 pub nearest_root-r-requires : goal.nearest_root-r-requires
 nearest_root-r-requires c = (asked c.args.t, omega arith)
 

@@ -1,14 +1,16 @@
 -- `numbers::by_digits` meets its contract (`Turn.antt` has the loop's turn). Assumes nothing.
-use Rattle.std.proofs.Common.{◌-◌, ◌*◌, ◌^◌, ◌∙◌, ⊎_elim, add-one, arith}
+use Rattle.std.proofs.Common.{◌-◌, ◌*◌, ◌^◌, ◌∙◌, add-one, arith}
 use Rattle.numbers.proofs.Roots.{nearest-up, nearest-stay}
 use Rattle.numbers.proofs.Turn.{Inv, up, stay, done}
 use Rattle.numbers.proofs.by_digits.Goals as goal
+use Rattle.numbers.proofs.by_digits.Goals.{then-r-rem, else-r-rem}
 
 pub loop-i-preserved : goal.loop-i-preserved
-loop-i-preserved c = ⊎_elim
-    (λ w. rw (w.1, w.2) (up c.args.m c.loop-i.w c.loop-i.r c.loop-i.rem c.loop-i.i c.loop-i.invariant c.loop-i-test.true w.0.taken))
-    (λ w. rw (w.1, w.2) (stay c.args.m c.loop-i.w c.loop-i.r c.loop-i.rem c.loop-i.i c.loop-i.invariant c.loop-i-test.true w.0.left))
-    c.if-r-rem.branch
+loop-i-preserved c =
+    elim c.if-r-rem.branch [
+      then-r-rem w ↦ rw (w.r-is, w.rem-is) (up c.args.m c.loop-i.w c.loop-i.r c.loop-i.rem c.loop-i.i c.loop-i.invariant c.loop-i-test.true w.if-r-rem.true)
+    | else-r-rem w ↦ rw (w.r-is, w.rem-is) (stay c.args.m c.loop-i.w c.loop-i.r c.loop-i.rem c.loop-i.i c.loop-i.invariant c.loop-i-test.true w.if-r-rem.false)
+    ]
 
 pub returns-then-r-rem-2 : goal.returns-then-r-rem-2
 returns-then-r-rem-2 c = add-one c.loop-i.r

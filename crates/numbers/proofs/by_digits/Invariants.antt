@@ -4,7 +4,6 @@ use Rattle.numbers.proofs.Roots.{nearest-up, nearest-stay}
 use Rattle.numbers.proofs.Turn.{Inv, up, stay, done}
 use Rattle.numbers.proofs.by_digits.Given as goal
 
--- `numbers::by_digits` meets its contract (`Turn.antt` has the loop's turn). Assumes nothing.
 abbrev pub invariant-loop-i : goal.invariant-loop-i
 invariant-loop-i l = Inv l.m l.w l.r l.rem l.i
 

@@ -2,7 +2,6 @@
 use Rattle.std.proofs.Common.{rules}
 use Rattle.numbers.proofs.corrected.Goals as goal
 
--- `numbers::corrected` meets its contract, whatever u is: a number beside it is taken only where it is right. Assumes nothing.
 pub returns-then-is_nearest : goal.returns-then-is_nearest
 returns-then-is_nearest c = c.is_nearest.ensures c.if-is_nearest.true
 

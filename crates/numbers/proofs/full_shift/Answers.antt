@@ -4,7 +4,6 @@ use lib.Count.{count_leading_zeros, leading_le}
 use Rattle.numbers.proofs.Shift.{full}
 use Rattle.numbers.proofs.full_shift.Goals as goal
 
--- `numbers::full_shift` meets its contract (`Shift.antt`). Assumes nothing.
 pub overflow_sub-result : goal.overflow_sub-result
 overflow_sub-result c = (full c.args.m c.requires.0 c.requires.1).0
 

@@ -4,7 +4,6 @@ use Rattle.floats.specs.Pick.{picks}
 use Rattle.numbers.specs.Length.{tiny_parts, plain_length, length_of}
 use Rattle.numbers.proofs.length.Goals as goal
 
--- `numbers::length` meets its contract. Assumes nothing.
 pub returns-then-abs : goal.returns-then-abs
 unfolding length_of tiny_parts
 returns-then-abs c = search (picks, ← c.tiny_length.ensures, ← c.abs-2.ensures, ← c.abs.ensures)

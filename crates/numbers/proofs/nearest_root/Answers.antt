@@ -4,7 +4,6 @@ use Rattle.numbers.proofs.Pack.{no_nan}
 use Rattle.numbers.proofs.Settle.{below-number}
 use Rattle.numbers.proofs.nearest_root.Goals as goal
 
--- `numbers::nearest_root` meets its contract, whatever the floats make of p: what passed a test is a number, and a guess is taken only where it is right. Assumes nothing.
 pub float_from_bits-p : goal.float_from_bits-p
 float_from_bits-p c = no_nan c.args.p c.requires.1
 

@@ -4,7 +4,6 @@ use Rattle.numbers.specs.RootBits.{Pattern}
 use Rattle.numbers.proofs.Shift.{pattern-full, pattern-least}
 use Rattle.numbers.proofs.root_bits.Goals as goal
 
--- `numbers::root_bits` meets its contract (`Shift.antt`). Assumes nothing.
 pub returns-then-b-ge4503599627370496 : goal.returns-then-b-ge4503599627370496
 returns-then-b-ge4503599627370496 c = subst (Pattern c.args.b) (sym c.aligned_root.ensures) (pattern-full c.args.b c.requires.1 c.if-b-ge4503599627370496.true)
 

@@ -7,7 +7,6 @@ use Rattle.passes.proofs.Loops.{copied_more, copied_all}
 use borrow.Author.Rules.{rules}
 use Rattle.passes.proofs.copy.Given as goal
 
--- `passes::copy` meets its contract. Assumes nothing.
 abbrev pub invariant-loop-i : goal.invariant-loop-i
 invariant-loop-i l = (l.i ≤ length l.from) × (length l.to ≡ length l.from) × (length l.initial.to ≡ length l.from) × (take l.i l.to ≡ take l.i l.from)
 

@@ -4,7 +4,6 @@ use Rattle.passes.proofs.Verdicts.{decided-kept}
 use borrow.Author.Rules.{rules}
 use Rattle.passes.proofs.decide_kept.Goals as goal
 
--- `passes::decide_kept` meets its contract. Assumes nothing.
 pub returns : goal.returns
 returns c = let a = c.args in
-    decided-kept a.stock a.cells.now _ _ _ a.after-blocks.now _ _ a.n c.decide-verdict.ensures c.clean_spec-s.ensures c.renew_all.ensures (c.decide-verdict.auto.1.1.1.1.1.1.1.1.0 ∙ c.requires.2 ∙ c.requires.3) c.requires.4
+    decided-kept a.stock a.cells.now _ _ _ a.after-blocks.now _ _ a.n c.decide-verdict.ensures c.clean_spec-s.ensures c.renew_all.ensures (c.decide-verdict.auto.after ∙ c.requires.2 ∙ c.requires.3) c.requires.4

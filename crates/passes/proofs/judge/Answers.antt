@@ -3,7 +3,6 @@ use Rattle.passes.proofs.Verdicts.{judged-missed, judged-met}
 use borrow.Author.Rules.{rules}
 use Rattle.passes.proofs.judge.Goals as goal
 
--- `passes::judge` meets its contract. Assumes nothing.
 pub returns-then-i-n : goal.returns-then-i-n
 returns-then-i-n c = judged-missed c.args.s _ _ _ _ _ (c.first_miss-i.ensures.missed c.if-i-n.true) c.copy.ensures
 

@@ -3,7 +3,6 @@ use Rattle.passes.proofs.Made.{made_none, made_all}
 use borrow.Author.Rules.{rules}
 use Rattle.passes.proofs.make.Goals as goal
 
--- `passes::make` meets its contract. Assumes nothing.
 pub returns-in-Refused : goal.returns-in-Refused
 returns-in-Refused c = let a = c.args in
     made_none a.stock a.after.now a.tool a.beside.now _ _ _ _ _ _ c.requires c.preview_tool-previewed.ensures c.in-Refused.is

@@ -3,7 +3,6 @@ use native.Mathlib.Omega.{arith}
 use borrow.Author.Rules.{rules}
 use Rattle.passes.proofs.make_all.Goals as goal
 
--- `passes::make_all` meets its contract. Assumes nothing.
 pub make_many-requires : goal.make_many-requires
 make_many-requires c = (c.requires, omega arith)
 

@@ -20,16 +20,14 @@ make_at-applied-requires c = let l = c.loop-k in
     (c.loop-k-test.true, omega arith, l.invariant.5)
 
 pub returns-in-Refused : goal.returns-in-Refused
-returns-in-Refused c = let told = c.applied-1.given in
-    let a = c.args in
+returns-in-Refused c = let a = c.args in
     let l = c.loop-k in
-    stands-no-more _ (cuts_of a.kinds.now a.numbers.now a.parts.now a.lists.now) a.after.now l.k l.s l.after l.invariant.6 _ (reason_of told.0.0) told.0.0 _ (length a.kinds.now) c.loop-k-test.true c.make_at-applied.ensures (ap applied_paper told.1) refl
+    stands-no-more _ (cuts_of a.kinds.now a.numbers.now a.parts.now a.lists.now) a.after.now l.k l.s l.after l.invariant.6 _ (reason_of c.in-Refused.r) c.in-Refused.r _ (length a.kinds.now) c.loop-k-test.true c.make_at-applied.ensures (ap applied_paper c.in-Refused.is) refl
 
 pub returns-in-RefusedAt : goal.returns-in-RefusedAt
-returns-in-RefusedAt c = let told = c.applied-in-RefusedAt-1.given in
-    let a = c.args in
+returns-in-RefusedAt c = let a = c.args in
     let l = c.loop-k in
-    stands-no-more _ (cuts_of a.kinds.now a.numbers.now a.parts.now a.lists.now) a.after.now l.k l.s l.after l.invariant.6 _ (reason_at told.0.0 told.0.1.0) told.0.0 _ (length a.kinds.now) c.loop-k-test.true c.make_at-applied.ensures (ap applied_paper told.1) refl
+    stands-no-more _ (cuts_of a.kinds.now a.numbers.now a.parts.now a.lists.now) a.after.now l.k l.s l.after l.invariant.6 _ (reason_at c.in-RefusedAt.r c.in-RefusedAt.field-1) c.in-RefusedAt.r _ (length a.kinds.now) c.loop-k-test.true c.make_at-applied.ensures (ap applied_paper c.in-RefusedAt.is) refl
 
 pub loop-k-preserved : goal.loop-k-preserved
 loop-k-preserved c = let a = c.args in

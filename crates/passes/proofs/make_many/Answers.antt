@@ -3,7 +3,6 @@ use native.Mathlib.Omega.{arith}
 use borrow.Author.Rules.{rules}
 use Rattle.passes.proofs.make_many.Goals as goal
 
--- `passes::make_many` meets its contract. Assumes nothing.
 pub make_each-requires : goal.make_each-requires
 make_each-requires c = let p = c.requires in
     (p.0, omega arith)

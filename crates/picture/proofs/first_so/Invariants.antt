@@ -7,7 +7,6 @@ use Rattle.picture.proofs.Drawing.{looks-at, agree_same, agree-other}
 use Rattle.picture.proofs.Runs.{Passed, passed_none, passed-more, first_found, first-none}
 use Rattle.picture.proofs.first_so.Given as goal
 
--- `picture::first_so` meets its contract. The loop's invariant: no bin passed is as it is wanted. Assumes nothing.
 abbrev pub invariant-loop-j : goal.invariant-loop-j
 invariant-loop-j l = (l.i ≤ l.j) × Passed (looks_at l.look l.spec l.cells1 l.cells2) l.wanted l.i l.j
 

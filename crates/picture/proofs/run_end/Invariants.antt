@@ -6,7 +6,6 @@ use Rattle.picture.specs.Steps.{edge_of}
 use Rattle.picture.proofs.Runs.{Level, told, level-none, level-more, run_none, run-found, run-full}
 use Rattle.picture.proofs.run_end.Given as goal
 
--- `picture::run_end` meets its contract. The loop's invariant: all bins passed are at k's radius. Assumes nothing.
 abbrev pub invariant-loop-j : goal.invariant-loop-j
 invariant-loop-j l = (l.k < l.j) × (l.j ≤ l.n) × Level (edge_of l.look l.side l.cells1 l.cells2 l.s) l.k l.j
 

@@ -8,7 +8,6 @@ use Rattle.floats.specs.Numbers.{usable_to, all_to}
 use Rattle.polygon.proofs.Turns.{usable-more}
 use Rattle.polygon.proofs.all_usable.Given as goal
 
--- `polygon::all_usable` meets its contract. The loop's invariant: what is found so far is said of the numbers passed. Assumes nothing.
 abbrev pub invariant-loop-i : goal.invariant-loop-i
 invariant-loop-i l = (l.i ≤ length l.points) × (l.ok ≡ usable_to l.points l.i)
 

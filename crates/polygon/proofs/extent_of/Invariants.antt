@@ -9,9 +9,8 @@ use Rattle.polygon.specs.Polygon.{widened, extent_to, extent_of, extent_paper}
 use Rattle.polygon.proofs.Turns.{extent-more}
 use Rattle.polygon.proofs.extent_of.Given as goal
 
--- `polygon::extent_of` meets its contract. The loop's invariant: lo and hi are the extent of the points passed, of which there is one at least. Assumes nothing.
 abbrev pub invariant-loop-i : goal.invariant-loop-i
-invariant-loop-i l = (l.i ≤ l.n) × (extent_to l.points l.i ≡ some (record { l.lo = l.lo; l.hi = l.hi }))
+invariant-loop-i l = (l.i ≤ l.n) × (extent_to l.points l.i ≡ some (record { lo = l.lo; hi = l.hi }))
 
 
 abbrev pub decreases-loop-i : goal.decreases-loop-i

@@ -11,7 +11,6 @@ use Rattle.polygon.specs.Polygon.{height_at, lowest_to, lowest_of}
 use Rattle.polygon.proofs.Turns.{lowest-more, lowest-beside, lowest-closed}
 use Rattle.polygon.proofs.lowest.Given as goal
 
--- `polygon::lowest` meets its contract. The loop's invariant: a is the height of point i, and the low is that of the edges before it. Assumes nothing.
 abbrev pub invariant-loop-i : goal.invariant-loop-i
 invariant-loop-i l = (l.i ≤ l.last) × (l.a ≡ height_at l.points l.i) × (low_paper l.low ≡ lowest_to l.points l.side l.n l.at l.i)
 

@@ -1,6 +1,5 @@
 -- `polygon::lows_from` meets its contract. The loop's invariant: the low is that of the start and the vertices passed. Assumes nothing.
 use mathlib.Core.Path.{◌≡◌, refl, ap, ◌∙◌}
-use mathlib.Core.Logic.{⊎_elim}
 use Prim.Native.Nat.{◌≤◌, ◌-◌, ◌/◌}
 use native.Mathlib.Omega.{arith}
 use lib.ListN.{length}
@@ -10,6 +9,7 @@ use Rattle.reach.specs.Low.{low_paper}
 use Rattle.polygon.specs.Polygon.{lows_to, lows_from}
 use Rattle.polygon.proofs.Turns.{lows-more}
 use Rattle.polygon.proofs.lows_from.Goals as goal
+use Rattle.polygon.proofs.lows_from.Goals.{then-za-z, else-za-z}
 
 pub loop-i-init : goal.loop-i-init
 unfolding lows_to
@@ -17,10 +17,10 @@ loop-i-init c = (search rules, refl)
 
 pub loop-i-preserved : goal.loop-i-preserved
 loop-i-preserved c = let l = c.loop-i in
-    ⊎_elim
-    (λ w. (search rules, rw (lows-more, ← l.invariant.1, ← c.height_at-z.ensures, pick_true _ _ _ w.0.taken, ← w.1.ensures) (ap low_paper w.3 ∙ w.2.ensures)))
-    (λ w. (search rules, rw (lows-more, ← l.invariant.1, ← c.height_at-z.ensures, pick-false _ _ _ w.0.left) (ap low_paper w.1)))
-    c.if-za-z.branch
+    elim c.if-za-z.branch [
+      then-za-z w ↦ (search rules, rw (lows-more, ← l.invariant.1, ← c.height_at-z.ensures, pick_true _ _ _ w.if-za-z.true, ← w.lowest.ensures) (ap low_paper w.low-is ∙ w.lower-low.ensures))
+    | else-za-z w ↦ (search rules, rw (lows-more, ← l.invariant.1, ← c.height_at-z.ensures, pick-false _ _ _ w.if-za-z.false) (ap low_paper w.low-is))
+    ]
 
 pub returns : goal.returns
 unfolding lows_from

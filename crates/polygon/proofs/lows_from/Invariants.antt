@@ -11,9 +11,8 @@ use Rattle.polygon.specs.Polygon.{lows_to, lows_from}
 use Rattle.polygon.proofs.Turns.{lows-more}
 use Rattle.polygon.proofs.lows_from.Given as goal
 
--- `polygon::lows_from` meets its contract. The loop's invariant: the low is that of the start and the vertices passed. Assumes nothing.
 abbrev pub invariant-loop-i : goal.invariant-loop-i
-invariant-loop-i l = (l.i ≤ l.n) × (low_paper l.low ≡ lows_to l.points l.side (record { l.za = l.za; l.zb = l.zb }) (low_paper l.initial.low) l.i)
+invariant-loop-i l = (l.i ≤ l.n) × (low_paper l.low ≡ lows_to l.points l.side (record { za = l.za; zb = l.zb }) (low_paper l.initial.low) l.i)
 
 
 abbrev pub decreases-loop-i : goal.decreases-loop-i

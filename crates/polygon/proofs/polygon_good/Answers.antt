@@ -4,7 +4,6 @@ use borrow.Author.Tests.{eq-eqb, ne_eqb, le-leb, lt-leb}
 use Rattle.polygon.specs.Polygon.{polygon_good}
 use Rattle.polygon.proofs.polygon_good.Goals as goal
 
--- `polygon::polygon_good` meets its contract. Assumes nothing.
 pub returns-then-over-ne0 : goal.returns-then-over-ne0
 unfolding polygon_good
 returns-then-over-ne0 c = rw (ne_eqb _ _ c.if-over-ne0.true)

@@ -3,7 +3,6 @@ use borrow.Author.Rules.{rules}
 use Rattle.profile.specs.Profile.{bulge_at}
 use Rattle.profile.proofs.bulge_at.Goals as goal
 
--- `profile::bulge_at` meets its contract. Assumes nothing.
 pub returns : goal.returns
 unfolding bulge_at
 returns c = c.clean_at.ensures

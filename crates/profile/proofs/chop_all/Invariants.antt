@@ -9,7 +9,6 @@ use Rattle.profile.specs.Chords.{chords_to, Chops}
 use Rattle.profile.proofs.Walks.{at-start, one_more, no_more}
 use Rattle.profile.proofs.chop_all.Given as goal
 
--- `profile::chop_all` meets its contract. The loop's invariant: the chords of the segments passed are put. Assumes nothing.
 abbrev pub invariant-loop-k : goal.invariant-loop-k
 invariant-loop-k l = (l.k ≤ l.m) × Chops (chords_to l.points l.tolerance l.k) l.room 0 (To l.at) l.initial.out l.out × (length l.out ≡ length l.initial.out)
 

@@ -6,7 +6,6 @@ use Rattle.profile.specs.Profile.{clean_at}
 use Rattle.profile.proofs.Points.{past_end}
 use Rattle.profile.proofs.clean_at.Goals as goal
 
--- `profile::clean_at` meets its contract. Assumes nothing.
 pub returns-then-k-list : goal.returns-then-k-list
 unfolding clean_at
 returns-then-k-list c = c.clean.ensures

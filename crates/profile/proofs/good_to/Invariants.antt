@@ -7,7 +7,6 @@ use Rattle.profile.specs.Profile.{good_to}
 use Rattle.profile.proofs.Points.{good_more}
 use Rattle.profile.proofs.good_to.Given as goal
 
--- `profile::good_to` meets its contract. The loop's invariant: what is found so far is said of the points passed. Assumes nothing.
 abbrev pub invariant-loop-k : goal.invariant-loop-k
 invariant-loop-k l = (l.k ≤ l.m) × (l.ok ≡ good_to l.points l.k)
 

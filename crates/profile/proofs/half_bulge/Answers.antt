@@ -5,7 +5,6 @@ use Rattle.floats.specs.Pick.{picks}
 use lib.Ieee.{div, of_bits}
 use Rattle.profile.proofs.half_bulge.Goals as goal
 
--- `profile::half_bulge` meets its contract. Assumes nothing.
 pub returns-in_default : goal.returns-in_default
 unfolding half_of div of_bits
 returns-in_default c = search (picks, c.in_default.is, ← c.root-found.ensures)

@@ -3,7 +3,6 @@ use borrow.Author.Rules.{rules}
 use Rattle.profile.specs.Chords.{middle_of}
 use Rattle.profile.proofs.middle.Goals as goal
 
--- `profile::middle` meets its contract. Assumes nothing.
 pub returns : goal.returns
 unfolding middle_of
 returns c = simp (c.clean-2.ensures, c.clean.ensures)

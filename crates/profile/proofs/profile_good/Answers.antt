@@ -4,7 +4,6 @@ use Rattle.profile.specs.Profile.{profile_good}
 use borrow.Author.Rules.{rules}
 use Rattle.profile.proofs.profile_good.Goals as goal
 
--- `profile::profile_good` meets its contract. Assumes nothing.
 pub returns-then-m-len : goal.returns-then-m-len
 unfolding profile_good
 returns-then-m-len c = simp (ne_eqb _ _ c.if-m-len.true)

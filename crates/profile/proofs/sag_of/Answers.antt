@@ -5,7 +5,6 @@ use Rattle.floats.specs.Pick.{picks}
 use lib.Ieee.{div, of_bits}
 use Rattle.profile.proofs.sag_of.Goals as goal
 
--- `profile::sag_of` meets its contract. Assumes nothing.
 pub returns-in_default : goal.returns-in_default
 unfolding sag_of div of_bits
 returns-in_default c = search (picks, c.in_default.is, ← c.length-found.ensures)

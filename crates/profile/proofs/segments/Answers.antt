@@ -5,7 +5,6 @@ use Rattle.profile.proofs.Answers.{good-points, says-profile, says-outgrow, says
 use borrow.Author.Rules.{rules}
 use Rattle.profile.proofs.segments.Goals as goal
 
--- `profile::segments` meets its contract. Assumes nothing.
 pub overflow_sub-m : goal.overflow_sub-m
 overflow_sub-m c = omega (arith, good-points _ _ _ c.profile_good.ensures c.if-profile_good.true)
 

@@ -7,7 +7,6 @@ use Rattle.stock.proofs.Count.{stocked, checked}
 use Rattle.queries.specs.Envelope.{envelope_at}
 use Rattle.queries.proofs.envelope_at.Goals as goal
 
--- `queries::envelope_at` meets its contract. Assumes nothing.
 pub seen_at-requires : goal.seen_at-requires
 seen_at-requires c = let found = sym c.cells_fit-counted.ensures ∙ ap counted_paper c.in-Cells.is in
     (checked _ _ (stocked _ _ _ found).count).some-cells

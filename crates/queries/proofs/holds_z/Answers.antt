@@ -5,7 +5,6 @@ use lib.Ieee.{le}
 use Rattle.stock.specs.declared.ZRange.{ZRange}
 use Rattle.queries.proofs.holds_z.Goals as goal
 
--- `queries::holds_z` meets its contract. Assumes nothing.
 pub returns : goal.returns
 returns c = let z = c.args.z in
     ap (λ (b : ZRange). le b.za z && le z b.zb) c.bin_of-bin.ensures

@@ -2,7 +2,6 @@
 use Rattle.queries.proofs.Passes.{bin-skipped, bin-less}
 use Rattle.queries.proofs.less_bin.Goals as goal
 
--- `queries::less_bin` meets its contract. Assumes nothing.
 pub returns-then-h : goal.returns-then-h
 returns-then-h c = let args = c.args in
     bin-skipped args.s args.cells.now args.q args.i args.v _ _ _ c.bin_of-z.ensures c.least.ensures c.greatest.ensures c.if-h.true

@@ -8,7 +8,6 @@ use Rattle.queries.specs.Pass.{less_bins}
 use Rattle.queries.proofs.Passes.{bin-more}
 use Rattle.queries.proofs.less_ring.Given as goal
 
--- `queries::less_ring` meets its contract. The loop's invariant: what is left is said of the bins passed. Assumes nothing.
 abbrev pub invariant-loop-i : goal.invariant-loop-i
 invariant-loop-i l = (l.i ≤ l.n) × (l.left ≡ less_bins l.s l.cells l.q l.initial.left l.i)
 

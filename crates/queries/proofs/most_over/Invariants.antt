@@ -7,7 +7,6 @@ use Rattle.queries.specs.Envelope.{most_over, seen_paper}
 use Rattle.queries.proofs.Walks.{walk-on}
 use Rattle.queries.proofs.most_over.Given as goal
 
--- `queries::most_over` meets its contract. The loop's invariant: what is seen so far is the most over the bins passed. Assumes nothing.
 abbrev pub invariant-loop-k : goal.invariant-loop-k
 invariant-loop-k l = (l.k ≤ l.count) × (seen_paper l.seen ≡ answers (most_over l.cells l.first l.k))
 

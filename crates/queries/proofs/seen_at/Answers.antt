@@ -9,7 +9,6 @@ use Rattle.queries.proofs.Walks.{span-room}
 use Rattle.queries.proofs.Envelopes.{outside, inside}
 use Rattle.queries.proofs.seen_at.Goals as goal
 
--- `queries::seen_at` meets its contract. Assumes nothing.
 pub returns-then-not-s-z : goal.returns-then-not-s-z
 returns-then-not-s-z c = let args = c.args in
     ap answers (outside args.s args.n args.cells.now args.z (not-true _ c.if-not-s-z.true-raw))

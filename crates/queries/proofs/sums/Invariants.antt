@@ -8,7 +8,6 @@ use Rattle.queries.specs.Pass.{sums_of}
 use Rattle.queries.proofs.Passes.{same-volumes, sum_more}
 use Rattle.queries.proofs.sums.Given as goal
 
--- `queries::sums` meets its contract. The loop's invariant: each sum is that of the bins passed. Assumes nothing.
 abbrev pub invariant-loop-i : goal.invariant-loop-i
 invariant-loop-i l = (l.i ≤ l.n) × (l.least ≡ sum_of sure_of l.s l.cells l.i) × (l.greatest ≡ sum_of most_of l.s l.cells l.i)
 

@@ -11,15 +11,12 @@ use Rattle.queries.proofs.Passes.{measured}
 use Rattle.queries.proofs.Stored.{rings-held}
 use Rattle.queries.proofs.volume.Goals as goal
 
--- `queries::volume` meets its contract. Assumes nothing.
 pub returns-then-not-rings_fit : goal.returns-then-not-rings_fit
 unfolding volume_of
-returns-then-not-rings_fit c = let counted = c.counted-in-Cells-1 in
-    search (papers, ← c.cells_fit-counted.ensures, counted.given.1, sym c.rings_fit.ensures ∙ not-true _ c.if-not-rings_fit.true-raw)
+returns-then-not-rings_fit c = search (papers, ← c.cells_fit-counted.ensures, c.in-Cells.is, sym c.rings_fit.ensures ∙ not-true _ c.if-not-rings_fit.true-raw)
 
 pub sums-all-requires : goal.sums-all-requires
-sums-all-requires c = let counted = c.counted-in-Cells-1.given in
-    le_of_eq (sym (stock-length _ _ _ (sym c.cells_fit-counted.ensures ∙ ap counted_paper counted.1)))
+sums-all-requires c = le_of_eq (sym (stock-length _ _ _ (sym c.cells_fit-counted.ensures ∙ ap counted_paper c.in-Cells.is)))
 
 pub less_rings-left-requires : goal.less_rings-left-requires
 less_rings-left-requires c = rings-held _ _ _ (sym c.rings_fit.ensures ∙ not-false _ c.if-not-rings_fit.false-raw)
@@ -30,9 +27,8 @@ returns-in-Refused c = search (papers, ← c.cells_fit-counted.ensures, c.in-Ref
 
 pub returns-else-not-rings_fit : goal.returns-else-not-rings_fit
 returns-else-not-rings_fit c = let args = c.args in
-    let counted = c.counted-in-Cells-1.given in
     measured args.spec args.cells.now args.rings.now args.count _ _ _ _ _ _
-    (sym c.cells_fit-counted.ensures ∙ ap counted_paper counted.1)
+    (sym c.cells_fit-counted.ensures ∙ ap counted_paper c.in-Cells.is)
     (sym c.rings_fit.ensures ∙ not-false _ c.if-not-rings_fit.false-raw)
     c.clean_spec-s.ensures
     c.sums-all.ensures

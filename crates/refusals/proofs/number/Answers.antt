@@ -2,7 +2,6 @@
 use borrow.Author.Rules.{rules}
 use Rattle.refusals.proofs.number.Goals as goal
 
--- `refusals::number` meets its contract: of so many cases no proof is found unaided. Assumes nothing.
 pub returns-in-SpecOutside : goal.returns-in-SpecOutside
 returns-in-SpecOutside c = simp c.in-SpecOutside.is
 

@@ -9,7 +9,6 @@ use Rattle.rings.proofs.Prefix.{goes_on, all_good-snoc}
 use borrow.Author.Rules.{rules}
 use Rattle.rings.proofs.all_good.Given as goal
 
--- `rings::all_good` meets its contract. The loop's invariant: what is found so far is said of the rings passed. Assumes nothing.
 abbrev pub invariant-loop-i : goal.invariant-loop-i
 invariant-loop-i l = (l.i ≤ l.n) × (l.ok ≡ all_good (rings_of l.i l.rings))
 

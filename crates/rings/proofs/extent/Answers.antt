@@ -5,6 +5,5 @@ use Rattle.rings.specs.Store.{bar_ring}
 use borrow.Author.Rules.{rules}
 use Rattle.rings.proofs.extent.Goals as goal
 
--- `rings::extent` meets its contract. Assumes nothing.
 pub returns : goal.returns
 returns c = ap (λ (s : TurnStockSpec). bar_ring s) c.clean_spec-s.ensures

@@ -13,7 +13,6 @@ use Rattle.rings.specs.Store.{rings_of, good_ring, bad_from}
 use Rattle.rings.proofs.Bad.{bad-next, bad-stops}
 use Rattle.rings.proofs.first_bad.Given as goal
 
--- `rings::first_bad` meets its contract. The loop's invariant: none of the rings passed is bad. Assumes nothing.
 abbrev pub invariant-loop-i : goal.invariant-loop-i
 invariant-loop-i l = (l.i ≤ l.n) × (bad_from 0 (rings_of l.i l.rings) ≡ none)
 

@@ -9,7 +9,6 @@ use Rattle.rings.specs.Store.{rings_good}
 use Rattle.rings.proofs.Bad.{rings-none, rings-bad}
 use Rattle.rings.proofs.first_bad_ring.Goals as goal
 
--- `rings::first_bad_ring` meets its contract. Assumes nothing.
 pub returns-then-n-all_good : goal.returns-then-n-all_good
 unfolding rings_good
 returns-then-n-all_good c = let a = c.args in

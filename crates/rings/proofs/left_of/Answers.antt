@@ -4,7 +4,6 @@ use Rattle.rings.proofs.Adding.{leaves-pieces, leaves-over}
 use borrow.Author.Rules.{rules}
 use Rattle.rings.proofs.left_of.Goals as goal
 
--- `rings::left_of` meets its contract. Assumes nothing.
 pub returns-then-left-gt-PIECE_LIMIT : goal.returns-then-left-gt-PIECE_LIMIT
 returns-then-left-gt-PIECE_LIMIT c = let cut-ring = c.cut_ring-left in
     let lesser = c.lesser-n in

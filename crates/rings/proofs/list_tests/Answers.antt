@@ -6,7 +6,6 @@ use Rattle.rings.proofs.Listed.{tells_none, tells-over, tells-in}
 use borrow.Author.Rules.{rules}
 use Rattle.rings.proofs.list_tests.Goals as goal
 
--- `rings::list_tests` meets its contract. Assumes nothing.
 pub returns-then-tests-eq0 : goal.returns-then-tests-eq0
 returns-then-tests-eq0 c = tells_none c.args.spec c.args.rings.now c.args.count c.args.removed.now c.args.tests.now c.if-tests-eq0.true
 

@@ -13,9 +13,10 @@ use Rattle.rings.proofs.Adding.{adding-start}
 use Rattle.rings.proofs.Listed.{Telling, telling-start, telling-length, telling-step, telling-refused, telling-end}
 use borrow.Author.Rules.{rules}
 use Rattle.rings.proofs.list_tests_in.Goals as goal
+use Rattle.rings.proofs.list_tests_in.Goals.{Start}
 
 -- a slice takes fewer than 2 ^ 63 bytes
-lent : (c : tie.Start invariant-loop decreases-loop) → length c.args.tests.now * 8 < 2 ^ 63
+lent : (c : Start) → length c.args.tests.now * 8 < 2 ^ 63
 lent c = omega arith
 
 pub copy_rings-requires : goal.copy_rings-requires
@@ -53,7 +54,7 @@ returns-in-Refused c = let loop = c.loop-i in
 pub offset_bounds-tests-i : goal.offset_bounds-tests-i
 offset_bounds-tests-i c = let k = c.lesser-k.ensures in
     let l = c.loop-i-test.true in
-    omega (arith, lent c)
+    omega (arith, lent c.before.before.before.before.before.before.before.before.before.before.before.before.before.before.before.before)
 
 pub bounds-tests-i : goal.bounds-tests-i
 bounds-tests-i c = let loop = c.loop-i in
@@ -63,7 +64,7 @@ bounds-tests-i c = let loop = c.loop-i in
     omega arith
 
 pub overflow_add-i : goal.overflow_add-i
-overflow_add-i c = let k = c.lesser-k.ensures in omega (arith, lent c, c.loop-i-test.true)
+overflow_add-i c = let k = c.lesser-k.ensures in omega (arith, lent c.before.before.before.before.before.before.before.before.before.before.before.before.before.before.before.before, c.loop-i-test.true)
 
 pub loop-i-preserved : goal.loop-i-preserved
 loop-i-preserved c = let loop = c.loop-i in
@@ -72,7 +73,7 @@ loop-i-preserved c = let loop = c.loop-i in
     let k = c.lesser-k.ensures in
     let l = c.loop-i-test.true in
     let i = loop.invariant.0 in
-    (omega arith, telling-step c.args.e c.args.room (rings_of c.args.count c.args.rings.now) c.args.removed.now loop.i loop.work loop.n c.args.tests.now loop.tests loop.invariant.1 (omega arith) clipped.result (clipped.ensures ∙ ap (clip c.args.e) c.ring_at.ensures) _ add-ring.result add-ring.ensures c.in-Rings.m c.in-Rings.t c.in-Rings.is add-ring.auto.0 (omega arith))
+    (omega arith, telling-step c.args.e c.args.room (rings_of c.args.count c.args.rings.now) c.args.removed.now loop.i loop.work loop.n c.args.tests.now loop.tests loop.invariant.1 (omega arith) clipped.result (clipped.ensures ∙ ap (clip c.args.e) c.ring_at.ensures) _ add-ring.result add-ring.ensures c.in-Rings.m c.in-Rings.t c.in-Rings.is add-ring.auto.rings (omega arith))
 
 pub shape_of-tests : goal.shape_of-tests
 shape_of-tests c = let loop = c.loop-i in

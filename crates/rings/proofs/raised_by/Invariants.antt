@@ -9,7 +9,6 @@ use Rattle.rings.proofs.Prefix.{raised-next, one_at_most}
 use borrow.Author.Rules.{rules}
 use Rattle.rings.proofs.raised_by.Given as goal
 
--- `rings::raised_by` meets its contract. The loop's invariant: the rings passed are counted. Assumes nothing.
 abbrev pub invariant-loop-i : goal.invariant-loop-i
 invariant-loop-i l = (l.i ≤ l.k) × (l.n ≤ l.i) × (l.n ≡ raised_by l.e (rings_of l.i l.removed))
 

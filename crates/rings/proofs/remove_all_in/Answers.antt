@@ -15,9 +15,10 @@ use Rattle.rings.specs.Counted.{stored_by}
 use Rattle.rings.proofs.Adding.{stores-by}
 use borrow.Author.Rules.{rules}
 use Rattle.rings.proofs.remove_all_in.Goals as goal
+use Rattle.rings.proofs.remove_all_in.Goals.{Start}
 
 -- a slice's length is a usize
-few : (c : tie.Start invariant-loop decreases-loop) → length c.args.removed.now < 2 ^ 64
+few : (c : Start) → length c.args.removed.now < 2 ^ 64
 few c = omega arith
 
 pub returns-then-room-count : goal.returns-then-room-count
@@ -61,13 +62,13 @@ returns-in-Refused c = let room_of = c.room_of-room in
     all-refused c.args.e c.args.rings.now c.args.count c.args.removed.now room_of.result room_of.ensures c.if-room-count.false (reason_of x) (stored.Refused x) refl (adding-refused c.args.e room_of.result (rings_of c.args.count c.args.rings.now) c.args.removed.now loop.i loop.work loop.n loop.invariant.1 clipped2.result (clipped2.ensures ∙ ap (clip c.args.e) c.ring_at-in-loop-i.ensures) _ (stored_by add-ring2.result) add-ring2.ensures.stores (reason_of x) _ (ap (λ (a : Added). stored_paper (stored_by a)) c.in-Refused.is) c.loop-i-test.true)
 
 pub overflow_add-i : goal.overflow_add-i
-overflow_add-i c = omega (arith, few c, c.loop-i-test.true)
+overflow_add-i c = omega (arith, few c.before.before.before.before.before.before.before.before.before.before.before.before.before.before.before.before.before.before, c.loop-i-test.true)
 
 pub loop-i-preserved : goal.loop-i-preserved
 loop-i-preserved c = let loop = c.loop-i in
     let clipped2 = c.clipped-c-in-loop-i in
     let add-ring2 = c.add_ring-one in
-    (omega arith, adding-step c.args.e c.room_of-room.result (rings_of c.args.count c.args.rings.now) c.args.removed.now loop.i loop.work loop.n loop.invariant.1 clipped2.result (clipped2.ensures ∙ ap (clip c.args.e) c.ring_at-in-loop-i.ensures) _ (stored_by add-ring2.result) add-ring2.ensures.stores c.in-Rings.m (ap stored_by c.in-Rings.is) add-ring2.auto.0)
+    (omega arith, adding-step c.args.e c.room_of-room.result (rings_of c.args.count c.args.rings.now) c.args.removed.now loop.i loop.work loop.n loop.invariant.1 clipped2.result (clipped2.ensures ∙ ap (clip c.args.e) c.ring_at-in-loop-i.ensures) _ (stored_by add-ring2.result) add-ring2.ensures.stores c.in-Rings.m (ap stored_by c.in-Rings.is) add-ring2.auto.rings)
 
 pub copy_rings-requires-2 : goal.copy_rings-requires-2
 copy_rings-requires-2 c = let loop = c.loop-i in

@@ -16,7 +16,6 @@ use Rattle.rings.proofs.Adding.{stores-by}
 use borrow.Author.Rules.{rules}
 use Rattle.rings.proofs.remove_all_in.Given as goal
 
--- `rings::remove_all_in` meets its contract. The loop's invariant: the rings passed are added in a store of their own. Assumes nothing.
 abbrev pub invariant-loop-i : goal.invariant-loop-i
 invariant-loop-i l = (l.i ≤ l.k) × Adding l.e l.room (rings_of l.count l.rings) l.removed l.i l.work l.n
 

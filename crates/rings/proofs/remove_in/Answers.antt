@@ -14,7 +14,6 @@ use Rattle.rings.proofs.Tested.{for-empty, for-added}
 use borrow.Author.Rules.{rules}
 use Rattle.rings.proofs.remove_in.Goals as goal
 
--- `rings::remove_in` meets its contract. Assumes nothing.
 pub returns-then-not-count_fits : goal.returns-then-not-count_fits
 returns-then-not-count_fits c = record { takes = refuses-4 c.args.e c.args.rings.now c.args.count c.args.generation c.args.ring (sym c.count_fits.ensures ∙ not-true _ c.if-not-count_fits.true-raw); tests = tt }
 
@@ -55,8 +54,7 @@ pub returns-in-Rings : goal.returns-in-Rings
 returns-in-Rings c = let clipped = c.clipped-c in
     let room_of = c.room_of in
     let add-ring = c.add_ring-added in
-    let added2 = c.added-in-Rings-1 in
     record {
-      takes = stores-ring c.args.e c.args.rings.now c.args.count c.args.generation c.args.ring (sym c.count_fits.ensures ∙ not-false _ c.if-not-count_fits.false-raw) (sym c.is_finite_ring.ensures ∙ not-false _ c.if-not-is_finite_ring.false-raw) (ap filled (sym clipped.ensures) ∙ sym c.is_filled.ensures ∙ not-false _ c.if-not-is_filled.false-raw) c.if-generation-ge-LAST_GENERATION.false clipped.result clipped.ensures room_of.result room_of.ensures (stored_by add-ring.result) _ add-ring.ensures.stores added2.given.0.0 (ap stored_by added2.given.1);
-      tests = for-added c.args.e c.args.ring clipped.result (rings_of c.args.count c.args.rings.now) add-ring.result added2.given.0.0 added2.given.0.1.0 clipped.ensures added2.given.1 add-ring.ensures.tests;
+      takes = stores-ring c.args.e c.args.rings.now c.args.count c.args.generation c.args.ring (sym c.count_fits.ensures ∙ not-false _ c.if-not-count_fits.false-raw) (sym c.is_finite_ring.ensures ∙ not-false _ c.if-not-is_finite_ring.false-raw) (ap filled (sym clipped.ensures) ∙ sym c.is_filled.ensures ∙ not-false _ c.if-not-is_filled.false-raw) c.if-generation-ge-LAST_GENERATION.false clipped.result clipped.ensures room_of.result room_of.ensures (stored_by add-ring.result) _ add-ring.ensures.stores c.in-Rings.n (ap stored_by c.in-Rings.is);
+      tests = for-added c.args.e c.args.ring clipped.result (rings_of c.args.count c.args.rings.now) add-ring.result c.in-Rings.n c.in-Rings.tests clipped.ensures c.in-Rings.is add-ring.ensures.tests;
     }

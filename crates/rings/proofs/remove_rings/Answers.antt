@@ -3,7 +3,6 @@ use Rattle.rings.proofs.Removing.{all_of}
 use borrow.Author.Rules.{rules}
 use Rattle.rings.proofs.remove_rings.Goals as goal
 
--- `rings::remove_rings` meets its contract. Assumes nothing.
 pub returns : goal.returns
 returns c = let extent = c.extent in
     all_of c.args.spec extent.result _ _ _ extent.ensures c.remove_all_in.ensures

@@ -5,6 +5,5 @@ use Rattle.rings.specs.Store.{count_fits}
 use borrow.Author.Rules.{rules}
 use Rattle.rings.proofs.rings_fit.Goals as goal
 
--- `rings::rings_fit` meets its contract. Assumes nothing.
 pub returns : goal.returns
 returns c = c.count_fits.ensures ∙ ap (λ (e : Ring). count_fits e c.args.rings.now c.args.count) c.extent.ensures

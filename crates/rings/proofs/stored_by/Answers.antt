@@ -4,7 +4,6 @@ use borrow.Author.Rules.{rules}
 use Rattle.rings.specs.Counted.{stored_by}
 use Rattle.rings.proofs.stored_by.Goals as goal
 
--- `rings::stored_by` meets its contract. Assumes nothing.
 pub returns-in-Refused : goal.returns-in-Refused
 returns-in-Refused c = sym (ap stored_by c.in-Refused.is)
 

@@ -8,7 +8,6 @@ use Rattle.rings.specs.Remove.{counts_paper, stock_after}
 use Rattle.rings.specs.Counted.{counts_by, tests_by}
 use Rattle.rings.proofs.with_counts.Goals as goal
 
--- `rings::with_counts` meets its contract. Assumes nothing.
 pub returns-in-Refused : goal.returns-in-Refused
 returns-in-Refused c = record { answer = sym (ap (λ (t : Took). stock_after c.args.stock (counts_paper (counts_by t))) c.in-Refused.is); tests = sym (ap tests_by c.in-Refused.is) }
 

@@ -7,7 +7,6 @@ use Rattle.side_by_side.proofs.Texts.{by-bin, by_first, by-second, by-none}
 use borrow.Author.Rules.{rules}
 use Rattle.side_by_side.proofs.chunk.Goals as goal
 
--- `side_by_side::chunk` meets its contract. Assumes nothing.
 pub returns-then-c-n : goal.returns-then-c-n
 returns-then-c-n c = let n = c.bin_count-n in
     let a = c.args in

@@ -7,7 +7,6 @@ use Rattle.side_by_side.proofs.Decided.{unequal, over-room, counted}
 use borrow.Author.Rules.{rules}
 use Rattle.side_by_side.proofs.compare.Goals as goal
 
--- `side_by_side::compare` meets its contract. Assumes nothing.
 pub returns-then-not-same_bar : goal.returns-then-not-same_bar
 returns-then-not-same_bar c = unequal _ _ _ _ (sym c.same_bar.ensures ∙ not-true _ c.if-not-same_bar.true-raw)
 

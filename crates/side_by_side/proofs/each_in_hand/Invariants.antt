@@ -9,7 +9,6 @@ use Rattle.side_by_side.proofs.Texts.{each_start, each_next}
 use borrow.Author.Rules.{rules}
 use Rattle.side_by_side.proofs.each_in_hand.Given as goal
 
--- `side_by_side::each_in_hand` meets its contract. Assumes nothing.
 abbrev pub invariant-loop-i : goal.invariant-loop-i
 invariant-loop-i l = (l.i ≤ l.n) × (l.ok ≡ each_in_hand (lent_rings l.rings l.count) (rings_of l.i l.others))
 

@@ -4,7 +4,6 @@ use Rattle.side_by_side.proofs.Pieces.{pieces-in-hand, refused-in-hand}
 use borrow.Author.Rules.{rules}
 use Rattle.side_by_side.proofs.in_hand.Goals as goal
 
--- `side_by_side::in_hand` meets its contract. Assumes nothing.
 pub returns-in-Pieces : goal.returns-in-Pieces
 returns-in-Pieces c = sym (pieces-in-hand _ _ _ _ _ _ c.in-Pieces.is c.left_of-left.ensures)
 

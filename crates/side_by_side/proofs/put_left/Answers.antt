@@ -6,7 +6,6 @@ use Rattle.side_by_side.proofs.Pieces.{pieces-held, refused-text}
 use borrow.Author.Rules.{rules}
 use Rattle.side_by_side.proofs.put_left.Goals as goal
 
--- `side_by_side::put_left` meets its contract. Assumes nothing.
 pub slice_bounds-put_rings-end : goal.slice_bounds-put_rings-end
 slice_bounds-put_rings-end c = sym ((pieces-held _ _ _ _ _ _ c.in-Pieces.is c.left_of-left.ensures).room (search rules))
 

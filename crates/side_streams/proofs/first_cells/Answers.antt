@@ -6,7 +6,6 @@ use lib.Seq.{length-take-le, take_all}
 use borrow.Author.Rules.{rules}
 use Rattle.side_streams.proofs.first_cells.Goals as goal
 
--- `side_streams::first_cells` meets its contract. Assumes nothing.
 pub returns-then-cells-n : goal.returns-then-cells-n
 returns-then-cells-n c = sym (take_all (4 * c.args.n) c.args.cells.now (omega arith))
 

@@ -12,7 +12,6 @@ use Rattle.side_streams.proofs.Gathered.{chunk-put}
 use borrow.Author.Rules.{rules}
 use Rattle.side_streams.proofs.gather_chunks.Given as goal
 
--- `side_streams::gather_chunks` meets its contract. Assumes nothing.
 abbrev pub invariant-loop-c : goal.invariant-loop-c
 invariant-loop-c l = (l.c ≤ l.chunks) × (length l.part ≡ 18688) × AllPut (lines_to (chunk_of (side l.cells1 l.rings1 l.count1) (side l.cells2 l.rings2 l.count2)) l.c) l.out l.gathered
 

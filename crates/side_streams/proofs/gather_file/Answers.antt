@@ -5,7 +5,6 @@ use Rattle.side_streams.proofs.Gathered.{line-put}
 use borrow.Author.Rules.{rules}
 use Rattle.side_streams.proofs.gather_file.Goals as goal
 
--- `side_streams::gather_file` meets its contract. Assumes nothing.
 pub slice_bounds-front-end : goal.slice_bounds-front-end
 slice_bounds-front-end c = sym (room c.file_refused-n.ensures.wrote)
 

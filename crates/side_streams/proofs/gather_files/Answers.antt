@@ -5,7 +5,6 @@ use Rattle.side_streams.proofs.Told.{first-refused, first-stock}
 use borrow.Author.Rules.{rules}
 use Rattle.side_streams.proofs.gather_files.Goals as goal
 
--- `side_streams::gather_files` meets its contract. Assumes nothing.
 pub returns-in-Stock : goal.returns-in-Stock
 returns-in-Stock c = first-stock (search rules) (search rules) c.read_named-kept.ensures _ _ c.in-Stock.is _ _ c.gather_second.ensures
 

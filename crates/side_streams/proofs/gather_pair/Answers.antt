@@ -5,7 +5,6 @@ use Rattle.side_streams.proofs.Told.{pair-chunks, pair-refused}
 use borrow.Author.Rules.{rules}
 use Rattle.side_streams.proofs.gather_pair.Goals as goal
 
--- `side_streams::gather_pair` meets its contract. Assumes nothing.
 pub returns-in-Chunks : goal.returns-in-Chunks
 returns-in-Chunks c = pair-chunks _ _ _ _ _ _ _ (sym (ap compared_paper c.in-Chunks.is) ∙ c.compare-compared.ensures) c.gather_chunks.ensures
 

@@ -5,7 +5,6 @@ use Rattle.side_streams.proofs.Gathered.{line-put}
 use borrow.Author.Rules.{rules}
 use Rattle.side_streams.proofs.gather_refused.Goals as goal
 
--- `side_streams::gather_refused` meets its contract. Assumes nothing.
 pub slice_bounds-front-end : goal.slice_bounds-front-end
 slice_bounds-front-end c = sym (room c.pair_refused-n.ensures.wrote)
 

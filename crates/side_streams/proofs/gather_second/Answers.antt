@@ -5,7 +5,6 @@ use Rattle.side_streams.proofs.Told.{second-refused, second-stock}
 use borrow.Author.Rules.{rules}
 use Rattle.side_streams.proofs.gather_second.Goals as goal
 
--- `side_streams::gather_second` meets its contract. Assumes nothing.
 pub returns-in-Stock : goal.returns-in-Stock
 returns-in-Stock c = second-stock (search rules) (search rules) c.read_named-kept.ensures _ _ c.in-Stock.is _ _ _ _ _ _ _ c.first_cells.ensures c.first_cells-in-Stock.ensures c.gather_pair.ensures
 

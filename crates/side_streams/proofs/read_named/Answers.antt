@@ -3,6 +3,5 @@ use Rattle.side_streams.proofs.Told.{no-file}
 use borrow.Author.Rules.{rules}
 use Rattle.side_streams.proofs.read_named.Goals as goal
 
--- `side_streams::read_named` meets its contract. Assumes nothing.
 pub returns-then-fd-lt0 : goal.returns-then-fd-lt0
 returns-then-fd-lt0 c = no-file _ _

@@ -6,9 +6,6 @@ use Rattle.stock.proofs.Cells.{fit-more}
 use Rattle.stock.proofs.Signs.{solid-more}
 use Rattle.stock.proofs.all_fit_solid.Goals as goal
 
-)
-
-
 pub loop-i-init : goal.loop-i-init
 unfolding fit_to
 loop-i-init c = (search rules, refl)
@@ -18,6 +15,7 @@ loop-i-preserved c = (
   search rules,
   solid-more c.loop-i.ok c.loop-i.bits c.is_ordered-ok.result c.bits_of-bits.result _ _ c.loop-i.invariant.1 (ap (λ (t : Bool). t && ltb c.bits_of-bits.result sign_bit) c.is_ordered-ok.ensures ∙ c.bits_of-bits.ensures)
       ∙ rw (fit-more, c.cell_from-c.ensures),
+)
 
 pub returns : goal.returns
 returns c = let e : c.loop-i.i ≡ c.args.n = omega arith in

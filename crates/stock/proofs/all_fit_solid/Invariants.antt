@@ -6,7 +6,6 @@ use Rattle.stock.proofs.Cells.{fit-more}
 use Rattle.stock.proofs.Signs.{solid-more}
 use Rattle.stock.proofs.all_fit_solid.Given as goal
 
--- `stock::all_fit_solid` meets its contract. The loop's invariant: what is gathered so far says whether the cells passed fit. Assumes nothing.
 abbrev pub invariant-loop-i : goal.invariant-loop-i
 invariant-loop-i l = (l.i ≤ l.n) × ((l.ok && ltb l.bits sign_bit) ≡ fit_to l.s l.cells l.i)
 

@@ -4,7 +4,6 @@ use Rattle.refusals.specs.Paper.{papers}
 use Rattle.stock.specs.Bin.{bin_for}
 use Rattle.stock.proofs.bin.Goals as goal
 
--- `stock::bin` meets its contract. Assumes nothing.
 pub returns-then-i-n : goal.returns-then-i-n
 unfolding bin_for
 returns-then-i-n c = search (papers, ← c.validate-counted.ensures, c.in-Cells.is, lt-ltb _ _ c.if-i-n.true, ← c.bin_of.ensures, ← c.clean_spec.ensures)

@@ -3,7 +3,6 @@ use Rattle.std.proofs.Common.{◌*◌, sym, ◌∙◌, arith, rules}
 use Rattle.stock.proofs.Cells.{no_cell}
 use Rattle.stock.proofs.cell_at.Goals as goal
 
--- `stock::cell_at` meets its contract. Assumes nothing.
 pub returns-then-whole-i : goal.returns-then-whole-i
 returns-then-whole-i c = c.no_cell.ensures ∙ sym (no_cell c.args.cells.now (4 * c.args.i) (omega arith))
 

@@ -6,7 +6,6 @@ use Rattle.stock.specs.Cell.{stock_of, cells_fit}
 use Rattle.stock.proofs.Count.{checked, good-bore}
 use Rattle.stock.proofs.cells_fit.Goals as goal
 
--- `stock::cells_fit` meets its contract. Assumes nothing.
 pub overflow_mul-n : goal.overflow_mul-n
 overflow_mul-n c = omega (arith, (checked _ _ (sym c.validate-counted.ensures ∙ ap counted_paper c.in-Cells.is)).few)
 

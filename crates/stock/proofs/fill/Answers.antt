@@ -7,7 +7,6 @@ use Rattle.stock.proofs.Count.{checked}
 use Rattle.stock.proofs.Fresh.{new_is, left, made}
 use Rattle.stock.proofs.fill.Goals as goal
 
--- `stock::fill` meets its contract. Assumes nothing.
 pub overflow_mul-n : goal.overflow_mul-n
 overflow_mul-n c = omega (arith, (checked _ _ (sym c.validate-counted.ensures ∙ ap counted_paper c.in-Cells.is)).few)
 
@@ -20,8 +19,7 @@ unfolding new_of
 returns-in-Refused c = left _ _ _ _ (search (papers, ← c.validate-counted.ensures, c.in-Refused.is))
 
 pub returns-else-cells-n : goal.returns-else-cells-n
-returns-else-cells-n c = let told = c.counted-in-Cells-1.given in
-    made _ _ _ _ told.0.0 _
-    (new_is _ _ told.0.0 (sym c.validate-counted.ensures ∙ ap counted_paper told.1) c.if-cells-n.false)
+returns-else-cells-n c = made _ _ _ _ c.in-Cells.n _
+    (new_is _ _ c.in-Cells.n (sym c.validate-counted.ensures ∙ ap counted_paper c.in-Cells.is) c.if-cells-n.false)
     (simp (c.put_all.ensures, c.fresh_cell.ensures, c.clean_spec.ensures))
     c.new_stock.ensures

@@ -3,7 +3,6 @@ use Rattle.std.proofs.Common.{T, sym, subst, rules}
 use Rattle.floats.proofs.Signs.{clear-bit, clear-number}
 use Rattle.stock.proofs.has_sign.Goals as goal
 
--- `stock::has_sign` meets its contract. Assumes nothing.
 pub float_to_bits-result : goal.float_to_bits-result
 float_to_bits-result c = clear-number c.args.x (search rules)
 

@@ -3,7 +3,6 @@ use Rattle.std.proofs.Common.{length, sym, ap, ◌∙◌, arith, length-set, rul
 use Rattle.stock.proofs.Cells.{put-room, put-none}
 use Rattle.stock.proofs.put_cell.Goals as goal
 
--- `stock::put_cell` meets its contract. Assumes nothing.
 pub returns-then-cells-i : goal.returns-then-cells-i
 returns-then-cells-i c = sym (put-none c.args.cells.now c.args.i c.args.c (omega arith))
 

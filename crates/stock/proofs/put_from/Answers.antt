@@ -11,7 +11,6 @@ bounds-cells-at-3 c = simp length-set (omega arith)
 pub bounds-cells-at-4 : goal.bounds-cells-at-4
 bounds-cells-at-4 c = simp length-set (omega arith)
 
--- `stock::put_from` meets its contract. Assumes nothing.
 pub returns : goal.returns
 returns c = let at = c.args.at in
     let e1 : at + 1 ≡ suc at = omega arith in

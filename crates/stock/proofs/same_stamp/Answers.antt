@@ -3,7 +3,6 @@ use Rattle.std.proofs.Common.{refl}
 use Rattle.stock.specs.Stock.{same_stamp}
 use Rattle.stock.proofs.same_stamp.Goals as goal
 
--- `stock::same_stamp` meets its contract. Assumes nothing.
 pub returns : goal.returns
 unfolding same_stamp
 returns c = refl

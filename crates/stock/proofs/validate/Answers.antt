@@ -5,7 +5,6 @@ use Rattle.floats.specs.Pick.{picks}
 use Rattle.stock.specs.Spec.{cells_of}
 use Rattle.stock.proofs.validate.Goals as goal
 
--- `stock::validate` meets its contract. Assumes nothing.
 pub returns-then-not-spec_good : goal.returns-then-not-spec_good
 unfolding cells_of
 returns-then-not-spec_good c = search (papers, picks, ← c.spec_good.ensures, ← c.clean_spec-s.ensures)

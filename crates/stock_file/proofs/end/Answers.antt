@@ -4,7 +4,6 @@ use Rattle.stock_file.proofs.Ends.{ended-stopped, ended-cut, ended-missing, ende
 use borrow.Author.Rules.{rules}
 use Rattle.stock_file.proofs.end.Goals as goal
 
--- `stock_file::end` meets its contract. Assumes nothing.
 pub returns-then-reading : goal.returns-then-reading
 returns-then-reading c = ended-stopped _ _ c.if-reading.true
 

@@ -7,7 +7,6 @@ use Rattle.stock_file.proofs.Ends.{told_line, told-cells, told-rings, told-stock
 use borrow.Author.Rules.{rules}
 use Rattle.stock_file.proofs.finish.Goals as goal
 
--- `stock_file::finish` meets its contract. Assumes nothing.
 pub returns-then-last : goal.returns-then-last
 returns-then-last c = let a = c.args in
     told_line _ a.most a.cells.now a.rings.now _ c.if-last.true refl

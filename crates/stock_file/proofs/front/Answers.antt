@@ -6,7 +6,6 @@ use Rattle.stock_file.proofs.Ends.{front-short, front_long}
 use borrow.Author.Rules.{rules}
 use Rattle.stock_file.proofs.front.Goals as goal
 
--- `stock_file::front` meets its contract. Assumes nothing.
 pub returns-then-xs-n : goal.returns-then-xs-n
 returns-then-xs-n c = let a = c.args in front-short a.n a.xs.now c.if-xs-n.true
 

@@ -8,7 +8,6 @@ use Rattle.stock_file.proofs.Held.{none-held, one-held}
 use borrow.Author.Rules.{rules}
 use Rattle.stock_file.proofs.hold_bytes.Given as goal
 
--- `stock_file::hold_bytes` meets its contract. Assumes nothing.
 abbrev pub invariant-loop-m : goal.invariant-loop-m
 invariant-loop-m l = (length l.line ≡ length l.initial.line) × HoldsOn l.len l.initial.line l.bytes l.from l.m l.line
 

@@ -5,6 +5,5 @@ use lib.Seq.{set_out}
 use borrow.Author.Rules.{rules}
 use Rattle.stock_file.proofs.put_byte.Goals as goal
 
--- `stock_file::put_byte` meets its contract. Assumes nothing.
 pub returns-else-at-line : goal.returns-else-at-line
 returns-else-at-line c = sym (set_out _ _ _ (omega arith))

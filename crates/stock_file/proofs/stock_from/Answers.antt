@@ -5,7 +5,6 @@ use Rattle.stock.specs.Stock.{stock_from}
 use borrow.Author.Rules.{rules}
 use Rattle.stock_file.proofs.stock_from.Goals as goal
 
--- `stock_file::stock_from` meets its contract. Assumes nothing.
 pub returns : goal.returns
 returns c = let a = c.args in
     ap (λ (s : TurnStockSpec). stock_from s a.edition a.rings 0) c.clean_spec.ensures

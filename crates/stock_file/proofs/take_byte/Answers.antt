@@ -6,7 +6,6 @@ use Rattle.stock_file.proofs.Held.{taken-stopped, taken-line, taken-held, taken-
 use borrow.Author.Rules.{rules}
 use Rattle.stock_file.proofs.take_byte.Goals as goal
 
--- `stock_file::take_byte` meets its contract. Assumes nothing.
 pub returns-then-reading : goal.returns-then-reading
 returns-then-reading c = let a = c.args in
     record { same = taken-stopped (state a.reading a.cells.now a.rings.now) a.line.now a.len a.byte c.requires.0 c.requires.1 c.if-reading.true; few = c.requires.0; room = c.requires.1 }

@@ -9,7 +9,6 @@ use Rattle.stock_file.proofs.Held.{few-held, part-taken}
 use borrow.Author.Rules.{rules}
 use Rattle.stock_file.proofs.take_part.Goals as goal
 
--- `stock_file::take_part` meets its contract. Assumes nothing.
 pub slice_bounds-take_bytes-end : goal.slice_bounds-take_bytes-end
 slice_bounds-take_bytes-end c = sym (put-room c.put.ensures)
 

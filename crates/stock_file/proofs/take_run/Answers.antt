@@ -7,10 +7,10 @@ use Rattle.stock_lines.specs.Reading.{state}
 use Rattle.stock_file.proofs.Held.{bytes-step, run-stopped}
 use borrow.Author.Rules.{rules}
 use Rattle.stock_file.proofs.take_run.Goals as goal
+use Rattle.stock_file.proofs.take_run.Goals.{Start}
 
--- `stock_file::take_run` meets its contract. Assumes nothing.
 -- a slice's length is a usize
-few : (c : tie.Start) → length c.args.bytes.now < 2 ^ 64
+few : (c : Start) → length c.args.bytes.now < 2 ^ 64
 few c = omega arith
 
 pub returns-then-reading : goal.returns-then-reading
@@ -35,7 +35,7 @@ returns-then-bytes-at c = let h = c.hold_bytes-m.ensures in
     }
 
 pub overflow_add-result : goal.overflow_add-result
-overflow_add-result c = omega (arith, few c, c.if-bytes-at.false)
+overflow_add-result c = omega (arith, few c.before.before.before.before.before.before.before.before.before.before.before.before.before.before.before.before.before.before.before.before.before.before, c.if-bytes-at.false)
 
 pub returns : goal.returns
 returns c = let t = c.take_byte-t.ensures in

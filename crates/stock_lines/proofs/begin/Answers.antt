@@ -3,7 +3,6 @@ use Rattle.std.proofs.Common.{◌∙◌, rules}
 use Rattle.stock_lines.proofs.Readings.{begun-none, begun-is}
 use Rattle.stock_lines.proofs.begin.Goals as goal
 
--- `stock_lines::begin` meets its contract. Assumes nothing.
 pub returns-in-NoFirst : goal.returns-in-NoFirst
 returns-in-NoFirst c = c.refuse.ensures ∙ begun-none _ _ c.in-NoFirst.is
 

@@ -3,7 +3,6 @@ use Rattle.stock_lines.proofs.Readings.{count-more, count-full}
 use Rattle.std.proofs.Common.{rules}
 use Rattle.stock_lines.proofs.count_to.Goals as goal
 
--- `stock_lines::count_to` meets its contract. Assumes nothing.
 pub returns-then-n-limit : goal.returns-then-n-limit
 returns-then-n-limit c = count-more _ _ c.if-n-limit.true
 

@@ -5,7 +5,6 @@ use Rattle.stock_lines.specs.Form.{end_line}
 use Rattle.stock_lines.proofs.Steps.{end_short}
 use Rattle.stock_lines.proofs.end_line.Goals as goal
 
--- `stock_lines::end_line` meets its contract. Assumes nothing.
 pub returns : goal.returns
 unfolding end_line
 returns c = let s = end_short c.args.n in

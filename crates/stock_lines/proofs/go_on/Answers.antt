@@ -5,7 +5,6 @@ use Rattle.stock_lines.specs.Reading.{count_to}
 use Rattle.stock_lines.proofs.Readings.{went-cell, went-ring, went-end, went-none}
 use Rattle.stock_lines.proofs.go_on.Goals as goal
 
--- `stock_lines::go_on` meets its contract. Assumes nothing.
 pub returns-in-Cell : goal.returns-in-Cell
 returns-in-Cell c = let r = c.args.reading in
     c.onward.ensures ∙ went-cell r _ _ c.in-Cell.is (c.count_to.ensures ∙ ap (λ (x : Form). count_to x.most r.cells) c.form_of-f.ensures)

@@ -6,7 +6,6 @@ use Rattle.stock_lines.specs.Form.{written_form, kept_cell_line, fields_text}
 use Rattle.stock_lines.proofs.Steps.{cell-short}
 use Rattle.stock_lines.proofs.kept_cell_line.Goals as goal
 
--- `stock_lines::kept_cell_line` meets its contract. Assumes nothing.
 pub returns : goal.returns
 unfolding kept_cell_line fields_text
 returns c = let a = c.args in

@@ -3,6 +3,5 @@ use Rattle.stock_lines.proofs.Readings.{onward-is}
 use Rattle.std.proofs.Common.{rules}
 use Rattle.stock_lines.proofs.onward.Goals as goal
 
--- `stock_lines::onward` meets its contract. Assumes nothing.
 pub returns : goal.returns
 returns c = let a = c.args in onward-is a.reading a.stage a.cells a.rings _ c.wrapping_add_u64.ensures

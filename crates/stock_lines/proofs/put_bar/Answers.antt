@@ -6,7 +6,6 @@ use Rattle.text.proofs.Spelling.{field-long}
 use Rattle.stock_lines.specs.Form.{fields_text}
 use Rattle.stock_lines.proofs.put_bar.Goals as goal
 
--- `stock_lines::put_bar` meets its contract. Assumes nothing.
 pub returns : goal.returns
 unfolding fields_text
 returns c = let b = c.args.bar in

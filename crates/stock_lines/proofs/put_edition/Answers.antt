@@ -4,7 +4,6 @@ use Rattle.text.proofs.Sets.{and_then, put-wrote}
 use Rattle.text.proofs.Spelling.{digits-length}
 use Rattle.stock_lines.proofs.put_edition.Goals as goal
 
--- `stock_lines::put_edition` meets its contract. Assumes nothing.
 pub returns : goal.returns
 returns c = let a = c.args in
     let u = put-wrote 1 refl (omega arith) c.put-e.ensures in

@@ -3,6 +3,5 @@ use Rattle.stock_lines.proofs.Readings.{refused-is}
 use Rattle.std.proofs.Common.{rules}
 use Rattle.stock_lines.proofs.refuse.Goals as goal
 
--- `stock_lines::refuse` meets its contract. Assumes nothing.
 pub returns : goal.returns
 returns c = refused-is c.args.reading _ c.wrapping_add_u64.ensures

@@ -10,7 +10,6 @@ use Rattle.stock_lines.proofs.Forms.{fields-then, fields-text-long}
 use Rattle.stock_lines.proofs.Steps.{stock-long, written-edition}
 use Rattle.stock_lines.proofs.stock_line.Goals as goal
 
--- `stock_lines::stock_line` meets its contract. Assumes nothing.
 pub put_bar-f-requires : goal.put_bar-f-requires
 put_bar-f-requires c = omega (arith, c.put_stock-e.ensures.wrote.end, stock-long c.written_form.result)
 

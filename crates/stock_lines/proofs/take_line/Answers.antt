@@ -6,7 +6,6 @@ use Rattle.stock_lines.specs.Reading.{state, begun}
 use Rattle.stock_lines.proofs.Readings.{body_is, line_first, line-body, line-behind}
 use Rattle.stock_lines.proofs.take_line.Goals as goal
 
--- `stock_lines::take_line` meets its contract. Assumes nothing.
 pub returns-then-reading-eq0 : goal.returns-then-reading-eq0
 returns-then-reading-eq0 c = let a = c.args in
     let st = state a.reading a.cells.now a.rings.now in

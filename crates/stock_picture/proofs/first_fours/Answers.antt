@@ -2,6 +2,5 @@
 use Rattle.std.proofs.Common.{sym, arith, length-take-le, rules}
 use Rattle.stock_picture.proofs.first_fours.Goals as goal
 
--- `stock_picture::first_fours` meets its contract. Assumes nothing.
 pub slice_bounds-result-end : goal.slice_bounds-result-end
 slice_bounds-result-end c = sym (length-take-le _ _ (omega arith))

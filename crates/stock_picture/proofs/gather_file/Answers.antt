@@ -4,7 +4,6 @@ use Rattle.text.proofs.Sets.{room}
 use Rattle.side_streams.proofs.Gathered.{line-put}
 use Rattle.stock_picture.proofs.gather_file.Goals as goal
 
--- `stock_picture::gather_file` meets its contract. Assumes nothing.
 pub slice_bounds-front-end : goal.slice_bounds-front-end
 slice_bounds-front-end c = sym (room c.file_refused-n.ensures.wrote)
 

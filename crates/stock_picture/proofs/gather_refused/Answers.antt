@@ -4,7 +4,6 @@ use Rattle.text.proofs.Sets.{room}
 use Rattle.side_streams.proofs.Gathered.{line-put}
 use Rattle.stock_picture.proofs.gather_refused.Goals as goal
 
--- `stock_picture::gather_refused` meets its contract. Assumes nothing.
 pub slice_bounds-front-end : goal.slice_bounds-front-end
 slice_bounds-front-end c = sym (room c.pair_refused-n.ensures.wrote)
 

@@ -9,7 +9,6 @@ use Rattle.stock_streams.proofs.Putting.{put-none, put-more}
 use borrow.Author.Rules.{rules}
 use Rattle.stock_streams.proofs.gather_lines.Given as goal
 
--- `stock_streams::gather_lines` meets its contract. Assumes nothing.
 abbrev pub invariant-loop-k : goal.invariant-loop-k
 invariant-loop-k l = (l.k ≤ l.n) × AllPut (lines_to (λ i. text_in (line_for l.stock l.cells l.rings i)) l.k) l.out l.gathered
 

@@ -5,7 +5,6 @@ use Rattle.stock_streams.proofs.Putting.{stock-put, stock-refused}
 use borrow.Author.Rules.{rules}
 use Rattle.stock_streams.proofs.gather_stock.Goals as goal
 
--- `stock_streams::gather_stock` meets its contract. Assumes nothing.
 pub returns-in-Count : goal.returns-in-Count
 returns-in-Count c = let a = c.args in
     stock-put a.stock a.cells.now a.rings.now _ _ _ (sym c.line_count-lines.ensures ∙ ap lines_paper c.in-Count.is) c.gather_lines.ensures

@@ -5,7 +5,6 @@ use Rattle.stock_streams.proofs.Putting.{over-length, put-told, put-nothing}
 use borrow.Author.Rules.{rules}
 use Rattle.stock_streams.proofs.put_line.Goals as goal
 
--- `stock_streams::put_line` meets its contract. Assumes nothing.
 pub slice_bounds-front-end : goal.slice_bounds-front-end
 slice_bounds-front-end c = sym (over-length c.file_line-spelled.ensures)
 

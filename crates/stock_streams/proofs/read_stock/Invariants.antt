@@ -5,7 +5,6 @@ use Rattle.stock_streams.proofs.Taking.{SoFar, none_yet, some_more, done}
 use borrow.Author.Rules.{rules}
 use Rattle.stock_streams.proofs.read_stock.Given as goal
 
--- `stock_streams::read_stock` meets its contract. Assumes nothing.
 abbrev pub invariant-loop-line : goal.invariant-loop-line
 invariant-loop-line l = (length l.cells ≡ length l.initial.cells) × (length l.rings ≡ length l.initial.rings) × SoFar l.initial.cells l.initial.rings l.reading l.len l.cells l.rings l.line
 

@@ -2,7 +2,6 @@
 use borrow.Author.Rules.{rules}
 use Rattle.stock_streams.proofs.take_once.Goals as goal
 
--- `stock_streams::take_once` meets its contract. Assumes nothing.
 pub returns : goal.returns
 returns c = let o = c.take_part-taken.ensures in
     record { bytes = c.front.result.now; takes = record { room = o.room; reads = o.reads; holds = o.holds; keeps = o.keeps } }

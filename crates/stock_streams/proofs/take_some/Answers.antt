@@ -5,7 +5,6 @@ use lib.Seq.{length-take-le}
 use borrow.Author.Rules.{rules}
 use Rattle.stock_streams.proofs.take_some.Goals as goal
 
--- `stock_streams::take_some` meets its contract. Assumes nothing.
 pub slice_bounds-take_once-end : goal.slice_bounds-take_once-end
 slice_bounds-take_once-end c = sym (length-take-le _ _ (omega arith))
 

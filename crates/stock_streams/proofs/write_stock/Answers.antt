@@ -3,6 +3,5 @@ use Rattle.stock_streams.proofs.Putting.{went-well}
 use borrow.Author.Rules.{rules}
 use Rattle.stock_streams.proofs.write_stock.Goals as goal
 
--- `stock_streams::write_stock` meets its contract. Assumes nothing.
 pub returns : goal.returns
 returns c = λ e. c.gather_stock-out.ensures.asked (went-well _ _ c.flush.ensures e)

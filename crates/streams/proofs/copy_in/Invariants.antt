@@ -7,7 +7,6 @@ use borrow.Author.Rules.{rules}
 use Rattle.streams.proofs.Copies.{copied_none, copied_more, copied_all}
 use Rattle.streams.proofs.copy_in.Given as goal
 
--- `streams::copy_in` meets its contract. Assumes nothing.
 abbrev pub invariant-loop-i : goal.invariant-loop-i
 invariant-loop-i l = (l.i ≤ length l.bytes) × (length l.gathered ≡ length l.initial.gathered) × (take (l.at + l.i) l.gathered ≡ take l.at l.initial.gathered ++ take l.i l.bytes)
 

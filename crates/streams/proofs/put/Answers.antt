@@ -7,7 +7,6 @@ use Rattle.streams.proofs.put.Goals as goal
 pub returns-then-out : goal.returns-then-out
 returns-then-out c = stops c.if-out.true
 
--- `streams::put` meets its contract. Assumes nothing.
 pub returns-then-n-len : goal.returns-then-n-len
 returns-then-n-len c = keeps c.args.gathered.now c.args.bytes.now c.if-out.false c.at_most-len.result (c.at_most-len.ensures.1 c.args.gathered.now c.copy_in-arg-1.given.0.1) c.copy_in.ensures
 

@@ -4,7 +4,6 @@ use lib.ListN.{length}
 use borrow.Author.Rules.{rules}
 use Rattle.streams.proofs.read_some.Given as goal
 
--- `streams::read_some` meets its contract. Assumes nothing.
 abbrev pub invariant-loop-turns : goal.invariant-loop-turns
 invariant-loop-turns l = length l.buf ≡ length l.initial.buf
 

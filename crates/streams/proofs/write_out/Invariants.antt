@@ -5,7 +5,6 @@ use borrow.Author.Rules.{rules}
 use Rattle.streams.proofs.Moved.{taken}
 use Rattle.streams.proofs.write_out.Given as goal
 
--- `streams::write_out` meets its contract. Assumes nothing.
 abbrev pub invariant-loop-done : goal.invariant-loop-done
 invariant-loop-done l = l.done ≤ length l.bytes
 

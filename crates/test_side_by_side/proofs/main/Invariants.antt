@@ -2,7 +2,6 @@
 use Rattle.std.proofs.Common.{◌-◌, rules}
 use Rattle.test_side_by_side.proofs.main.Given as goal
 
--- `test_side_by_side::main` meets its contract. Assumes nothing.
 abbrev pub invariant-loop-k : goal.invariant-loop-k
 invariant-loop-k l = Unit {0}
 

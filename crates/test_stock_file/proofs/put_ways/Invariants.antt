@@ -2,7 +2,6 @@
 use Rattle.std.proofs.Common.{◌≡◌, ◌-◌, length, arith, rules}
 use Rattle.test_stock_file.proofs.put_ways.Given as goal
 
--- `test_stock_file::put_ways` meets its contract. Assumes nothing.
 abbrev pub invariant-loop-way : goal.invariant-loop-way
 invariant-loop-way l = length l.out ≡ length l.initial.out
 

@@ -2,7 +2,6 @@
 use Rattle.std.proofs.Common.{◌≡◌, ◌-◌, length, arith, rules}
 use Rattle.test_stock_file.proofs.read_in_parts.Given as goal
 
--- `test_stock_file::read_in_parts` meets its contract. Assumes nothing.
 abbrev pub invariant-loop-i : goal.invariant-loop-i
 invariant-loop-i l = (length l.cells ≡ length l.initial.cells) × (length l.rings ≡ length l.initial.rings)
 

@@ -2,7 +2,6 @@
 use Rattle.std.proofs.Common.{◌-◌, length, arith, rules}
 use Rattle.test_stock_file.proofs.say_all_damaged.Given as goal
 
--- `test_stock_file::say_all_damaged` meets its contract. Assumes nothing.
 abbrev pub invariant-loop-at : goal.invariant-loop-at
 invariant-loop-at l = Unit {0}
 

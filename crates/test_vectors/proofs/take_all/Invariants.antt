@@ -2,7 +2,6 @@
 use Rattle.std.proofs.Common.{rules}
 use Rattle.test_vectors.proofs.take_all.Given as goal
 
--- `test_vectors::take_all` meets its contract. Assumes nothing.
 abbrev pub invariant-loop-turns : goal.invariant-loop-turns
 invariant-loop-turns l = Unit
 

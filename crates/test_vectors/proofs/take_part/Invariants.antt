@@ -2,7 +2,6 @@
 use Rattle.std.proofs.Common.{◌-◌, ◌≤◌, length, rules}
 use Rattle.test_vectors.proofs.take_part.Given as goal
 
--- `test_vectors::take_part` meets its contract. Assumes nothing.
 abbrev pub invariant-loop-i : goal.invariant-loop-i
 invariant-loop-i l = l.i ≤ length l.bytes
 

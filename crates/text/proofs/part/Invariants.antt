@@ -4,7 +4,6 @@ use Rattle.std.proofs.Common.{◌≡◌, ◌-◌, ◌≤◌, [], length, get_or,
 use Rattle.text.specs.Parts.{parted_at}
 use Rattle.text.proofs.part.Given as goal
 
--- `text::part` meets its contract. Assumes nothing.
 abbrev pub invariant-loop-k : goal.invariant-loop-k
 invariant-loop-k l = (l.k ≤ l.i) × (l.a ≤ length l.s) × (get_or (parted_at l.p l.s) l.i [] ≡ get_or (parted_at l.p (drop l.a l.s)) (l.i - l.k) [])
 

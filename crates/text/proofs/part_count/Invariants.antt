@@ -4,7 +4,6 @@ use Rattle.text.specs.Parts.{parted_at}
 use Rattle.text.proofs.Parting.{count-tab, count-byte, count-end}
 use Rattle.text.proofs.part_count.Given as goal
 
--- `text::part_count` meets its contract. Assumes nothing.
 abbrev pub invariant-loop-i : goal.invariant-loop-i
 invariant-loop-i l = (l.i ≤ length l.s) × (l.n ≤ l.i + 1) × (length (parted_at l.p l.s) + 1 ≡ l.n + length (parted_at l.p (drop l.i l.s)))
 

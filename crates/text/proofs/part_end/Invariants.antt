@@ -3,7 +3,6 @@ use Rattle.std.proofs.Common.{◌≡◌, ◌+◌, ◌-◌, ◌≤◌, length, dr
 use Rattle.text.proofs.Parting.{first, end-tab, end-byte, end-end}
 use Rattle.text.proofs.part_end.Given as goal
 
--- `text::part_end` meets its contract. Assumes nothing.
 abbrev pub invariant-loop-e : goal.invariant-loop-e
 invariant-loop-e l = (l.e ≤ length l.s) × (l.a + length (first l.p (drop l.a l.s)) ≡ l.e + length (first l.p (drop l.e l.s)))
 

@@ -4,7 +4,6 @@ use Rattle.text.specs.Whole.{whole_of}
 use Rattle.text.proofs.Wholes.{whole_from, whole-empty, whole_long, whole-start, whole-low, whole-high, whole-step, whole-over, whole-end}
 use Rattle.text.proofs.read_whole.Given as goal
 
--- `text::read_whole` meets its contract. Assumes nothing.
 abbrev pub invariant-loop-i : goal.invariant-loop-i
 invariant-loop-i l = (l.i ≤ length l.s) × (l.v ≤ 1000000000) × (whole_of l.s ≡ whole_from l.v (drop l.i l.s))
 

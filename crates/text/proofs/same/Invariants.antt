@@ -4,7 +4,6 @@ use Rattle.text.specs.Same.{same_bytes}
 use Rattle.text.proofs.Compare.{same-short, same-other, same_step, same_end}
 use Rattle.text.proofs.same.Given as goal
 
--- `text::same` meets its contract. Assumes nothing.
 abbrev pub invariant-loop-i : goal.invariant-loop-i
 invariant-loop-i l = (l.i ≤ length l.a) × (same_bytes l.a l.b ≡ same_bytes (drop l.i l.a) (drop l.i l.b))
 

@@ -6,7 +6,6 @@ use Rattle.floats.specs.Pick.{pick_true, pick-false}
 use Rattle.change_slices.specs.Proposal.{narrow_answer}
 use Rattle.change_slices.proofs.flat.narrow.Goals as goal
 
--- `change_slices::flat::narrow` meets its contract. Assumes nothing.
 pub returns-then-room-list : goal.returns-then-room-list
 unfolding narrow_answer
 returns-then-room-list c = sym (ap (narrow_answer c.args.room) c.in-Listed.is ∙ pick_true _ _ _ (lt-ltb _ _ c.if-room-list.true))

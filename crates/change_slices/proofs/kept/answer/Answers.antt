@@ -7,13 +7,10 @@ use Rattle.stock.proofs.Bins.{HeldSpec}
 use Rattle.change_slices.proofs.Renewed.{answer-refused, answer-raised}
 use Rattle.change_slices.proofs.kept.answer.Goals as goal
 
--- `change_slices::kept::answer` meets its contract. Assumes nothing.
 pub returns-in-Refused : goal.returns-in-Refused
-returns-in-Refused c = let told = c.counted-1.given in
-    answer-refused _ _ _ _ _ (reason_of told.0.0) _ (sym c.asked_cells-counted.ensures ∙ ap counted_paper told.1) refl refl
+returns-in-Refused c = answer-refused _ _ _ _ _ (reason_of c.in-Refused.r) _ (sym c.asked_cells-counted.ensures ∙ ap counted_paper c.in-Refused.is) refl refl
 
 pub returns-in-Cells : goal.returns-in-Cells
 returns-in-Cells c = let g = c.well_formed.0 in
     let held : HeldSpec c.args.stock.spec = record { z-min = search (rules, g); z-max = search (rules, g); outer = search (rules, g); bore = search (rules, g); cell = search (rules, g.1.1.0) } in
-    let told = c.enum_told-1.given in
-    answer-raised _ _ _ _ _ told.0.0 _ held c.shared_slice_known-1.given c.shared_slice_known-2-1.given (sym c.asked_cells-counted.ensures ∙ ap counted_paper told.1) c.raised.ensures
+    answer-raised _ _ _ _ _ c.in-Cells.field-0 _ held c.shared_slice_known-1.given c.shared_slice_known-2-1.given (sym c.asked_cells-counted.ensures ∙ ap counted_paper c.in-Cells.is) c.raised.ensures

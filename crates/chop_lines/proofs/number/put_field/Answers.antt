@@ -5,7 +5,6 @@ use Rattle.text.proofs.Spelling.{decimal-short}
 use Rattle.chop_lines.proofs.Putting.{field-minus, field_plain}
 use Rattle.chop_lines.proofs.number.put_field.Goals as goal
 
--- `chop_lines::number::put_field` meets its contract. Assumes nothing.
 pub returns-then-has_minus : goal.returns-then-has_minus
 returns-then-has_minus c = let h = decimal-short c.micrometres_of-n.result in
     let w0 = put-wrote 2 refl (omega (arith, c.requires)) c.put-e.ensures in

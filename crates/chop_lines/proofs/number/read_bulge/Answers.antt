@@ -8,7 +8,6 @@ use Rattle.job_words.proofs.Signs.{rest-is}
 use Rattle.chop_lines.proofs.Reading.{bulge-empty, bulge-minus, bulge-plus}
 use Rattle.chop_lines.proofs.number.read_bulge.Goals as goal
 
--- `chop_lines::number::read_bulge` meets its contract. Assumes nothing.
 pub returns-then-f-lt1 : goal.returns-then-f-lt1
 returns-then-f-lt1 c = sym (bulge-empty _ c.if-f-lt1.true)
 

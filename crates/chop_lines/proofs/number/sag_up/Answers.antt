@@ -5,7 +5,6 @@ use Rattle.chop_lines.specs.Spelled.{up_by}
 use Rattle.chop_lines.proofs.Putting.{up-within}
 use Rattle.chop_lines.proofs.number.sag_up.Goals as goal
 
--- `chop_lines::number::sag_up` meets its contract. Assumes nothing.
 pub overflow_add-result : goal.overflow_add-result
 overflow_add-result c = omega (arith, up-within _ _ _ (sym c.whole_up-up.ensures ∙ ap whole_paper c.in-Of.is))
 

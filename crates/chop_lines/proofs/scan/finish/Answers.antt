@@ -3,7 +3,6 @@ use Rattle.std.proofs.Common.{◌∙◌, rules}
 use Rattle.chop_lines.proofs.Taking.{finish-stopped, finish-cut, finish-empty, finish-done}
 use Rattle.chop_lines.proofs.scan.finish.Goals as goal
 
--- `chop_lines::scan::finish` meets its contract. Assumes nothing.
 pub returns-then-scan-ne0 : goal.returns-then-scan-ne0
 returns-then-scan-ne0 c = finish-stopped _ _ c.if-scan-ne0.true
 

@@ -4,7 +4,6 @@ use Rattle.chop_lines.specs.Scan.{first_line}
 use Rattle.chop_lines.proofs.Reading.{scan-is}
 use Rattle.chop_lines.proofs.scan.first_line.Goals as goal
 
--- `chop_lines::scan::first_line` meets its contract. Assumes nothing.
 pub returns-in-Head : goal.returns-in-Head
 returns-in-Head c = let s = c.args.scan in
     scan-is s _ _ _ _ _ 0 c.wrapping_add_u64.ensures refl ∙ ap (first_line s) (sym c.in-Head.is)

@@ -12,7 +12,6 @@ bounds-numbers-at-then-n-lt-MOST c = simp length-set (omega (arith, c.requires))
 pub bounds-numbers-at-then-n-lt-MOST-2 : goal.bounds-numbers-at-then-n-lt-MOST-2
 bounds-numbers-at-then-n-lt-MOST-2 c = simp length-set (omega (arith, c.requires))
 
--- `chop_lines::scan::keep` meets its contract. Assumes nothing.
 pub returns-then-n-lt-MOST : goal.returns-then-n-lt-MOST
 returns-then-n-lt-MOST c = let a = c.args in kept_more a.numbers.now a.n a.r a.z a.bulge c.requires (omega arith)
 

@@ -4,7 +4,6 @@ use Rattle.chop_lines.specs.Scan.{state}
 use Rattle.chop_lines.proofs.Reading.{line_first, line-point, line-twice, line-bad}
 use Rattle.chop_lines.proofs.scan.on_line.Goals as goal
 
--- `chop_lines::scan::on_line` meets its contract. Assumes nothing.
 pub returns-then-scan-eq0 : goal.returns-then-scan-eq0
 returns-then-scan-eq0 c = let a = c.args in
     (line_first (state a.scan (take (3 * a.points) a.numbers.now)) a.line.now c.read_words-words.ensures c.if-scan-eq0.true c.first_line.ensures refl, refl)

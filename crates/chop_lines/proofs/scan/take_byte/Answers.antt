@@ -4,7 +4,6 @@ use Rattle.chop_lines.specs.Scan.{state, on_line}
 use Rattle.chop_lines.proofs.Taking.{byte-stopped, byte-ends, byte-goes, byte-over}
 use Rattle.chop_lines.proofs.scan.take_byte.Goals as goal
 
--- `chop_lines::scan::take_byte` meets its contract. Assumes nothing.
 pub returns-then-scan-ne0 : goal.returns-then-scan-ne0
 returns-then-scan-ne0 c = (byte-stopped _ _ c.if-scan-ne0.true, c.requires.1)
 

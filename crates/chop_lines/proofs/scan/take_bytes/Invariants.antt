@@ -4,7 +4,6 @@ use Rattle.chop_lines.specs.Scan.{ScanRoom, in_hand, bytes_to}
 use Rattle.chop_lines.proofs.Taking.{bytes-step, bytes-end}
 use Rattle.chop_lines.proofs.scan.take_bytes.Given as goal
 
--- `chop_lines::scan::take_bytes` meets its contract. Assumes nothing.
 abbrev pub invariant-loop-i : goal.invariant-loop-i
 invariant-loop-i l = (l.i ≤ length l.bytes) × (l.n ≤ 127) × (length l.numbers ≡ length l.initial.numbers) × (length l.line ≡ length l.initial.line) × (bytes_to (in_hand l.initial.s l.initial.numbers l.points l.initial.line l.len) l.bytes ≡ bytes_to (in_hand l.s l.numbers l.p l.line l.n) (drop l.i l.bytes))
 

@@ -5,7 +5,6 @@ use Rattle.chop_lines.specs.Spelled.{ends_text}
 use Rattle.chop_lines.proofs.Putting.{micro-short}
 use Rattle.chop_lines.proofs.spell.ends_text.Goals as goal
 
--- `chop_lines::spell::ends_text` meets its contract. Assumes nothing.
 pub put_field-b-requires : goal.put_field-b-requires
 put_field-b-requires c = omega (arith, c.put_field-a.ensures.end, micro-short c.args.ar)
 

@@ -7,7 +7,6 @@ use Rattle.chop_lines.specs.Spelled.{front_text}
 use Rattle.chop_lines.proofs.Putting.{words_long, micro-short}
 use Rattle.chop_lines.proofs.spell.front_text.Goals as goal
 
--- `chop_lines::spell::front_text` meets its contract. Assumes nothing.
 pub put_field-b-requires : goal.put_field-b-requires
 put_field-b-requires c = omega (arith, c.put_words-a.ensures.wrote.end, words_long c.args.side)
 

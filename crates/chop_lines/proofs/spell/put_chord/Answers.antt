@@ -4,7 +4,6 @@ use Rattle.chop_lines.proofs.Putting.{puts-more}
 use Rattle.std.proofs.Common.{rules}
 use Rattle.chop_lines.proofs.spell.put_chord.Goals as goal
 
--- `chop_lines::spell::put_chord` meets its contract. Assumes nothing.
 pub returns : goal.returns
 unfolding chord_text
 returns c = puts-more c.put_front-next.ensures c.put_ends.ensures

@@ -5,7 +5,6 @@ use Rattle.chop_lines.specs.Chopped.{AllPut}
 use Rattle.chop_lines.proofs.Putting.{put-none, put_on, all-put, texts-more}
 use Rattle.chop_lines.proofs.spell.put_chords.Given as goal
 
--- `chop_lines::spell::put_chords` meets its contract. Assumes nothing.
 abbrev pub invariant-loop-k : goal.invariant-loop-k
 invariant-loop-k l = (l.k ≤ l.n) × AllPut (chord_texts l.side l.rn l.chords l.k) l.out l.gathered
 

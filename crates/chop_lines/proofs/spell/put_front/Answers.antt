@@ -4,7 +4,6 @@ use Rattle.text.proofs.Sets.{room}
 use Rattle.chop_lines.proofs.Putting.{puts-text}
 use Rattle.chop_lines.proofs.spell.put_front.Goals as goal
 
--- `chop_lines::spell::put_front` meets its contract. Assumes nothing.
 pub slice_bounds-line-end : goal.slice_bounds-line-end
 slice_bounds-line-end c = omega (arith, room c.front_text-end.ensures.wrote)
 

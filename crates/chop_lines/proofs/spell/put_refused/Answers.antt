@@ -4,7 +4,6 @@ use Rattle.text.proofs.Sets.{room}
 use Rattle.chop_lines.proofs.Putting.{puts-text, put-none, put_on}
 use Rattle.chop_lines.proofs.spell.put_refused.Goals as goal
 
--- `chop_lines::spell::put_refused` meets its contract. Assumes nothing.
 pub slice_bounds-own-end : goal.slice_bounds-own-end
 slice_bounds-own-end c = omega (arith, room c.refused_line-end.ensures.wrote)
 

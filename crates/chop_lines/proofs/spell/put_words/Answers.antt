@@ -4,7 +4,6 @@ use Rattle.text.proofs.Sets.{and_then, put-wrote, retext}
 use Rattle.chop_lines.specs.Spelled.{line_words}
 use Rattle.chop_lines.proofs.spell.put_words.Goals as goal
 
--- `chop_lines::spell::put_words` meets its contract. Assumes nothing.
 pub returns-in-Outer : goal.returns-in-Outer
 returns-in-Outer c = let w = put-wrote 10 refl (omega arith) c.put.ensures in
     record { wrote = retext (ap line_words (sym c.in-Outer.is)) w; within = omega (arith, w.end) }

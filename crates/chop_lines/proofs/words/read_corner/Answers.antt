@@ -4,7 +4,6 @@ use Rattle.chop_lines.proofs.Reading.{read_as, bulge-as, corner-no, corner-no-z,
 use Rattle.std.proofs.Common.{rules}
 use Rattle.chop_lines.proofs.words.read_corner.Goals as goal
 
--- `chop_lines::words::read_corner` meets its contract. Assumes nothing.
 pub returns-in_default : goal.returns-in_default
 returns-in_default c = corner-no (fields_of c.args.s.now) (read_as c.part.ensures c.read_number.ensures c.in_default.is)
 

@@ -6,7 +6,6 @@ use Rattle.job_words.specs.Kind.{word_outer, word_inner}
 use Rattle.chop_lines.specs.Words.{head_of}
 use Rattle.chop_lines.proofs.words.read_head.Goals as goal
 
--- `chop_lines::words::read_head` meets its contract. Assumes nothing.
 -- what a test of a field says
 told : {k f : List ℕ} {r t : Bool} (w : List ℕ) → k ≡ f → r ≡ same_bytes k w → r ≡ t → same_bytes f w ≡ t
 told w p q e = ap (λ (x : List ℕ). same_bytes x w) (sym p) ∙ sym q ∙ e

@@ -4,7 +4,6 @@ use Rattle.chop_lines.proofs.Reading.{read_as, head-no, head-is}
 use Rattle.std.proofs.Common.{rules}
 use Rattle.chop_lines.proofs.words.read_head_on.Goals as goal
 
--- `chop_lines::words::read_head_on` meets its contract. Assumes nothing.
 pub returns-in_default : goal.returns-in_default
 returns-in_default c = head-no (fields_of c.args.s.now) _ (read_as c.part.ensures c.read_number.ensures c.in_default.is)
 

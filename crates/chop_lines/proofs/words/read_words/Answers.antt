@@ -5,7 +5,6 @@ use Rattle.text.specs.Same.{same_bytes}
 use Rattle.chop_lines.specs.Words.{word_profile, word_point, words_by}
 use Rattle.chop_lines.proofs.words.read_words.Goals as goal
 
--- `chop_lines::words::read_words` meets its contract. Assumes nothing.
 -- what a test of a field says
 told : {k f : List ℕ} {r t : Bool} (w : List ℕ) → k ≡ f → r ≡ same_bytes k w → r ≡ t → same_bytes f w ≡ t
 told w p q e = ap (λ (x : List ℕ). same_bytes x w) (sym p) ∙ sym q ∙ e

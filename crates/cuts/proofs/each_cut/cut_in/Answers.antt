@@ -6,7 +6,6 @@ use Rattle.changes.proofs.Proposals.{left, same-proposal}
 use Rattle.cuts.proofs.Previews.{line-proposed, thread-proposed, inner-proposed, drill-proposed, arc-proposed}
 use Rattle.cuts.proofs.each_cut.cut_in.Goals as goal
 
--- `cuts::each_cut::cut_in` meets its contract. Assumes nothing.
 pub swept-requires : goal.swept-requires
 swept-requires c = (c.requires, omega arith)
 

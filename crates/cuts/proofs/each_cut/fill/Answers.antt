@@ -9,15 +9,13 @@ use Rattle.cuts.proofs.Sweeps.{says-nose}
 use Rattle.cuts.proofs.Tools.{says-nose-sweep, says-polygon-sweep}
 use Rattle.cuts.proofs.each_cut.fill.Goals as goal
 
--- `cuts::each_cut::fill` meets its contract. Assumes nothing.
 pub returns-in-Nose : goal.returns-in-Nose
-returns-in-Nose c = let told = c.sweep-1.given in
-    let a = c.args in
+returns-in-Nose c = let a = c.args in
     let l = c.fill.new.1.1.1.1.1 in
-    let side = told.0.0 in
-    let rn = told.0.1.0 in
+    let side = c.in-Nose.side in
+    let rn = c.in-Nose.rn in
     let w : RowFilled a.s a.n side (clean_of rn) a.beside.now (segment_count a.beside.now) (row_at l.0 l.1.0) = subst (λ (x : Float). RowFilled a.s a.n side x a.beside.now (segment_count a.beside.now) (row_at l.0 l.1.0)) c.clean.ensures c.fill.ensures.0 in
-    says-nose-sweep _ _ _ _ _ _ _ told.1 (says-nose a.s a.n side rn a.beside.now (row_at l.0 l.1.0) c.fill.result w c.fill.ensures.1 c.fill.ensures.2)
+    says-nose-sweep _ _ _ _ _ _ _ c.in-Nose.is (says-nose a.s a.n side rn a.beside.now (row_at l.0 l.1.0) c.fill.result w c.fill.ensures.1 c.fill.ensures.2)
 
 pub returns-in-Polygon : goal.returns-in-Polygon
 returns-in-Polygon c = says-polygon-sweep _ _ _ _ _ _ _ c.in-Polygon.is c.fill-in-Polygon.ensures

@@ -4,7 +4,6 @@ use borrow.Author.Rules.{rules}
 use Rattle.cuts.proofs.Places.{fresh-room, fresh-empty}
 use Rattle.cuts.proofs.each_cut.swept.Goals as goal
 
--- `cuts::each_cut::swept` meets its contract. Assumes nothing.
 pub swept_over-requires : goal.swept_over-requires
 swept_over-requires c = let p = c.requires in
     (p.0, fresh-room 128 _ _ (omega arith), fresh-empty 128 _ _ (omega arith))

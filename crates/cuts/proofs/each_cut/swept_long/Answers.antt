@@ -8,7 +8,6 @@ use Rattle.cuts.proofs.Places.{fresh-room, fresh-empty}
 use Rattle.cuts.proofs.Tools.{says-clean-nose, says-polygon-sweep, nose-side, polygon-side, sweep-proposes}
 use Rattle.cuts.proofs.each_cut.swept_long.Goals as goal
 
--- `cuts::each_cut::swept_long` meets its contract. Assumes nothing.
 pub fill-bins-requires : goal.fill-bins-requires
 fill-bins-requires c = let p = c.requires in
     let few = p.0.few in
@@ -30,9 +29,7 @@ list-requires-in-Polygon c = let p = c.requires in
     (f.ordered, f.within, p.0.few, p.1)
 
 pub returns-in-Nose : goal.returns-in-Nose
-returns-in-Nose c = let told = c.sweep-1.given in
-    same-proposal _ _ _ _ _ _ _ (sweep-proposes _ _ _ _ _ _ _ _ _ _ _ (nose-side _ told.1) (says-clean-nose _ _ _ _ _ _ told.1 c.clean-r.ensures c.fill-bins.ensures)) c.list.ensures
+returns-in-Nose c = same-proposal _ _ _ _ _ _ _ (sweep-proposes _ _ _ _ _ _ _ _ _ _ _ (nose-side _ c.in-Nose.is) (says-clean-nose _ _ _ _ _ _ c.in-Nose.is c.clean-r.ensures c.fill-bins.ensures)) c.list.ensures
 
 pub returns-in-Polygon : goal.returns-in-Polygon
-returns-in-Polygon c = let told = c.sweep-in-Polygon-1.given in
-    same-proposal _ _ _ _ _ _ _ (sweep-proposes _ _ _ _ _ _ _ _ _ _ _ (polygon-side _ told.1) (says-polygon-sweep _ _ _ _ _ _ _ told.1 c.fill-bins-in-Polygon.ensures)) c.list-in-Polygon.ensures
+returns-in-Polygon c = same-proposal _ _ _ _ _ _ _ (sweep-proposes _ _ _ _ _ _ _ _ _ _ _ (polygon-side _ c.in-Polygon.is) (says-polygon-sweep _ _ _ _ _ _ _ c.in-Polygon.is c.fill-bins-in-Polygon.ensures)) c.list-in-Polygon.ensures

@@ -5,7 +5,6 @@ use Rattle.changes.proofs.Proposals.{same-proposal}
 use Rattle.cuts.proofs.Tools.{in-single, in-nose, in-polygon}
 use Rattle.cuts.proofs.each_cut.tool_in.Goals as goal
 
--- `cuts::each_cut::tool_in` meets its contract. Assumes nothing.
 pub swept-requires : goal.swept-requires
 swept-requires c = (c.requires, omega arith)
 

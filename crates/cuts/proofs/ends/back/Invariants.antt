@@ -7,7 +7,6 @@ use borrow.Author.Tests.{not-true, not-false}
 use Rattle.cuts.proofs.Grades.{before-pos}
 use Rattle.cuts.proofs.ends.back.Given as goal
 
--- `cuts::ends::back` meets its contract. Assumes nothing.
 abbrev pub invariant-loop-s : goal.invariant-loop-s
 invariant-loop-s l = l.g ≤ l.n
 

@@ -8,7 +8,6 @@ use Rattle.cuts.specs.Rows.{before_of}
 use Rattle.cuts.proofs.Grades.{before-next, onward-lt, split}
 use Rattle.cuts.proofs.ends.find.Given as goal
 
--- `cuts::ends::find` meets its contract. Assumes nothing.
 abbrev pub invariant-loop-s : goal.invariant-loop-s
 invariant-loop-s l = (l.g ≤ l.n) × (before_of l.s l.e l.ends l.touch l.g ≡ true)
 

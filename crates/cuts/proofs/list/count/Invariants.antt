@@ -14,7 +14,6 @@ use Rattle.cuts.proofs.EachBin.{one_at_most}
 use Rattle.cuts.proofs.Spans.{none_before, change-in}
 use Rattle.cuts.proofs.list.count.Given as goal
 
--- `cuts::list::count` meets its contract. The loop's invariant: k of the cells passed change. Assumes nothing.
 abbrev pub invariant-loop-i : goal.invariant-loop-i
 invariant-loop-i l = (l.first ≤ l.i) × (l.i ≤ l.last) × (l.k ≤ l.i) × (l.k ≡ length (changes_to (act_cell (span_act l.first l.last (source_act l.s l.source l.values l.there))) l.cells l.i))
 

@@ -9,7 +9,6 @@ use Rattle.cuts.proofs.EachBin.{bin-passed, bin-after, none-counted, one-counted
 use Rattle.cuts.proofs.Left.{bin-left}
 use Rattle.cuts.proofs.list.count_bin.Goals as goal
 
--- `cuts::list::count_bin` meets its contract. Assumes nothing.
 pub returns-then-leaves : goal.returns-then-leaves
 returns-then-leaves c = let a = c.args in
     none-counted _ _ _ _ (bin-left a.s a.source a.values.now a.there.now a.cells.now a.i _ c.cell_at-before.ensures (c.leaves.ensures c.if-leaves.true) c.requires.2)

@@ -16,7 +16,6 @@ use Rattle.cuts.specs.Source.{bore_act, drill_both}
 use Rattle.cuts.proofs.EachBin.{listed-as}
 use Rattle.cuts.proofs.list.drill_bin.Goals as goal
 
--- `cuts::list::drill_bin` meets its contract. Assumes nothing.
 pub returns-then-drill_leaves : goal.returns-then-drill_leaves
 returns-then-drill_leaves c = let a = c.args in
     let cell = cell_at a.cells.now a.i in

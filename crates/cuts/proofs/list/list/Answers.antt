@@ -8,7 +8,6 @@ use Rattle.cuts.specs.Source.{source_act}
 use Rattle.cuts.proofs.Spans.{none-behind, span-most, listing-end}
 use Rattle.cuts.proofs.list.list.Goals as goal
 
--- `cuts::list::list` meets its contract. Assumes nothing.
 -- there is room for every bin that is visited
 pub write_each-requires : goal.write_each-requires
 write_each-requires c = let p = c.requires in

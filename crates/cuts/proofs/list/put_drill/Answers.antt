@@ -8,7 +8,6 @@ use Rattle.cuts.proofs.EachBin.{listed-put}
 use Rattle.cuts.proofs.Left.{drill-same}
 use Rattle.cuts.proofs.list.put_drill.Goals as goal
 
--- `cuts::list::put_drill` meets its contract. Assumes nothing.
 pub returns-then-lower-upper : goal.returns-then-lower-upper
 unfolding reach_paper
 returns-then-lower-upper c = let a = c.args in

@@ -3,6 +3,5 @@ use borrow.Author.Rules.{rules}
 use Rattle.cuts.proofs.EachBin.{listed-cut}
 use Rattle.cuts.proofs.list.put_outer.Goals as goal
 
--- `cuts::list::put_outer` meets its contract. Assumes nothing.
 pub returns : goal.returns
 returns c = listed-cut _ _ _ _ _ _ _ c.cut_cell-after.ensures c.list_change.ensures

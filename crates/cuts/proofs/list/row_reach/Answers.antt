@@ -5,6 +5,5 @@ use Rattle.reach.specs.Low.{Found}
 use Rattle.reach.specs.Reach.{reach_from}
 use Rattle.cuts.proofs.list.row_reach.Goals as goal
 
--- `cuts::list::row_reach` meets its contract. Assumes nothing.
 pub returns : goal.returns
 returns c = c.reach_from.ensures ∙ ap (λ (f : Found). reach_from c.args.side f.low f.high) c.row_at-swept.ensures

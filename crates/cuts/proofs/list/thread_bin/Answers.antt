@@ -7,7 +7,6 @@ use Rattle.changes.proofs.Placed.{list_same}
 use Rattle.cuts.proofs.EachBin.{listed-put}
 use Rattle.cuts.proofs.list.thread_bin.Goals as goal
 
--- `cuts::list::thread_bin` meets its contract. Assumes nothing.
 pub returns-then-thread_leaves : goal.returns-then-thread_leaves
 returns-then-thread_leaves c = list_same _ _ _ _ (ap (same_cell c.args.before) (c.thread_leaves.ensures.stays c.if-thread_leaves.true) ∙ c.requires.1)
 

@@ -11,7 +11,6 @@ use Rattle.cuts.proofs.EachBin.{bin-passed, bin-after, listed-as}
 use Rattle.cuts.proofs.Left.{bin-left}
 use Rattle.cuts.proofs.list.write_bin.Goals as goal
 
--- `cuts::list::write_bin` meets its contract. Assumes nothing.
 pub returns-then-leaves : goal.returns-then-leaves
 returns-then-leaves c = let a = c.args in
     list_same _ _ _ _ (bin-left a.s a.source a.values.now a.there.now a.cells.now a.i _ c.cell_at-before.ensures (c.leaves.ensures c.if-leaves.true) c.requires.1)

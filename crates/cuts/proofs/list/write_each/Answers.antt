@@ -5,7 +5,6 @@ use Rattle.cuts.specs.declared.list.Source.TheVariants as source
 use Rattle.cuts.proofs.Spans.{span-room, thread-listed, drill-listed, rows-listed}
 use Rattle.cuts.proofs.list.write_each.Goals as goal
 
--- `cuts::list::write_each` meets its contract. Assumes nothing.
 pub write_thread-requires : goal.write_thread-requires
 write_thread-requires c = let p = c.requires in
     (p.0, p.2, p.3)

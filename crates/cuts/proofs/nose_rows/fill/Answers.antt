@@ -25,7 +25,7 @@ overflow_add-k c = omega (arith, c.loop-k-test.true, c.loop-k.invariant.1)
 pub loop-k-preserved : goal.loop-k-preserved
 loop-k-preserved c = let l = c.loop-k in
     let a = c.args in
-    let kept = c.pass-seen.auto.1.1.1.1 in
+    let kept = c.pass-seen.auto.values in
     let e = l.invariant.2 in (
       omega arith,
       l.invariant.1,

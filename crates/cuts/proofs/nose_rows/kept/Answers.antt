@@ -4,7 +4,6 @@ use borrow.Author.Rules.{rules}
 use Rattle.nose.proofs.Tracks.{alike-sample}
 use Rattle.cuts.proofs.nose_rows.kept.Goals as goal
 
--- `cuts::nose_rows::kept` meets its contract. Assumes nothing.
 pub returns-then-alike : goal.returns-then-alike
 returns-then-alike c = c.requires ∙ alike-sample c.args.t c.args.at c.args.c (search rules) (search rules) (sym c.alike.ensures ∙ c.if-alike.true)
 

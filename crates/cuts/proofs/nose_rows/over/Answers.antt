@@ -5,7 +5,6 @@ use lib.Ieee.Fits.{mul-fits}
 use Rattle.nose.proofs.Overs.{over-test}
 use Rattle.cuts.proofs.nose_rows.over.Goals as goal
 
--- `cuts::nose_rows::over` meets its contract. Assumes nothing.
 pub returns : goal.returns
-returns c = let a = c.args in
+returns c e rn = let a = c.args in
     over-test a.p a.rr a.c a.top _ (search rules) (mul-fits binary64 _ _) e rn

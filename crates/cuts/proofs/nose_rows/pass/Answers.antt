@@ -4,14 +4,11 @@ use borrow.Author.Rules.{rules}
 use Rattle.cuts.proofs.Sweeps.{none-reached, all-passed, idle-more}
 use Rattle.cuts.proofs.nose_rows.pass.Goals as goal
 
-)
-
-
--- `cuts::nose_rows::pass` meets its contract. Assumes nothing.
 pub returns-then-last-first : goal.returns-then-last-first
 returns-then-last-first c = (
   none-reached _ _ _ _ _ c.find-first.ensures c.find-last.ensures c.if-last-first.true _,
   c.requires.2,
+)
 
 pub swept-requires : goal.swept-requires
 swept-requires c = let p = c.requires in
@@ -21,6 +18,6 @@ swept-requires c = let p = c.requires in
 
 pub returns : goal.returns
 returns c = let p = c.requires in (
-      all-passed _ _ _ _ _ c.find-first.ensures c.find-last.ensures c.swept.ensures,
-      idle-more _ _ c.find-last.ensures.within p.2 c.swept.ensures c.wider.ensures.0 c.wider.ensures.1,
-    )
+  all-passed _ _ _ _ _ c.find-first.ensures c.find-last.ensures c.swept.ensures,
+  idle-more _ _ c.find-last.ensures.within p.2 c.swept.ensures c.wider.ensures.0 c.wider.ensures.1,
+)

@@ -4,9 +4,8 @@ use mathlib.Core.Bool.{true≢false}
 use Rattle.nose.proofs.Overs.{both, capsule-over}
 use Rattle.cuts.proofs.nose_rows.stays.Goals as goal
 
--- `cuts::nose_rows::stays` meets its contract. Assumes nothing.
 pub returns-then-over : goal.returns-then-over
-returns-then-over c = let a = c.args in
+returns-then-over c e = let a = c.args in
     let x = both _ _ c.if-over.true in
     let y = both _ _ x.0 in
     let z = both _ _ y.0 in
@@ -16,4 +15,4 @@ returns-then-over c = let a = c.args in
     )
 
 pub returns : goal.returns
-returns c = absurd (true≢false (sym e))
+returns c e = absurd (true≢false (sym e))

@@ -8,7 +8,6 @@ use Rattle.cuts.specs.Rows.{row_at, Stepped}
 use Rattle.cuts.proofs.Sweeps.{Even, stepped-none, stepped-more}
 use Rattle.cuts.proofs.nose_rows.sweep.Given as goal
 
--- `cuts::nose_rows::sweep` meets its contract. The loop's invariant: the bins passed hold one segment more, and the sample in hand is the one on its line. Assumes nothing.
 abbrev pub invariant-loop-i : goal.invariant-loop-i
 invariant-loop-i l = (l.first ≤ l.i) × (l.i ≤ l.last) × (sample_paper l.a ≡ sample_at l.t l.at) × Even l.initial.values l.initial.there l.values l.there × Stepped l.s l.t l.first l.i (row_at l.initial.values l.initial.there) (row_at l.values l.there)
 

@@ -39,7 +39,7 @@ loop-i-preserved c = let to = c.lesser-to.ensures in
     let o = r.1.ordered in
     let l = c.loop-i in
     let h = l.invariant.0 in
-    let kept = c.sweep.auto.1.1.1.1 in
+    let kept = c.sweep.auto.values in
     let e = l.invariant.2 in (
       omega arith,
       omega arith,

@@ -7,7 +7,6 @@ use Rattle.cuts.proofs.Sweeps.{Even, stepped-none}
 use Rattle.cuts.proofs.Rests.{part-more}
 use Rattle.cuts.proofs.nose_rows.swept.Given as goal
 
--- `cuts::nose_rows::swept` meets its contract. Assumes nothing.
 abbrev pub invariant-loop-i : goal.invariant-loop-i
 invariant-loop-i l = (l.first ≤ l.i) × (l.i ≤ l.last) × Even l.initial.values l.initial.there l.values l.there × Stepped l.s l.t l.first l.i (row_at l.initial.values l.initial.there) (row_at l.values l.there)
 

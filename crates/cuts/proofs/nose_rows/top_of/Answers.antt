@@ -7,7 +7,6 @@ use Rattle.reach.specs.Low.{low_paper}
 use Rattle.cuts.proofs.Rests.{topped}
 use Rattle.cuts.proofs.nose_rows.top_of.Goals as goal
 
--- `cuts::nose_rows::top_of` meets its contract. Assumes nothing.
 pub returns-then-low-high : goal.returns-then-low-high
 unfolding low_paper
 returns-then-low-high c = let l = c.in-At.is in

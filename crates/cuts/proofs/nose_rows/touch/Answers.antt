@@ -5,7 +5,6 @@ use Rattle.reach.specs.Low.{Found}
 use Rattle.nose.specs.Track.{sample_paper, step_of}
 use Rattle.cuts.proofs.nose_rows.touch.Goals as goal
 
--- `cuts::nose_rows::touch` meets its contract. Assumes nothing.
 pub returns : goal.returns
 returns c = let a = c.args in
     record {

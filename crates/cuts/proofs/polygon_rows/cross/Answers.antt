@@ -7,7 +7,6 @@ use Rattle.polygon.specs.Polygon.{lowest_of}
 use Rattle.cuts.proofs.Crossings.{cross-skipped, cross-swept}
 use Rattle.cuts.proofs.polygon_rows.cross.Goals as goal
 
--- `cuts::polygon_rows::cross` meets its contract. Assumes nothing.
 pub returns-then-bin-lo : goal.returns-then-bin-lo
 returns-then-bin-lo c = let p = c.requires in
     (p.2, cross-skipped _ _ _ _ _ _ p.0 _ _ c.bin_of-bin.ensures c.if-bin-lo.true p.5)

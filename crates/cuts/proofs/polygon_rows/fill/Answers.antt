@@ -10,7 +10,6 @@ use Rattle.polygon.proofs.Visits.{visits-range, spanned}
 use Rattle.cuts.proofs.Crossings.{says_none, says-crossed}
 use Rattle.cuts.proofs.polygon_rows.fill.Goals as goal
 
--- `cuts::polygon_rows::fill` meets its contract. Assumes nothing.
 pub returns-in_default : goal.returns-in_default
 unfolding extent_paper
 returns-in_default c = says_none _ _ _ _ _ (sym c.extent_of-extent.ensures ∙ ap extent_paper c.in_default.is)
@@ -19,9 +18,8 @@ pub sweep-requires : goal.sweep-requires
 unfolding extent_paper
 sweep-requires c = let a = c.args in
     let p = c.requires in
-    let told = c.extent-1.given in
-    let lo = told.0.0 in
-    let hi = told.0.1.0 in
+    let lo = c.in-Over.lo in
+    let hi = c.in-Over.hi in
     let w = visits-range a.s lo hi a.n in
     let f : c.index_range-bins.result.from ≡ (bins_of a.s lo hi a.n).from = ap (λ (z : BinRange). z.from) c.index_range-bins.ensures in
     let t : c.index_range-bins.result.to ≡ (bins_of a.s lo hi a.n).to = ap (λ (z : BinRange). z.to) c.index_range-bins.ensures in
@@ -29,7 +27,7 @@ sweep-requires c = let a = c.args in
     let few = w.few in
     let p1 = p.1.numbers in
     let p2 = p.1.flags in (
-      sym c.extent_of-extent.ensures ∙ ap extent_paper told.1,
+      sym c.extent_of-extent.ensures ∙ ap extent_paper c.in-Over.is,
       λ j h l. spanned a.s lo hi a.n j (omega arith) (omega arith),
       omega arith,
       omega (arith, p.0),

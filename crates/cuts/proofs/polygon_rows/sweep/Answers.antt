@@ -30,7 +30,7 @@ overflow_add-i c = omega (arith, c.loop-i-test.true, c.requires.3)
 
 pub loop-i-preserved : goal.loop-i-preserved
 loop-i-preserved c = let l = c.loop-i in
-    let kept = c.cross-held.auto.1.1.1.1.1.1.1.1 in
+    let kept = c.cross-held.auto.values in
     let e = l.invariant.3 in (
       omega arith,
       omega arith,

@@ -7,7 +7,6 @@ use Rattle.reach.specs.Low.{low_paper}
 use Rattle.cuts.proofs.Places.{low-past, low-none, low-some, low-nan}
 use Rattle.cuts.proofs.rows.low_at.Goals as goal
 
--- `cuts::rows::low_at` meets its contract. Assumes nothing.
 pub returns-then-there-k : goal.returns-then-there-k
 unfolding low_paper
 returns-then-there-k c = sym (low-past _ _ _ c.if-there-k.true)

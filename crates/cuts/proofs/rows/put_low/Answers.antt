@@ -5,7 +5,6 @@ use Rattle.reach.specs.Low.{low_paper}
 use Rattle.cuts.proofs.Places.{put-none, put_some}
 use Rattle.cuts.proofs.rows.put_low.Goals as goal
 
--- `cuts::rows::put_low` meets its contract. Assumes nothing.
 pub returns-in_default : goal.returns-in_default
 unfolding low_paper
 returns-in_default c = put-none _ _ _ (ap low_paper c.in_default.is) c.requires.1

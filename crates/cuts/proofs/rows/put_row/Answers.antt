@@ -4,6 +4,5 @@ use borrow.Author.Rules.{rules}
 use Rattle.cuts.proofs.Places.{put_both}
 use Rattle.cuts.proofs.rows.put_row.Goals as goal
 
--- `cuts::rows::put_row` meets its contract. Assumes nothing.
 pub returns : goal.returns
 returns c = put_both _ _ _ c.put_low.ensures c.put_low-2.ensures

@@ -14,7 +14,6 @@ pub returns-then-cone : goal.returns-then-cone
 unfolding drill_at
 returns-then-cone c = search picks
 
--- `cuts::single::drill_at` meets its contract. Assumes nothing.
 pub returns-then-is_past : goal.returns-then-is_past
 returns-then-is_past c = let a = c.args in
     let g = c.well_formed.0 in

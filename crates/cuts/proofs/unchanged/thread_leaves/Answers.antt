@@ -3,7 +3,6 @@ use borrow.Author.Rules.{rules}
 use Rattle.cuts.proofs.Left.{outer-leaves, inner-leaves}
 use Rattle.cuts.proofs.unchanged.thread_leaves.Goals as goal
 
--- `cuts::unchanged::thread_leaves` meets its contract. Assumes nothing.
 pub returns-in-Outer : goal.returns-in-Outer
 returns-in-Outer c = outer-leaves _ _ _ _ c.in-Outer.is c.greatest.ensures
 

@@ -10,7 +10,6 @@ use Rattle.envelope.specs.Halving.{extent_radii, found_radii}
 use Rattle.envelope.proofs.Steps.{radii-more}
 use Rattle.envelope.proofs.segments.extent_in.Given as goal
 
--- `envelope::segments::extent_in` meets its contract. Assumes nothing.
 abbrev pub invariant-loop-i : goal.invariant-loop-i
 invariant-loop-i l = (l.start ≤ l.i) × (l.i < l.end) × (found_radii l.found ≡ radii_to l.points l.lo l.hi l.start (l.i - l.start))
 

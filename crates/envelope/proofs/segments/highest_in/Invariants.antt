@@ -10,7 +10,6 @@ use Rattle.envelope.specs.Halving.{radius_of}
 use Rattle.envelope.proofs.Steps.{highest-more}
 use Rattle.envelope.proofs.segments.highest_in.Given as goal
 
--- `envelope::segments::highest_in` meets its contract. Assumes nothing.
 abbrev pub invariant-loop-i : goal.invariant-loop-i
 invariant-loop-i l = (l.start ≤ l.i) × (l.i < l.end) × (radius_of l.found ≡ highest_to l.points l.u l.start (l.i - l.start))
 

@@ -5,7 +5,6 @@ use Rattle.envelope.specs.Envelope.{Radii, taken}
 use Rattle.envelope.proofs.Aside.{found-one, found_none, found_some}
 use Rattle.envelope.proofs.segments.taken.Goals as goal
 
--- `envelope::segments::taken` meets its contract. Assumes nothing.
 pub returns-then-r-eq0 : goal.returns-then-r-eq0
 unfolding taken
 returns-then-r-eq0 c = let a = c.args in

@@ -10,7 +10,6 @@ use Rattle.insert.specs.Insert.{polygon_to}
 use Rattle.insert.proofs.Steps.{polygon-more}
 use Rattle.insert.proofs.candidates.over_all.Given as goal
 
--- `insert::candidates::over_all` meets its contract. Assumes nothing.
 abbrev pub invariant-loop-i : goal.invariant-loop-i
 invariant-loop-i l = (l.i ≤ l.n) × (radius_of l.found ≡ polygon_to l.w l.points l.polygon l.a l.i)
 

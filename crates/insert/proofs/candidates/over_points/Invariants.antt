@@ -11,7 +11,6 @@ use Rattle.insert.specs.Insert.{points_to, polygon_to}
 use Rattle.insert.proofs.Steps.{points-more, span-room}
 use Rattle.insert.proofs.candidates.over_points.Given as goal
 
--- `insert::candidates::over_points` meets its contract. Assumes nothing.
 abbrev pub invariant-loop-i : goal.invariant-loop-i
 invariant-loop-i l = (l.start ≤ l.i) × (l.i - l.start ≤ l.end - l.start) × (radius_of l.found ≡ points_to l.w l.points l.polygon l.a l.start (l.i - l.start))
 

@@ -7,7 +7,6 @@ use lib.Ieee.{Float}
 use Rattle.insert.specs.Insert.{beyond, edges_of, touch_at}
 use Rattle.insert.proofs.candidates.touch_at.Goals as goal
 
--- `insert::candidates::touch_at` meets its contract. Assumes nothing.
 pub returns-in-Nowhere : goal.returns-in-Nowhere
 unfolding touch_at beyond radius_of
 returns-in-Nowhere c = let a = c.args in

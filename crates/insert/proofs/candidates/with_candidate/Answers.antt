@@ -7,7 +7,6 @@ use Rattle.envelope.specs.Envelope.{higher}
 use Rattle.insert.specs.Insert.{with_candidate}
 use Rattle.insert.proofs.candidates.with_candidate.Goals as goal
 
--- `insert::candidates::with_candidate` meets its contract. Assumes nothing.
 pub returns-then-a-u : goal.returns-then-a-u
 unfolding with_candidate
 returns-then-a-u c = let a = c.args in

@@ -7,7 +7,6 @@ use Rattle.floats.specs.Numbers.{◌+₆₄◌}
 use Rattle.insert.specs.Insert.{with_candidate, with_point}
 use Rattle.insert.proofs.candidates.with_point.Goals as goal
 
--- `insert::candidates::with_point` meets its contract. Assumes nothing.
 pub returns : goal.returns
 unfolding with_point
 returns c = let a = c.args in

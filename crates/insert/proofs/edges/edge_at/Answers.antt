@@ -5,7 +5,6 @@ use Rattle.envelope.specs.Halving.{radius_of}
 use Rattle.insert.proofs.Steps.{edge_beside, edge-upright, edge-across}
 use Rattle.insert.proofs.edges.edge_at.Goals as goal
 
--- `insert::edges::edge_at` meets its contract. Assumes nothing.
 pub returns-then-u-least : goal.returns-then-u-least
 unfolding radius_of u_at
 returns-then-u-least c = let a = c.args in

@@ -9,7 +9,6 @@ use Rattle.insert.specs.Insert.{edges_to, edges_of}
 use Rattle.insert.proofs.Steps.{edges_more, edges-closed}
 use Rattle.insert.proofs.edges.edges_at.Given as goal
 
--- `insert::edges::edges_at` meets its contract. Assumes nothing.
 abbrev pub invariant-loop-i : goal.invariant-loop-i
 invariant-loop-i l = (l.i ≤ l.last) × (radius_of l.found ≡ edges_to l.w l.polygon l.n l.u l.i)
 

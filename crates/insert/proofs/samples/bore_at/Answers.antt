@@ -6,7 +6,6 @@ use Rattle.envelope.specs.Halving.{radius_of}
 use Rattle.insert.proofs.Steps.{bore-none, bore-front, bore-deep, bore-found}
 use Rattle.insert.proofs.samples.bore_at.Goals as goal
 
--- `insert::samples::bore_at` meets its contract. Assumes nothing.
 pub returns-then-points-eq0 : goal.returns-then-points-eq0
 unfolding radius_of
 returns-then-points-eq0 c = bore-none c.args.points.now c.args.u c.requires.front c.requires.deepest c.if-points-eq0.true

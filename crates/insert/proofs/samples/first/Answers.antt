@@ -5,7 +5,6 @@ use lib.Seq.{length-take-le, take_all}
 use borrow.Author.Rules.{rules}
 use Rattle.insert.proofs.samples.first.Goals as goal
 
--- `insert::samples::first` meets its contract. Assumes nothing.
 pub returns-then-held-k : goal.returns-then-held-k
 returns-then-held-k c = let a = c.args in sym (take_all a.k a.held.now (omega arith))
 

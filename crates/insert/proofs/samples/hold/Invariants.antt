@@ -11,7 +11,6 @@ use Rattle.insert.specs.Insert.{sample_at, HeldTo}
 use Rattle.insert.proofs.Held.{held_none, held_more}
 use Rattle.insert.proofs.samples.hold.Given as goal
 
--- `insert::samples::hold` meets its contract. The loop's invariant: the samples of the points passed are held. Assumes nothing.
 abbrev pub invariant-loop-k : goal.invariant-loop-k
 invariant-loop-k l = (length l.held ≡ length l.initial.held) × HeldTo l.w l.points l.held l.k
 

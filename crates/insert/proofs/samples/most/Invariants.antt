@@ -11,7 +11,6 @@ use Rattle.insert.specs.Insert.{chosen, most_to, most_of}
 use Rattle.insert.proofs.Steps.{most-more}
 use Rattle.insert.proofs.samples.most.Given as goal
 
--- `insert::samples::most` meets its contract. Assumes nothing.
 abbrev pub invariant-loop-i : goal.invariant-loop-i
 invariant-loop-i l = (0 < l.i) × (l.i ≤ l.n) × (l.found ≡ most_to l.w l.points (l.i - 1))
 

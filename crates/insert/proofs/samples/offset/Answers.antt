@@ -6,7 +6,6 @@ use mathlib.Core.Option.{some}
 use Rattle.insert.specs.Insert.{moved_of, offset_of}
 use Rattle.insert.proofs.samples.offset.Goals as goal
 
--- `insert::samples::offset` meets its contract. Assumes nothing.
 pub returns-in-Nowhere : goal.returns-in-Nowhere
 unfolding offset_of moved_of radius_of
 returns-in-Nowhere c = let a = c.args in

@@ -5,7 +5,6 @@ use Rattle.envelope.specs.Halving.{radius_of}
 use Rattle.insert.specs.Insert.{sample_at}
 use Rattle.insert.proofs.samples.own_sample.Goals as goal
 
--- `insert::samples::own_sample` meets its contract. Assumes nothing.
 pub returns-then-i-held : goal.returns-then-i-held
 unfolding radius_of
 returns-then-i-held c = let a = c.args in

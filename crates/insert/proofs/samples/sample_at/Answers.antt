@@ -9,7 +9,6 @@ use Rattle.insert.proofs.samples.sample_at.Goals as goal
 pub bore_at-requires : goal.bore_at-requires
 bore_at-requires c = subst (λ (w : Which). Looks w c.args.points.now c.args.l) c.in-Greatest.is c.requires
 
--- `insert::samples::sample_at` meets its contract. Assumes nothing.
 pub returns-in-Least : goal.returns-in-Least
 unfolding sample_at
 returns-in-Least c = c.highest.ensures.ruled c.requires.good (to_z-of_z (record { sfits = c.struct_told-1.given.0.1 }) ∙ c.requires.order)

@@ -10,7 +10,6 @@ use Rattle.insert.specs.Insert.{both, sampled_to}
 use Rattle.insert.proofs.Steps.{sampled-more, span-room}
 use Rattle.insert.proofs.samples.sampled.Given as goal
 
--- `insert::samples::sampled` meets its contract. Assumes nothing.
 abbrev pub invariant-loop-i : goal.invariant-loop-i
 invariant-loop-i l = (l.start ≤ l.i) × (l.i - l.start ≤ l.end - l.start) × (radius_of l.found ≡ sampled_to l.w l.points l.lo l.hi l.start (l.i - l.start))
 

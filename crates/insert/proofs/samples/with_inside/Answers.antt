@@ -7,7 +7,6 @@ use Rattle.envelope.specs.Envelope.{u_at}
 use Rattle.insert.specs.Insert.{both, with_inside}
 use Rattle.insert.proofs.samples.with_inside.Goals as goal
 
--- `insert::samples::with_inside` meets its contract. Assumes nothing.
 pub own_sample-requires : goal.own_sample-requires
 unfolding u_at
 own_sample-requires c = (c.requires.0, c.clean-u.ensures)

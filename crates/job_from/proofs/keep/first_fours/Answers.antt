@@ -5,6 +5,5 @@ use lib.Seq.{length-take-le}
 use borrow.Author.Rules.{rules}
 use Rattle.job_from.proofs.keep.first_fours.Goals as goal
 
--- `job_from::keep::first_fours` meets its contract. Assumes nothing.
 pub slice_bounds-result-end : goal.slice_bounds-result-end
 slice_bounds-result-end c = sym (length-take-le _ _ (omega arith))

@@ -4,7 +4,6 @@ use lib.ListN.{length}
 use borrow.Author.Rules.{rules}
 use Rattle.job_from.proofs.keep.folder_end.Given as goal
 
--- `job_from::keep::folder_end` meets its contract. Assumes nothing.
 abbrev pub invariant-loop-i : goal.invariant-loop-i
 invariant-loop-i l = Unit {0}
 

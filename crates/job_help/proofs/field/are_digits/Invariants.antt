@@ -2,7 +2,6 @@
 use Rattle.std.proofs.Common.{◌-◌, ◌≤◌, length, rules}
 use Rattle.job_help.proofs.field.are_digits.Given as goal
 
--- `job_help::field::are_digits` meets its contract. Assumes nothing.
 abbrev pub invariant-loop-i : goal.invariant-loop-i
 invariant-loop-i l = l.i ≤ length l.f
 

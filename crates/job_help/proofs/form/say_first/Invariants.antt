@@ -2,7 +2,6 @@
 use Rattle.std.proofs.Common.{◌≡◌, ◌-◌, length, rules}
 use Rattle.job_help.proofs.form.say_first.Given as goal
 
--- `job_help::form::say_first` meets its contract. Assumes nothing.
 abbrev pub invariant-loop-i : goal.invariant-loop-i
 invariant-loop-i l = length l.out ≡ length l.initial.out
 

@@ -4,7 +4,6 @@ use Rattle.refusals.specs.declared.Refusal.TheVariants.{LineMalformed}
 use Rattle.job_run.proofs.Carrying.{refused, unlisted, same_outcome, line-long, line_first, line-later, changes-long, changes-first, changes-later}
 use Rattle.job_run.proofs.line.carry_out.Goals as goal
 
--- `job_run::line::carry_out` meets its contract. Assumes nothing.
 pub returns-then-line-ge-LINE_LIMIT : goal.returns-then-line-ge-LINE_LIMIT
 returns-then-line-ge-LINE_LIMIT c = (refused _ LineMalformed _ _ (line-long _ _ _ _ _ c.if-line-ge-LINE_LIMIT.true), unlisted _ _ _ (changes-long _ _ _ _ c.if-line-ge-LINE_LIMIT.true))
 

@@ -6,7 +6,6 @@ use Rattle.std.proofs.Common.{ap, rules}
 use Rattle.job_run.proofs.Carrying.{first-bar, refused}
 use Rattle.job_run.proofs.line.first_line.Goals as goal
 
--- `job_run::line::first_line` meets its contract. Assumes nothing.
 pub returns-in-Bar : goal.returns-in-Bar
 returns-in-Bar c = first-bar _ _ _ _ _ _ c.in-Bar.is c.take_bar.ensures
 

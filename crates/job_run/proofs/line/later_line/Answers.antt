@@ -7,7 +7,6 @@ use Rattle.job_run.specs.Job.{later_line, line_changes}
 use Rattle.job_run.proofs.Carrying.{later-cut, later-lists, later-ring, refused, unlisted}
 use Rattle.job_run.proofs.line.later_line.Goals as goal
 
--- `job_run::line::later_line` meets its contract. Assumes nothing.
 pub returns-in-Cutting : goal.returns-in-Cutting
 returns-in-Cutting c = (later-cut _ _ _ _ _ _ _ _ c.in-Cutting.is c.take_cut.ensures.0, later-lists _ _ _ _ _ _ _ _ _ c.in-Cutting.is c.take_cut.ensures.1)
 

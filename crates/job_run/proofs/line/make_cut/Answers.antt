@@ -3,7 +3,6 @@ use Rattle.std.proofs.Common.{rules}
 use Rattle.job_run.proofs.Made.{made_none, made_all, made-lists}
 use Rattle.job_run.proofs.line.make_cut.Goals as goal
 
--- `job_run::line::make_cut` meets its contract. Assumes nothing.
 pub returns-in-Refused : goal.returns-in-Refused
 returns-in-Refused c = let a = c.args in
     (made_none a.stock a.cells.now a.cut _ _ _ _ _ _ c.preview_of-previewed.ensures c.in-Refused.is, made-lists _ _ _ _ _ _ _ c.preview_of-previewed.ensures)

@@ -3,7 +3,6 @@ use Rattle.std.proofs.Common.{rules}
 use Rattle.job_run.proofs.Made.{same-cut}
 use Rattle.job_run.proofs.line.preview_of.Goals as goal
 
--- `job_run::line::preview_of` meets its contract. Assumes nothing.
 pub returns-in-Thread : goal.returns-in-Thread
 returns-in-Thread c = same-cut _ _ _ _ _ c.in-Thread.is c.thread_cut.ensures
 

@@ -3,7 +3,6 @@ use Rattle.std.proofs.Common.{sym, arith, length-take-le, rules}
 use Rattle.job_run.proofs.Carrying.{bar-refused, bar-short, bar-unrefused, bar-made}
 use Rattle.job_run.proofs.line.take_bar.Goals as goal
 
--- `job_run::line::take_bar` meets its contract. Assumes nothing.
 pub returns-then-cells-n : goal.returns-then-cells-n
 returns-then-cells-n c = bar-short _ _ _ _ _ c.validate-counted.ensures c.in-Cells.is c.if-cells-n.true
 

@@ -8,7 +8,6 @@ use Rattle.job_run.proofs.line.take_cut.Goals as goal
 pub slice_bounds-make_cut-end-2 : goal.slice_bounds-make_cut-end-2
 slice_bounds-make_cut-end-2 c = sym (length-take-le _ _ (omega arith))
 
--- `job_run::line::take_cut` meets its contract. Assumes nothing.
 pub returns-in-Refused : goal.returns-in-Refused
 returns-in-Refused c = let j = c.args.job in
     (cut-refused _ _ _ _ _ c.places-end.ensures _ _ c.make_cut-applied.ensures.0 c.in-Refused.r (reason_of c.in-Refused.r) refl (ap applied_paper c.in-Refused.is), lists_of j _ _ _ _ c.places-end.ensures _ _ _ _ c.make_cut-applied.ensures.1)
@@ -19,4 +18,4 @@ returns-in-RefusedAt c = let j = c.args.job in
 
 pub returns-in-Stock : goal.returns-in-Stock
 returns-in-Stock c = let j = c.args.job in
-    (cut-went _ _ _ _ _ c.places-end.ensures _ _ c.make_cut-applied.ensures.0 _ c.in-Stock.is c.make_cut-applied.auto.1.0, lists_of j _ _ _ _ c.places-end.ensures _ _ _ _ c.make_cut-applied.ensures.1)
+    (cut-went _ _ _ _ _ c.places-end.ensures _ _ c.make_cut-applied.ensures.0 _ c.in-Stock.is c.make_cut-applied.auto.cells, lists_of j _ _ _ _ c.places-end.ensures _ _ _ _ c.make_cut-applied.ensures.1)

@@ -7,7 +7,6 @@ use Rattle.text.specs.Whole.{whole_of}
 use Rattle.text.proofs.Wholes.{whole-size}
 use Rattle.job_words.proofs.number.read_number.Goals as goal
 
--- `job_words::number::read_number` meets its contract. Assumes nothing.
 pub returns-then-f-lt1 : goal.returns-then-f-lt1
 returns-then-f-lt1 c = sym (number-empty _ c.if-f-lt1.true)
 

@@ -4,7 +4,6 @@ use lib.Ieee.{Float, binary64, div, of_bits, of_int}
 use Rattle.job_words.proofs.Signs.{minus-fits, minus_is}
 use Rattle.job_words.proofs.number.under_zero.Goals as goal
 
--- `job_words::number::under_zero` meets its contract. Assumes nothing.
 pub overflow_sub-n : goal.overflow_sub-n
 overflow_sub-n c = minus-fits _ c.requires
 

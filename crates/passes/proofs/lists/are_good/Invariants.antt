@@ -11,7 +11,6 @@ use Rattle.passes.proofs.Loops.{outside-more}
 use borrow.Author.Rules.{rules}
 use Rattle.passes.proofs.lists.are_good.Given as goal
 
--- `passes::lists::are_good` meets its contract. Assumes nothing.
 abbrev pub invariant-loop-k : goal.invariant-loop-k
 invariant-loop-k l = (l.k ≤ length l.kinds) × (length l.kinds ≤ pass_limit) × (l.ok ≡ outside_to l.kinds l.k)
 

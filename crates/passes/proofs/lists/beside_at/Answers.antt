@@ -10,7 +10,6 @@ use Rattle.passes.proofs.Decoded.{lies, beside-is, beside_none}
 use borrow.Author.Rules.{rules}
 use Rattle.passes.proofs.lists.beside_at.Goals as goal
 
--- `passes::lists::beside_at` meets its contract. Assumes nothing.
 pub bounds-parts-k : goal.bounds-parts-k
 bounds-parts-k c = let w = lies c.args.parts.now (length c.args.lists.now) c.args.k (sym c.part_lies.ensures ∙ (and_both c.is_swept.result c.part_lies.result c.if-is_swept-part_lies.true).1) in
     omega (arith, w.there)

@@ -5,7 +5,6 @@ use Rattle.passes.proofs.Decoded.{is-inner-line, is-inner-thread, is-inner-nose,
 use borrow.Author.Rules.{rules}
 use Rattle.passes.proofs.lists.inside_tool.Goals as goal
 
--- `passes::lists::inside_tool` meets its contract. Assumes nothing.
 pub returns-then-kind-eq4 : goal.returns-then-kind-eq4
 returns-then-kind-eq4 c = c.line.ensures ∙ is-inner-line _ _ _ _ _ _ _ c.if-kind-eq4.true
 

@@ -3,7 +3,6 @@ use mathlib.Core.Path.{refl}
 use lib.Ieee.{div, of_bits}
 use Rattle.passes.proofs.lists.no_tool.Goals as goal
 
--- `passes::lists::no_tool` meets its contract. Assumes nothing.
 pub returns : goal.returns
 unfolding div of_bits
 returns c = refl

@@ -5,7 +5,6 @@ use lib.Ieee.{nan, div, of_bits}
 use borrow.Author.Rules.{rules}
 use Rattle.passes.proofs.lists.number_of.Goals as goal
 
--- `passes::lists::number_of` meets its contract. Assumes nothing.
 pub returns : goal.returns
 unfolding div of_bits
 returns c = sym (get_or-eq_default c.args.numbers.now nan c.if-at-numbers.false)

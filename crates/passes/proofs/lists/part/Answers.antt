@@ -6,7 +6,6 @@ use lib.ListN.{take, drop}
 use borrow.Author.Rules.{rules}
 use Rattle.passes.proofs.lists.part.Goals as goal
 
--- `passes::lists::part` meets its contract. Assumes nothing.
 pub returns : goal.returns
 returns c = let a = c.args in
     let e : a.start + a.count - a.start ≡ a.count = omega arith in

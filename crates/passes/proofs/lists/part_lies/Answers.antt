@@ -8,7 +8,6 @@ use lib.ListN.{length, get_or}
 use borrow.Author.Rules.{rules}
 use Rattle.passes.proofs.lists.part_lies.Goals as goal
 
--- `passes::lists::part_lies` meets its contract. Assumes nothing.
 pub returns-then-parts-at : goal.returns-then-parts-at
 returns-then-parts-at c = let a = c.args in
     let ps = a.parts.now in

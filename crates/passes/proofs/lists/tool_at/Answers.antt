@@ -6,7 +6,6 @@ use Rattle.passes.proofs.Decoded.{tool-lacks, tool-is, six-are}
 use borrow.Author.Rules.{rules}
 use Rattle.passes.proofs.lists.tool_at.Goals as goal
 
--- `passes::lists::tool_at` meets its contract. Assumes nothing.
 pub returns-then-is_swept-part_lies : goal.returns-then-is_swept-part_lies
 returns-then-is_swept-part_lies c = let a = c.args in
     let ls = cuts_of a.kinds.now a.numbers.now a.parts.now a.lists.now in

@@ -4,7 +4,6 @@ use Rattle.passes.proofs.Decoded.{is-line, is-thread, is-nose, is-polygon, is-ar
 use borrow.Author.Rules.{rules}
 use Rattle.passes.proofs.lists.tool_of.Goals as goal
 
--- `passes::lists::tool_of` meets its contract. Assumes nothing.
 pub returns-then-kind-eq0 : goal.returns-then-kind-eq0
 returns-then-kind-eq0 c = c.line.ensures ∙ is-line _ _ _ _ _ _ _ c.if-kind-eq0.true
 

@@ -3,7 +3,6 @@ use mathlib.Core.Path.{sym}
 use Rattle.floats.specs.Pick.{pick_true, pick-false}
 use Rattle.passes.proofs.propose.first_from.Goals as goal
 
--- `passes::propose::first_from` meets its contract. Assumes nothing.
 pub returns-then-ends : goal.returns-then-ends
 returns-then-ends c = sym (pick_true _ _ _ c.if-ends.true)
 

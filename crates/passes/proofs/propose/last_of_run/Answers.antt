@@ -7,7 +7,6 @@ use Rattle.floats.specs.Pick.{pick_true, pick-false}
 use Rattle.passes.specs.Propose.{last_of_run}
 use Rattle.passes.proofs.propose.last_of_run.Goals as goal
 
--- `passes::propose::last_of_run` meets its contract. Assumes nothing.
 pub returns-then-i-n : goal.returns-then-i-n
 unfolding last_of_run
 returns-then-i-n c = sym (pick_true _ _ _ (eq-eqb _ _ c.if-i-n.true))

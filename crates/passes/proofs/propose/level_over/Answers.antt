@@ -2,6 +2,5 @@
 use borrow.Author.Rules.{rules}
 use Rattle.passes.proofs.propose.level_over.Goals as goal
 
--- `passes::propose::level_over` meets its contract. Assumes nothing.
 pub returns : goal.returns
 returns c = simp (c.pass_end.ensures, c.pass_start.ensures, c.aim.ensures)

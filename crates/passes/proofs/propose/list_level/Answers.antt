@@ -6,7 +6,6 @@ use borrow.Author.Tests.{not-true, not-false}
 use Rattle.passes.proofs.Levels.{list-none, list_full, list_put}
 use Rattle.passes.proofs.propose.list_level.Goals as goal
 
--- `passes::propose::list_level` meets its contract. Assumes nothing.
 pub returns-then-not-due-p : goal.returns-then-not-due-p
 returns-then-not-due-p c = list-none c.args.due c.args.p c.args.k _ _ _ (not-true _ c.if-not-due-p.true-raw)
 

@@ -6,7 +6,6 @@ use Rattle.floats.specs.Pick.{pick_true, pick-false}
 use Rattle.passes.specs.Propose.{pass_end}
 use Rattle.passes.proofs.propose.pass_end.Goals as goal
 
--- `passes::propose::pass_end` meets its contract. Assumes nothing.
 pub returns-then-i-n : goal.returns-then-i-n
 unfolding pass_end
 returns-then-i-n c = simp c.bin_of-bin.ensures (sym (pick_true _ _ _ (eq-eqb _ _ c.if-i-n.true)))

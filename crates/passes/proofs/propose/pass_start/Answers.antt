@@ -6,7 +6,6 @@ use Rattle.floats.specs.Pick.{pick_true, pick-false}
 use Rattle.passes.specs.Propose.{pass_start}
 use Rattle.passes.proofs.propose.pass_start.Goals as goal
 
--- `passes::propose::pass_start` meets its contract. Assumes nothing.
 pub returns-then-i-eq0 : goal.returns-then-i-eq0
 unfolding pass_start
 returns-then-i-eq0 c = simp c.bin_of-bin.ensures (sym (pick_true _ _ _ (eq-eqb _ _ c.if-i-eq0.true)))

@@ -7,7 +7,6 @@ use Rattle.stock.specs.Spec.{counted_paper}
 use Rattle.passes.proofs.Proposals.{left, proposed, targets-reach, nose-test, of-cells, of-targets, of-nose, of-all}
 use Rattle.passes.proofs.propose.propose.Goals as goal
 
--- `passes::propose::propose` meets its contract. Assumes nothing.
 pub returns-then-not-are_good : goal.returns-then-not-are_good
 returns-then-not-are_good c = left _ _ _ _ _ (of-targets _ _ _ _ _ c.in-Cells.n (sym c.cells_fit-counted.ensures ∙ ap counted_paper c.in-Cells.is) (sym c.are_good.ensures ∙ not-true _ c.if-not-are_good.true-raw))
 
@@ -18,8 +17,7 @@ pub write_passes-requires : goal.write_passes-requires
 write_passes-requires c = targets-reach c.args.targets.now c.in-Cells.n (sym c.are_good.ensures ∙ not-false _ c.if-not-are_good.false-raw)
 
 pub returns-in-Refused : goal.returns-in-Refused
-returns-in-Refused c = let told = c.counted-1.given in
-    left _ told.0.0 _ _ _ (of-cells _ _ _ _ _ (reason_of told.0.0) (sym c.cells_fit-counted.ensures ∙ ap counted_paper told.1))
+returns-in-Refused c = left _ c.in-Refused.r _ _ _ (of-cells _ _ _ _ _ (reason_of c.in-Refused.r) (sym c.cells_fit-counted.ensures ∙ ap counted_paper c.in-Refused.is))
 
 pub returns-else-not-is_usable-nose : goal.returns-else-not-is_usable-nose
 returns-else-not-is_usable-nose c = proposed _ _ _ _ _ _ _ _ _

@@ -9,7 +9,6 @@ use Rattle.passes.proofs.propose.put_level.Goals as goal
 pub bounds-parts-at-2 : goal.bounds-parts-at-2
 bounds-parts-at-2 c = simp length-set (omega arith)
 
--- `passes::propose::put_level` meets its contract. Assumes nothing.
 pub returns : goal.returns
 returns c = let at = 2 * c.args.k in
     let e1 : at + 1 ≡ suc at = omega arith in

@@ -21,7 +21,6 @@ bounds-numbers-at-5 c = simp length-set (omega arith)
 pub bounds-numbers-at-6 : goal.bounds-numbers-at-6
 bounds-numbers-at-6 c = simp length-set (omega arith)
 
--- `passes::propose::put_six` meets its contract. Assumes nothing.
 pub returns : goal.returns
 returns c = let at = 6 * c.args.k in
     let e1 : at + 1 ≡ suc at = omega arith in

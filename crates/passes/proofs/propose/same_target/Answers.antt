@@ -2,6 +2,5 @@
 use borrow.Author.Rules.{rules}
 use Rattle.passes.proofs.propose.same_target.Goals as goal
 
--- `passes::propose::same_target` meets its contract. Assumes nothing.
 pub returns : goal.returns
 returns c = simp (c.upper_at-2.ensures, c.upper_at.ensures, c.lower_at-2.ensures, c.lower_at.ensures)

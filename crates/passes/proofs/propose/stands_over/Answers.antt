@@ -2,6 +2,5 @@
 use borrow.Author.Rules.{rules}
 use Rattle.passes.proofs.propose.stands_over.Goals as goal
 
--- `passes::propose::stands_over` meets its contract. Assumes nothing.
 pub returns : goal.returns
 returns c = simp (c.upper_at.ensures, c.cell_at-cell.ensures)

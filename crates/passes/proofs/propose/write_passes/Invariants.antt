@@ -11,7 +11,6 @@ use Rattle.passes.proofs.Levels.{taken-lengths}
 use Rattle.passes.proofs.Writing.{written_none, written_next}
 use Rattle.passes.proofs.propose.write_passes.Given as goal
 
--- `passes::propose::write_passes` meets its contract. The loop's invariant: the passes of the runs that ended are over the fronts of the lists, and of the open run its first bin is known and whether some bin stands over its target. Assumes nothing.
 abbrev pub invariant-loop-i : goal.invariant-loop-i
 invariant-loop-i l = (l.i ≤ l.n)
     × Reached (open_to l.s l.n l.targets l.rn l.cells l.i) l.i l.first l.high

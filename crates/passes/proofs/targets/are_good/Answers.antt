@@ -4,7 +4,6 @@ use borrow.Author.Rules.{rules}
 use Rattle.passes.proofs.Runs.{targets-not, targets-are}
 use Rattle.passes.proofs.targets.are_good.Goals as goal
 
--- `passes::targets::are_good` meets its contract. Assumes nothing.
 pub returns-then-pairs-n : goal.returns-then-pairs-n
 returns-then-pairs-n c = let e = c.args.targets.now in targets-not e c.args.n (λ h. omega arith)
 

@@ -13,7 +13,6 @@ use Rattle.passes.proofs.Loops.{missed-at, met-more, met-none}
 use borrow.Author.Rules.{rules}
 use Rattle.passes.proofs.targets.first_miss.Given as goal
 
--- `passes::targets::first_miss` meets its contract. Assumes nothing.
 abbrev pub invariant-loop-i : goal.invariant-loop-i
 invariant-loop-i l = (l.i ≤ l.n) × (length l.targets ≡ 2 * l.n) × (first_miss l.targets l.cells l.i ≡ none)
 

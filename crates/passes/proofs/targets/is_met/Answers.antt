@@ -4,6 +4,5 @@ use lib.Ieee.{le}
 use borrow.Author.Rules.{rules}
 use Rattle.passes.proofs.targets.is_met.Goals as goal
 
--- `passes::targets::is_met` meets its contract. Assumes nothing.
 pub returns : goal.returns
 returns c = λ i. le (c.clean-low.ensures i) c.args.c.outer.lower_mm && le c.args.c.outer.upper_mm (c.clean-high.ensures i)

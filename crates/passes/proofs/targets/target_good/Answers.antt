@@ -2,6 +2,5 @@
 use borrow.Author.Rules.{rules}
 use Rattle.passes.proofs.targets.target_good.Goals as goal
 
--- `passes::targets::target_good` meets its contract. Assumes nothing.
 pub returns : goal.returns
 returns c = simp (c.is_usable-2.ensures, c.is_usable.ensures, c.upper_at-upper.ensures, c.lower_at-lower.ensures)

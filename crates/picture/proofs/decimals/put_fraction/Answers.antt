@@ -4,7 +4,6 @@ use Rattle.picture.proofs.Texts.{fraction-none, fraction-some}
 use borrow.Author.Rules.{rules}
 use Rattle.picture.proofs.decimals.put_fraction.Goals as goal
 
--- `picture::decimals::put_fraction` meets its contract. Assumes nothing.
 pub returns-then-f-eq0 : goal.returns-then-f-eq0
 returns-then-f-eq0 c = (fraction-none _ c.if-f-eq0.true, omega arith)
 

@@ -9,7 +9,6 @@ use Rattle.rings.specs.Swept.{Each}
 use Rattle.rings.proofs.Sweeping.{both, more}
 use Rattle.rings.proofs.fit.all_fit.Given as goal
 
--- `rings::fit::all_fit` meets its contract. The loop's invariant: where all is well so far, each ring passed fits. Assumes nothing.
 abbrev pub invariant-loop-i : goal.invariant-loop-i
 invariant-loop-i l = (l.i ≤ l.n) × (l.ok ≡ true → Each l.e l.rings l.i)
 

@@ -5,7 +5,6 @@ use Rattle.rings.proofs.Boxes.{block_apart}
 use borrow.Author.Rules.{rules}
 use Rattle.rings.proofs.fit.apart_block.Goals as goal
 
--- `rings::fit::apart_block` meets its contract. Assumes nothing.
 pub returns-then-is_apart : goal.returns-then-is_apart
 returns-then-is_apart c = λ f i. block_apart c.args.rings.now c.args.from c.args.to c.args.b c.args.k c.args.before c.requires.0 (sym c.is_apart.ensures ∙ c.if-is_apart.true) f i
 

@@ -6,7 +6,6 @@ use Rattle.rings.proofs.Removing.{count-over, count-within}
 use borrow.Author.Rules.{rules}
 use Rattle.rings.proofs.fit.count_fits.Goals as goal
 
--- `rings::fit::count_fits` meets its contract. Assumes nothing.
 pub returns-then-room_of-count : goal.returns-then-room_of-count
 returns-then-room_of-count c = let room_of = c.room_of in
     count-over c.args.e c.args.rings.now c.args.count room_of.result room_of.ensures c.if-room_of-count.true

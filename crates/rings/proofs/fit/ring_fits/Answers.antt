@@ -3,7 +3,6 @@ use Rattle.rings.specs.Store.{ring_fits}
 use borrow.Author.Rules.{rules}
 use Rattle.rings.proofs.fit.ring_fits.Goals as goal
 
--- `rings::fit::ring_fits` meets its contract. Assumes nothing.
 pub returns : goal.returns
 unfolding ring_fits
 returns c = simp (c.is_minus_zero.ensures, c.is_minus_zero-2.ensures, c.is_minus_zero-3.ensures, c.is_minus_zero-4.ensures)

@@ -3,7 +3,6 @@ use borrow.Author.Rules.{rules}
 use Prim.Native.Nat.{◌+◌, ◌-◌, ◌≤◌}
 use Rattle.rings.proofs.fit.rises.Given as goal
 
--- `rings::fit::rises` meets its contract. Assumes nothing.
 abbrev pub invariant-loop-i : goal.invariant-loop-i
 invariant-loop-i l = (8 ≤ l.i) × (l.i ≤ l.n + 8)
 

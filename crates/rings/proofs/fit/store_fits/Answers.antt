@@ -25,7 +25,7 @@ loop-i-preserved c = let loop = c.loop-i in
     let ring-at = c.ring_at-q in (
       omega arith,
       checked-next c.args.e c.args.rings.now loop.i loop.boxes _ loop.ok ring-fits.result apart-blocks.result ring-at.result (omega arith) loop.invariant.1
-          ring-at.ensures ring-fits.ensures apart-blocks.ensures c.widen.auto.0 c.widen.ensures,
+          ring-at.ensures ring-fits.ensures apart-blocks.ensures c.widen.auto.boxes c.widen.ensures,
     )
 
 pub returns : goal.returns

@@ -7,7 +7,6 @@ use Rattle.rings.proofs.Boxes.{Checked, checked-start, checked-next}
 use borrow.Author.Rules.{rules}
 use Rattle.rings.proofs.fit.store_fits.Given as goal
 
--- `rings::fit::store_fits` meets its contract. The loop's invariant: what is found so far is said of the rings passed, and the boxes are about them. Assumes nothing.
 abbrev pub invariant-loop-i : goal.invariant-loop-i
 invariant-loop-i l = (l.i ≤ l.n) × Checked l.e l.rings l.i l.boxes l.ok
 

@@ -4,7 +4,6 @@ use Rattle.rings.proofs.Sweeping.{both, swept-fits}
 use borrow.Author.Rules.{rules}
 use Rattle.rings.proofs.fit.sweep_fits.Goals as goal
 
--- `rings::fit::sweep_fits` meets its contract. Assumes nothing.
 pub returns-then-n-le-BLOCK : goal.returns-then-n-le-BLOCK
 returns-then-n-le-BLOCK c = λ e. absurd (false≢true e)
 

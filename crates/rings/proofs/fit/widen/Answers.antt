@@ -9,7 +9,6 @@ use Rattle.rings.specs.Block.{box_with, boxes_with}
 use borrow.Author.Rules.{rules}
 use Rattle.rings.proofs.fit.widen.Goals as goal
 
--- `rings::fit::widen` meets its contract. Assumes nothing.
 pub returns : goal.returns
 unfolding boxes_with
 returns c = let i = c.args.i in

@@ -6,7 +6,6 @@ use Rattle.rings.proofs.Flat.{same-ring}
 use borrow.Author.Rules.{rules}
 use Rattle.rings.proofs.fit.widened.Goals as goal
 
--- `rings::fit::widened` meets its contract. Assumes nothing.
 pub returns-then-first : goal.returns-then-first
 unfolding box_with
 returns-then-first c = sym (pick_true _ _ _ c.if-first.true)

@@ -6,7 +6,6 @@ use Rattle.rings.proofs.InHand.{holds-none, cut_apart, cut-copied, cut-over}
 use borrow.Author.Rules.{rules}
 use Rattle.rings.proofs.hand.cut_by.Goals as goal
 
--- `rings::hand::cut_by` meets its contract. Assumes nothing.
 pub returns-then-apart_from : goal.returns-then-apart_from
 returns-then-apart_from c = cut_apart _ _ _ _ c.requires.1 c.requires.0 (sym c.apart_from.ensures ∙ c.if-apart_from.true)
 

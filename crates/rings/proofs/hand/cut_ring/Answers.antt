@@ -4,7 +4,6 @@ use Rattle.rings.proofs.InHand.{holds-none, one-few, one-cut}
 use borrow.Author.Rules.{rules}
 use Rattle.rings.proofs.hand.cut_ring.Goals as goal
 
--- `rings::hand::cut_ring` meets its contract. Assumes nothing.
 pub subtract_all-requires : goal.subtract_all-requires
 subtract_all-requires c = let h = c.put-n.ensures.onto c.args.room [] (holds-none _ _ c.requires.2) in
     (c.requires.0, one-few _ c.requires.1 c.args.c _ _ h, h.size, c.requires.3)

@@ -9,7 +9,6 @@ use Rattle.rings.specs.Hand.{Grows}
 use borrow.Author.Rules.{rules}
 use Rattle.rings.proofs.hand.push.Goals as goal
 
--- `rings::hand::push` meets its contract. Assumes nothing.
 pub returns-then-room-n : goal.returns-then-room-n
 returns-then-room-n c = grows-over c.args.hand.now c.args.n c.args.q c.if-room-n.true
 

@@ -4,7 +4,6 @@ use Rattle.rings.proofs.InHand.{grows-kept, grows-dropped}
 use borrow.Author.Rules.{rules}
 use Rattle.rings.proofs.hand.put.Goals as goal
 
--- `rings::hand::put` meets its contract. Assumes nothing.
 pub returns-then-is_filled : goal.returns-then-is_filled
 returns-then-is_filled c = grows-kept c.args.q (sym c.is_filled.ensures ∙ c.if-is_filled.true) c.push.ensures
 

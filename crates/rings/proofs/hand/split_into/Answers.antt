@@ -4,7 +4,6 @@ use Rattle.rings.proofs.InHand.{grows-whole, grows-around}
 use borrow.Author.Rules.{rules}
 use Rattle.rings.proofs.hand.split_into.Goals as goal
 
--- `rings::hand::split_into` meets its contract. Assumes nothing.
 pub returns-then-is_apart : goal.returns-then-is_apart
 returns-then-is_apart c = grows-whole c.args.p c.args.k (sym c.is_apart.ensures ∙ c.if-is_apart.true) c.push.ensures
 

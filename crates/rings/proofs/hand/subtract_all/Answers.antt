@@ -27,7 +27,7 @@ pub shape_of-hand-then-room-m : goal.shape_of-hand-then-room-m
 shape_of-hand-then-room-m c = c.cut_by-m.ensures.size ∙ sym c.requires.2
 
 pub shape_of-next-then-room-m : goal.shape_of-next-then-room-m
-shape_of-next-then-room-m c = c.cut_by-m.auto.1.1.1.1.0 ∙ c.loop-j.invariant.1 ∙ sym c.requires.3
+shape_of-next-then-room-m c = c.cut_by-m.auto.next ∙ c.loop-j.invariant.1 ∙ sym c.requires.3
 
 pub returns-then-room-m : goal.returns-then-room-m
 returns-then-room-m c = let loop = c.loop-j in
@@ -45,7 +45,7 @@ loop-j-preserved c = let cut_by = c.cut_by-m in
     let ring-at = c.ring_at in
     let ps = rings_of c.args.n c.args.hand.now in (
       omega arith,
-      cut_by.auto.1.1.1.1.0 ∙ loop.invariant.1,
+      cut_by.auto.next ∙ loop.invariant.1,
       going_step c.args.room ps c.args.rings.now loop.j loop.hand loop.m loop.invariant.2 ring-at.result ring-at.ensures _ cut_by.result cut_by.ensures c.if-room-m.false,
       counted_next c.args.room ps c.args.rings.now loop.j loop.hand loop.m loop.invariant.2 loop.tests c.lesser-tests.result loop.invariant.3 c.lesser-tests.ensures,
     )

@@ -11,7 +11,6 @@ use Rattle.rings.proofs.Tested.{counted_start, counted_next}
 use borrow.Author.Rules.{rules}
 use Rattle.rings.proofs.hand.subtract_all.Given as goal
 
--- `rings::hand::subtract_all` meets its contract. The loop's invariant: what the rings passed leave is in hand, and their tests are counted. Assumes nothing.
 abbrev pub invariant-loop-j : goal.invariant-loop-j
 invariant-loop-j l = (l.j ≤ l.count) × (length l.next ≡ 4 * l.room) × Going l.room (rings_of l.n l.initial.hand) l.rings l.j l.hand l.m × (l.tests ≡ min (tests_of (rings_of l.n l.initial.hand) (rings_of l.j l.rings)) 65536)
 

@@ -17,7 +17,7 @@ pub loop-i-preserved : goal.loop-i-preserved
 loop-i-preserved c = let split-into = c.split_into-m in
     let loop = c.loop-i in
     let ring-at = c.ring_at in
-    (omega arith, split-into.auto.0 ∙ loop.invariant.1, pieces-next c.args.hand.now loop.i c.args.k ring-at.result ring-at.ensures loop.invariant.2 split-into.ensures)
+    (omega arith, split-into.auto.hand ∙ loop.invariant.1, pieces-next c.args.hand.now loop.i c.args.k ring-at.result ring-at.ensures loop.invariant.2 split-into.ensures)
 
 pub shape_of-next : goal.shape_of-next
 shape_of-next c = c.loop-i.invariant.1

@@ -10,7 +10,6 @@ use Rattle.rings.proofs.InHand.{pieces-start, pieces-next}
 use borrow.Author.Rules.{rules}
 use Rattle.rings.proofs.hand.subtract_one.Given as goal
 
--- `rings::hand::subtract_one` meets its contract. The loop's invariant: the pieces passed are subtracted from. Assumes nothing.
 abbrev pub invariant-loop-i : goal.invariant-loop-i
 invariant-loop-i l = (l.i ≤ l.n) × (length l.next ≡ length l.initial.next) × Grows l.initial.next 0 l.next l.m (subtract (rings_of l.i l.hand) l.k)
 

@@ -8,7 +8,6 @@ use Rattle.rings.proofs.Prefix.{goes_on, apart_all-snoc}
 use borrow.Author.Rules.{rules}
 use Rattle.rings.proofs.lent.apart_on.Given as goal
 
--- `rings::lent::apart_on` meets its contract. The loop's invariant: what is found so far is said of the rings passed. Assumes nothing.
 abbrev pub invariant-loop-j : goal.invariant-loop-j
 invariant-loop-j l = (l.from ≤ l.j) × (l.j ≤ l.to) × (l.before ≡ apart_all (rings_of l.from l.rings) l.k → l.ok ≡ apart_all (rings_of l.j l.rings) l.k)
 

@@ -16,7 +16,7 @@ loop-i-preserved c = let write-ring = c.write_ring in
     let loop = c.loop-i in
     let ring-at = c.ring_at in (
       omega arith,
-      write-ring.auto.0 ∙ loop.invariant.1,
+      write-ring.auto.rings ∙ loop.invariant.1,
       write-ring.ensures ∙ copied_next c.args.to.now loop.to c.args.from.now c.args.at loop.i ring-at.result (omega arith) ring-at.ensures loop.invariant.2,
     )
 

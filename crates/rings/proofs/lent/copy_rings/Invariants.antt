@@ -8,7 +8,6 @@ use Rattle.rings.specs.Store.{rings_of, store_as}
 use Rattle.rings.proofs.Flat.{copied-start, copied_next}
 use Rattle.rings.proofs.lent.copy_rings.Given as goal
 
--- `rings::lent::copy_rings` meets its contract. The loop's invariant: the rings passed are written. Assumes nothing.
 abbrev pub invariant-loop-i : goal.invariant-loop-i
 invariant-loop-i l = (l.i ≤ l.n) × (length l.to ≡ length l.initial.to) × (l.to ≡ store_as l.initial.to (rings_of l.at l.initial.to ++ rings_of l.i l.from))
 

@@ -6,7 +6,6 @@ use Rattle.rings.proofs.Flat.{same-ring}
 use borrow.Author.Rules.{rules}
 use Rattle.rings.proofs.shape.clipped.Goals as goal
 
--- `rings::shape::clipped` meets its contract. Assumes nothing.
 pub returns : goal.returns
 unfolding clip
 returns c = c.overlap.ensures ∙ ap (λ (q : Ring). common q c.args.e) (same-ring c.clean.ensures c.clean-2.ensures c.clean-3.ensures c.clean-4.ensures)

@@ -2,6 +2,5 @@
 use mathlib.Core.Path.{refl}
 use Rattle.rings.proofs.shape.is_apart.Goals as goal
 
--- `rings::shape::is_apart` meets its contract. Assumes nothing.
 pub returns : goal.returns
 returns c = refl

@@ -4,6 +4,5 @@ use mathlib.Core.Bool.{◌&&◌}
 use borrow.Author.Rules.{rules}
 use Rattle.rings.proofs.shape.is_finite_ring.Goals as goal
 
--- `rings::shape::is_finite_ring` meets its contract. Assumes nothing.
 pub returns : goal.returns
 returns c = ap₂ ◌&&◌ (ap₂ ◌&&◌ (ap₂ ◌&&◌ c.is_finite.ensures c.is_finite-2.ensures) c.is_finite-3.ensures) c.is_finite-4.ensures

@@ -9,7 +9,6 @@ use Rattle.rings.proofs.store.add_few_pieces.Goals as goal
 pub cut_ring-cut-requires : goal.cut_ring-cut-requires
 cut_ring-cut-requires c = (omega arith, omega arith, refl, refl)
 
--- `rings::store::add_few_pieces` meets its contract. Assumes nothing.
 pub returns-then-cut-gt-FEW : goal.returns-then-cut-gt-FEW
 returns-then-cut-gt-FEW c = c.add_pieces.ensures
 

@@ -10,7 +10,6 @@ use Rattle.rings.proofs.store.add_pieces.Goals as goal
 pub cut_ring-cut-requires : goal.cut_ring-cut-requires
 cut_ring-cut-requires c = (omega arith, omega arith, refl, refl)
 
--- `rings::store::add_pieces` meets its contract. Assumes nothing.
 pub returns-then-cut-gt-PIECE_LIMIT : goal.returns-then-cut-gt-PIECE_LIMIT
 returns-then-cut-gt-PIECE_LIMIT c = let cut-ring = c.cut_ring-cut in
     record { stores = stores-refused _ _ RingsOverRoom (added-over c.args.room c.args.count 256 c.args.c c.args.rings.now _ cut-ring.result.left cut-ring.ensures.pieces refl c.if-cut-gt-PIECE_LIMIT.true); tests = tt }

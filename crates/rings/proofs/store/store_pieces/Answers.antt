@@ -5,7 +5,6 @@ use Rattle.rings.proofs.Adding.{stores-past, stores-pieces}
 use borrow.Author.Rules.{rules}
 use Rattle.rings.proofs.store.store_pieces.Goals as goal
 
--- `rings::store::store_pieces` meets its contract. Assumes nothing.
 pub returns-then-room-count : goal.returns-then-room-count
 returns-then-room-count c = record { stores = stores-past _ _ _ _ _ c.if-room-count.true; tests = tt }
 

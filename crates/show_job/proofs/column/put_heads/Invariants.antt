@@ -5,7 +5,6 @@ use lib.ListN.{length}
 use borrow.Author.Rules.{rules}
 use Rattle.show_job.proofs.column.put_heads.Given as goal
 
--- `show_job::column::put_heads` meets its contract. Assumes nothing.
 abbrev pub invariant-loop-c : goal.invariant-loop-c
 invariant-loop-c l = (l.o ≤ length l.initial.out) × (length l.out ≡ length l.initial.out)
 

@@ -5,7 +5,6 @@ use lib.ListN.{length}
 use borrow.Author.Rules.{rules}
 use Rattle.show_job.proofs.column.put_spaces.Given as goal
 
--- `show_job::column::put_spaces` meets its contract. Assumes nothing.
 abbrev pub invariant-loop-i : goal.invariant-loop-i
 invariant-loop-i l = (l.o ≤ length l.initial.out) × (length l.out ≡ length l.initial.out)
 

@@ -3,7 +3,6 @@ use Prim.Native.Nat.{◌≤◌}
 use borrow.Author.Rules.{rules}
 use Rattle.show_job.proofs.column.trimmed.Given as goal
 
--- `show_job::column::trimmed` meets its contract. Assumes nothing.
 abbrev pub invariant-loop-o : goal.invariant-loop-o
 invariant-loop-o l = l.o ≤ l.at
 

@@ -5,7 +5,6 @@ use lib.ListN.{length}
 use borrow.Author.Rules.{rules}
 use Rattle.show_job.proofs.column.widen_for.Given as goal
 
--- `show_job::column::widen_for` meets its contract. Assumes nothing.
 abbrev pub invariant-loop-c : goal.invariant-loop-c
 invariant-loop-c l = length l.widths ≡ length l.initial.widths
 

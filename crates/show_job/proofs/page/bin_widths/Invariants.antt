@@ -5,7 +5,6 @@ use lib.ListN.{length}
 use borrow.Author.Rules.{rules}
 use Rattle.show_job.proofs.page.bin_widths.Given as goal
 
--- `show_job::page::bin_widths` meets its contract. Assumes nothing.
 abbrev pub invariant-loop-i : goal.invariant-loop-i
 invariant-loop-i l = length l.widths ≡ length l.initial.widths
 

@@ -5,7 +5,6 @@ use Rattle.side_by_side.proofs.Refusing.{as-file, file-number, file-place}
 use borrow.Author.Rules.{rules}
 use Rattle.side_by_side.proofs.refused.file_refused.Goals as goal
 
--- `side_by_side::refused::file_refused` meets its contract. Assumes nothing.
 pub returns-in-Stock : goal.returns-in-Stock
 returns-in-Stock c = as-file _ c.in-Stock.is (record { wrote = record { text = refl; end = refl }; within = omega arith })
 

@@ -5,7 +5,6 @@ use Rattle.side_by_side.proofs.Refusing.{as-pair, pair-number}
 use borrow.Author.Rules.{rules}
 use Rattle.side_by_side.proofs.refused.pair_refused.Goals as goal
 
--- `side_by_side::refused::pair_refused` meets its contract. Assumes nothing.
 pub returns-in-Chunks : goal.returns-in-Chunks
 returns-in-Chunks c = as-pair c.in-Chunks.is (record { wrote = record { text = refl; end = refl }; within = omega arith })
 

@@ -7,7 +7,6 @@ use Rattle.text.proofs.Spelling.{decimal-short}
 use Rattle.side_by_side.specs.Refused.{tabbed, refused_with}
 use Rattle.side_by_side.proofs.refused.refused_one.Goals as goal
 
--- `side_by_side::refused::refused_one` meets its contract. Assumes nothing.
 pub returns : goal.returns
 unfolding refused_with tabbed
 returns c = let h = decimal-short c.args.n in

@@ -5,7 +5,6 @@ use Rattle.side_by_side.proofs.Cells.{bin-put, bin-equal, bin-first}
 use borrow.Author.Rules.{rules}
 use Rattle.side_by_side.proofs.spelled.put_bin.Goals as goal
 
--- `side_by_side::spelled::put_bin` meets its contract. Assumes nothing.
 pub returns-then-same_cell : goal.returns-then-same_cell
 returns-then-same_cell c = bin-equal _ _ _ _ c.cell_at-a.ensures c.cell_at-b.ensures c.same_cell.ensures c.if-same_cell.true
 

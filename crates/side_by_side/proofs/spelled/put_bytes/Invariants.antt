@@ -8,7 +8,6 @@ use Rattle.text.proofs.Sets.{put_step, put-end}
 use borrow.Author.Rules.{rules}
 use Rattle.side_by_side.proofs.spelled.put_bytes.Given as goal
 
--- `side_by_side::spelled::put_bytes` meets its contract. Assumes nothing.
 abbrev pub invariant-loop-j : goal.invariant-loop-j
 invariant-loop-j l = (l.at + length l.s ≤ 18688) × (l.j ≤ length l.s) × (l.o ≡ l.at + l.j) × (sets l.out l.o (drop l.j l.s) ≡ sets l.initial.out l.at l.s)
 

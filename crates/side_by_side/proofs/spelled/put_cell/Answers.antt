@@ -9,7 +9,6 @@ use Rattle.side_by_side.proofs.spelled.put_cell.Goals as goal
 pub slice_bounds-front-end : goal.slice_bounds-front-end
 slice_bounds-front-end c = sym (room c.kept_cell_line-n.ensures.wrote)
 
--- `side_by_side::spelled::put_cell` meets its contract. Assumes nothing.
 pub put_bytes-requires : goal.put_bytes-requires
 put_bytes-requires c = let w = c.kept_cell_line-n.ensures in
     let l = line-length (search rules) w c.front.ensures in

@@ -9,7 +9,6 @@ use Rattle.side_by_side.proofs.spelled.put_ring.Goals as goal
 pub slice_bounds-front-end : goal.slice_bounds-front-end
 slice_bounds-front-end c = sym (room c.ring_line-n.ensures.wrote)
 
--- `side_by_side::spelled::put_ring` meets its contract. Assumes nothing.
 pub put_bytes-requires : goal.put_bytes-requires
 put_bytes-requires c = let q = c.args.q in
     let l = line-length (search rules) c.ring_line-n.ensures c.front.ensures in

@@ -6,7 +6,6 @@ use Rattle.side_by_side.proofs.Texts.{RingsPut, rings-none, rings-more, rings-do
 use borrow.Author.Rules.{rules}
 use Rattle.side_by_side.proofs.spelled.put_rings.Given as goal
 
--- `side_by_side::spelled::put_rings` meets its contract. Assumes nothing.
 abbrev pub invariant-loop-i : goal.invariant-loop-i
 invariant-loop-i l = (l.i ≤ l.n) × RingsPut l.rings l.i l.initial.out l.out l.e
 

@@ -5,7 +5,6 @@ use Rattle.stock_lines.specs.declared.Bar.{Bar}
 use borrow.Author.Rules.{rules}
 use Rattle.stock_file.proofs.written.bar_of.Goals as goal
 
--- `stock_file::written::bar_of` meets its contract. Assumes nothing.
 abbrev kept : TurnStockSpec → Bar
 kept s = record { z_min_mm = s.z_min_mm; z_max_mm = s.z_max_mm; outer_radius_mm = s.outer_radius_mm; bore_radius_mm = s.bore_radius_mm; cell_mm = s.cell_mm }
 

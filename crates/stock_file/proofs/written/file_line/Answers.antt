@@ -12,7 +12,6 @@ use Rattle.stock_file.proofs.Lined.{reline, line_refused, line-told, for-refused
 use borrow.Author.Rules.{rules}
 use Rattle.stock_file.proofs.written.file_line.Goals as goal
 
--- `stock_file::written::file_line` meets its contract. Assumes nothing.
 pub overflow_mul-n : goal.overflow_mul-n
 overflow_mul-n c = let a = c.args in
     omega (arith, (checked a.stock.spec _ (sym c.validate-counted.ensures ∙ ap counted_paper c.in-Cells.is)).few)

@@ -9,7 +9,6 @@ use Rattle.stock_file.proofs.Lined.{rings-few}
 use borrow.Author.Rules.{rules}
 use Rattle.stock_file.proofs.written.line_count.Goals as goal
 
--- `stock_file::written::line_count` meets its contract. Assumes nothing.
 pub overflow_add-result : goal.overflow_add-result
 overflow_add-result c = let a = c.args in
     omega (arith, rings-few _ _ _ (sym c.rings_fit.ensures ∙ c.if-rings_fit.true), stock-length a.spec a.cells.now _ (sym c.cells_fit-counted.ensures ∙ ap counted_paper c.in-Cells.is))

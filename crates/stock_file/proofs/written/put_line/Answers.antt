@@ -5,7 +5,6 @@ use Rattle.stock_file.proofs.Lined.{reline, no_line, first-line, cell-line, ring
 use borrow.Author.Rules.{rules}
 use Rattle.stock_file.proofs.written.put_line.Goals as goal
 
--- `stock_file::written::put_line` meets its contract. Assumes nothing.
 pub returns-then-k-eq0 : goal.returns-then-k-eq0
 returns-then-k-eq0 c = reline (first-line _ _ _ _ _ _ c.if-k-eq0.true) c.stock_line.ensures
 

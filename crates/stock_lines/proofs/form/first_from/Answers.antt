@@ -3,7 +3,6 @@ use Rattle.stock_lines.proofs.Firsts.{from-no-edition, from-no-bar, from-both}
 use Rattle.std.proofs.Common.{rules}
 use Rattle.stock_lines.proofs.form.first_from.Goals as goal
 
--- `stock_lines::form::first_from` meets its contract. Assumes nothing.
 pub returns-in_default : goal.returns-in_default
 returns-in_default c = from-no-edition _ _ _ c.in_default.is
 

@@ -3,7 +3,6 @@ use Rattle.stock_lines.proofs.Firsts.{form-short, form-two, form-three, form-oth
 use Rattle.std.proofs.Common.{rules}
 use Rattle.stock_lines.proofs.form.form_in.Goals as goal
 
--- `stock_lines::form::form_in` meets its contract. Assumes nothing.
 pub returns-then-line-lt7 : goal.returns-then-line-lt7
 returns-then-line-lt7 c = form-short _ c.if-line-lt7.true
 

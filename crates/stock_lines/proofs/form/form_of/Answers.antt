@@ -3,7 +3,6 @@ use Rattle.stock_lines.proofs.Steps.{form-few, form-many}
 use Rattle.std.proofs.Common.{rules}
 use Rattle.stock_lines.proofs.form.form_of.Goals as goal
 
--- `stock_lines::form::form_of` meets its contract. Assumes nothing.
 pub returns-then-number-ge3 : goal.returns-then-number-ge3
 returns-then-number-ge3 c = form-many _ c.if-number-ge3.true
 

@@ -4,7 +4,6 @@ use Rattle.text.specs.Same.{same_bytes}
 use Rattle.stock_lines.proofs.Steps.{line-front, line-fits, line-length}
 use Rattle.stock_lines.proofs.form.is_end_line.Goals as goal
 
--- `stock_lines::form::is_end_line` meets its contract. Assumes nothing.
 pub slice_bounds-p-end : goal.slice_bounds-p-end
 slice_bounds-p-end c = line-fits refl c.put_end-n.ensures
 

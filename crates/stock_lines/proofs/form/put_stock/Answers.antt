@@ -3,6 +3,5 @@ use Rattle.std.proofs.Common.{arith, rules}
 use Rattle.stock_lines.proofs.Steps.{stock-long, then-put}
 use Rattle.stock_lines.proofs.form.put_stock.Goals as goal
 
--- `stock_lines::form::put_stock` meets its contract. Assumes nothing.
 pub returns : goal.returns
 returns c = then-put _ _ (omega (arith, stock-long c.args.form)) c.put-e.ensures c.put_digits.ensures

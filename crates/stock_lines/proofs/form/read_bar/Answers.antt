@@ -4,7 +4,6 @@ use Rattle.stock_lines.specs.Form.{fields_of, begins_with, five_of, stock_prefix
 use Rattle.stock_lines.proofs.Steps.{stock-long, begins-long, line-begins, line-begins-not, line-front, line-fits, line-length}
 use Rattle.stock_lines.proofs.form.read_bar.Goals as goal
 
--- `stock_lines::form::read_bar` meets its contract. Assumes nothing.
 pub slice_bounds-p-end : goal.slice_bounds-p-end
 slice_bounds-p-end c = line-fits refl c.put_stock-n.ensures
 

@@ -4,7 +4,6 @@ use Rattle.stock_lines.specs.Form.{four_of, line_of}
 use Rattle.stock_lines.proofs.Steps.{cell-short, line-front, line-fits, line-length}
 use Rattle.stock_lines.proofs.form.read_cell_line.Goals as goal
 
--- `stock_lines::form::read_cell_line` meets its contract. Assumes nothing.
 pub slice_bounds-p-end : goal.slice_bounds-p-end
 slice_bounds-p-end c = line-fits refl c.put_cell-n.ensures
 

@@ -4,7 +4,6 @@ use Rattle.stock_lines.specs.declared.form.Form.{Form}
 use Rattle.stock_lines.proofs.Firsts.{edition-there, edition-none, edition-behind}
 use Rattle.stock_lines.proofs.form.read_edition.Goals as goal
 
--- `stock_lines::form::read_edition` meets its contract. Assumes nothing.
 pub returns-then-f : goal.returns-then-f
 returns-then-f c = c.read_field.ensures ∙ edition-there _ _ (sym (ap (λ (f : Form). f.edition) c.form_of-f.ensures) ∙ c.if-f.true)
 

@@ -4,7 +4,6 @@ use Rattle.text.specs.Hex.{eight_of}
 use Rattle.stock_lines.proofs.Firsts.{rest-is, field-nothing, field-tab, field-other}
 use Rattle.stock_lines.proofs.form.read_field.Goals as goal
 
--- `stock_lines::form::read_field` meets its contract. Assumes nothing.
 pub returns-then-s-eq0 : goal.returns-then-s-eq0
 returns-then-s-eq0 c = field-nothing _ c.if-s-eq0.true
 

@@ -4,7 +4,6 @@ use Rattle.stock_lines.specs.First.{edition_of}
 use Rattle.stock_lines.proofs.Firsts.{rest-is, first_short, first-parts}
 use Rattle.stock_lines.proofs.form.read_first_line.Goals as goal
 
--- `stock_lines::form::read_first_line` meets its contract. Assumes nothing.
 pub returns-then-line-lt-BAR_LONG : goal.returns-then-line-lt-BAR_LONG
 returns-then-line-lt-BAR_LONG c = first_short _ c.if-line-lt-BAR_LONG.true
 

@@ -3,7 +3,6 @@ use Rattle.stock_lines.proofs.Steps.{written-few, written-many}
 use Rattle.std.proofs.Common.{rules}
 use Rattle.stock_lines.proofs.form.written_form.Goals as goal
 
--- `stock_lines::form::written_form` meets its contract. Assumes nothing.
 pub returns-then-n-le-FEW_CELLS : goal.returns-then-n-le-FEW_CELLS
 returns-then-n-le-FEW_CELLS c = written-few _ c.if-n-le-FEW_CELLS.true
 

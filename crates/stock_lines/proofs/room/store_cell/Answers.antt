@@ -6,7 +6,6 @@ use Rattle.stock_lines.specs.Form.{form_of}
 use Rattle.stock_lines.specs.Room.{taken, stored}
 use Rattle.stock_lines.proofs.room.store_cell.Goals as goal
 
--- `stock_lines::room::store_cell` meets its contract. Assumes nothing.
 pub returns : goal.returns
 returns c = let a = c.args in (
   c.store.ensures.0 ∙ ap taken c.cell_in_turn.ensures,

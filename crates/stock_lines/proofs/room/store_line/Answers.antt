@@ -4,7 +4,6 @@ use Rattle.stock_lines.specs.Room.{taken, stored}
 use Rattle.stock_lines.proofs.Rooms.{took-cell, took-ring, took-end, took-none, rings-cell, rings-other}
 use Rattle.stock_lines.proofs.room.store_line.Goals as goal
 
--- `stock_lines::room::store_line` meets its contract. Assumes nothing.
 pub returns-then-store_cell : goal.returns-then-store_cell
 returns-then-store_cell c = let k = c.store_cell.ensures in
     let e = sym k.0 ∙ c.if-store_cell.true in

@@ -2,7 +2,6 @@
 use Rattle.std.proofs.Common.{◌-◌, ◌≤◌, rules}
 use Rattle.stock_picture.proofs.shapes.rings_to.Given as goal
 
--- `stock_picture::shapes::rings_to` meets its contract. Assumes nothing.
 abbrev pub invariant-loop-i : goal.invariant-loop-i
 invariant-loop-i l = l.i ≤ l.n
 

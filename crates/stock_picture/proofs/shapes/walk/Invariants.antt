@@ -2,7 +2,6 @@
 use Rattle.std.proofs.Common.{◌-◌, ◌≤◌, rules}
 use Rattle.stock_picture.proofs.shapes.walk.Given as goal
 
--- `stock_picture::shapes::walk` meets its contract. Assumes nothing.
 abbrev pub invariant-loop-k : goal.invariant-loop-k
 invariant-loop-k l = 0 ≤ l.k
 

@@ -2,6 +2,5 @@
 use Rattle.std.proofs.Common.{sym, arith, length-take-le, rules}
 use Rattle.test_side_by_side.proofs.many.front.Goals as goal
 
--- `test_side_by_side::many::front` meets its contract. Assumes nothing.
 pub slice_bounds-result-end : goal.slice_bounds-result-end
 slice_bounds-result-end c = sym (length-take-le _ _ (omega arith))

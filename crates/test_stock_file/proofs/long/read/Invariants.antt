@@ -2,7 +2,6 @@
 use Rattle.std.proofs.Common.{◌≡◌, ◌-◌, length, arith, rules}
 use Rattle.test_stock_file.proofs.long.read.Given as goal
 
--- `test_stock_file::long::read` meets its contract. Assumes nothing.
 abbrev pub invariant-loop-k : goal.invariant-loop-k
 invariant-loop-k l = (length l.cells ≡ length l.initial.cells) × (length l.rings ≡ length l.initial.rings)
 

@@ -2,7 +2,6 @@
 use Rattle.std.proofs.Common.{◌-◌, arith, rules}
 use Rattle.test_stock_file.proofs.long.sum_lines.Given as goal
 
--- `test_stock_file::long::sum_lines` meets its contract. Assumes nothing.
 abbrev pub invariant-loop-k : goal.invariant-loop-k
 invariant-loop-k l = Unit {0}
 

@@ -2,7 +2,6 @@
 use Rattle.std.proofs.Common.{◌-◌, length, arith, rules}
 use Rattle.test_stock_file.proofs.shown.sum.Given as goal
 
--- `test_stock_file::shown::sum` meets its contract. Assumes nothing.
 abbrev pub invariant-loop-i : goal.invariant-loop-i
 invariant-loop-i l = Unit {0}
 

@@ -2,7 +2,6 @@
 use Rattle.std.proofs.Common.{◌-◌, ◌≤◌, length, rules}
 use Rattle.test_vectors.proofs.answers.indices_are.Given as goal
 
--- `test_vectors::answers::indices_are` meets its contract. Assumes nothing.
 abbrev pub invariant-loop-j : goal.invariant-loop-j
 invariant-loop-j l = l.j ≤ length l.xs
 

@@ -2,7 +2,6 @@
 use Rattle.std.proofs.Common.{◌≡◌, ◌-◌, ◌≤◌, length, rules}
 use Rattle.test_vectors.proofs.given.fill_sizes.Given as goal
 
--- `test_vectors::given::fill_sizes` meets its contract. Assumes nothing.
 abbrev pub invariant-loop-j : goal.invariant-loop-j
 invariant-loop-j l = (l.j ≤ length l.initial.xs) × (length l.xs ≡ length l.initial.xs)
 

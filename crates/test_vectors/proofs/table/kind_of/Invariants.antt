@@ -2,7 +2,6 @@
 use Rattle.std.proofs.Common.{◌-◌, ◌≤◌, rules}
 use Rattle.test_vectors.proofs.table.kind_of.Given as goal
 
--- `test_vectors::table::kind_of` meets its contract. Assumes nothing.
 abbrev pub invariant-loop-k : goal.invariant-loop-k
 invariant-loop-k l = l.k ≤ 29
 

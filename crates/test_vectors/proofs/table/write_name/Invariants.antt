@@ -2,7 +2,6 @@
 use Rattle.std.proofs.Common.{◌-◌, ◌≤◌, rules}
 use Rattle.test_vectors.proofs.table.write_name.Given as goal
 
--- `test_vectors::table::write_name` meets its contract. Assumes nothing.
 abbrev pub invariant-loop-j : goal.invariant-loop-j
 invariant-loop-j l = l.j ≤ 16
 

@@ -3,7 +3,6 @@ use Rattle.text.proofs.Nan.{itself, other}
 use Rattle.std.proofs.Common.{rules}
 use Rattle.text.proofs.digits.bits.Goals as goal
 
--- `text::digits::bits` meets its contract. Assumes nothing.
 pub float_to_bits-result : goal.float_to_bits-result
 float_to_bits-result c = itself _ c.if-x.true
 

@@ -4,7 +4,6 @@ use Rattle.text.specs.Digits.{more}
 use Rattle.text.proofs.Spelling.{more-none, more-end, places-step}
 use Rattle.text.proofs.digits.places.Given as goal
 
--- `text::digits::places` meets its contract. Assumes nothing.
 abbrev pub invariant-loop-k : goal.invariant-loop-k
 invariant-loop-k l = (l.k ≤ 19) × (more 19 l.n ≡ l.k + more (19 - l.k) l.rest)
 

@@ -6,7 +6,6 @@ use Rattle.text.specs.Wrote.{line_room}
 use Rattle.text.proofs.Sets.{put_step, put-end, put_whole, put-none}
 use Rattle.text.proofs.digits.put.Given as goal
 
--- `text::digits::put` meets its contract. Assumes nothing.
 abbrev pub invariant-loop-j : goal.invariant-loop-j
 invariant-loop-j l = (l.at + length l.s ≤ line_room) × (l.j ≤ length l.s) × (l.o ≡ l.at + l.j) × (sets l.out l.o (drop l.j l.s) ≡ sets l.initial.out l.at l.s)
 

@@ -4,7 +4,6 @@ use Rattle.text.proofs.Sets.{room-found, put_whole, put-none}
 use Rattle.text.proofs.Spelling.{digits-length}
 use Rattle.text.proofs.digits.put_based.Goals as goal
 
--- `text::digits::put_based` meets its contract. Assumes nothing.
 pub spell-requires : goal.spell-requires
 spell-requires c = let a = c.args in
     omega (arith, room-found a.at a.k c.has_room.ensures c.if-has_room.true)

@@ -6,7 +6,6 @@ use Rattle.text.proofs.Spelling.{four-long}
 use Rattle.text.proofs.Chain.{four-put}
 use Rattle.text.proofs.digits.put_four.Goals as goal
 
--- `text::digits::put_four` meets its contract. Assumes nothing.
 pub returns-then-not-has_room : goal.returns-then-not-has_room
 returns-then-not-has_room c = let s = c.args in
     put-none 69 (four-long s.a s.b s.c s.d) (sym c.has_room.ensures ∙ not-true _ c.if-not-has_room.true-raw)

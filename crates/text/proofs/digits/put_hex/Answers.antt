@@ -6,7 +6,6 @@ use Rattle.text.proofs.Sets.{room-found, retext, byte-then, put_whole, put-none}
 use Rattle.text.proofs.Spelling.{field-long}
 use Rattle.text.proofs.digits.put_hex.Goals as goal
 
--- `text::digits::put_hex` meets its contract. Assumes nothing.
 pub returns-then-not-has_room : goal.returns-then-not-has_room
 returns-then-not-has_room c = put-none 17 (field-long c.args.x) (sym c.has_room.ensures ∙ not-true _ c.if-not-has_room.true-raw)
 

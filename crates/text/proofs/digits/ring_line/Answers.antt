@@ -5,7 +5,6 @@ use Rattle.text.proofs.Sets.{and_then, put-wrote}
 use Rattle.text.proofs.Spelling.{four-long}
 use Rattle.text.proofs.digits.ring_line.Goals as goal
 
--- `text::digits::ring_line` meets its contract. Assumes nothing.
 pub returns : goal.returns
 unfolding ring_line
 returns c = let s = c.args in

@@ -5,7 +5,6 @@ use Rattle.text.specs.Digits.{digits}
 use Rattle.text.proofs.Spelling.{digits-length, spell-step, spell-end}
 use Rattle.text.proofs.digits.spell.Given as goal
 
--- `text::digits::spell` meets its contract. Assumes nothing.
 abbrev pub invariant-loop-i : goal.invariant-loop-i
 invariant-loop-i l = (l.i ≤ l.k) × (sets l.out l.at (digits l.base l.i l.rest) ≡ sets l.initial.out l.at (digits l.base l.k l.n))
 

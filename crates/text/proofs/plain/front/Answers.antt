@@ -2,7 +2,6 @@
 use Rattle.std.proofs.Common.{sym, arith, length-take-le, take_all, rules}
 use Rattle.text.proofs.plain.front.Goals as goal
 
--- `text::plain::front` meets its contract. Assumes nothing.
 pub returns-then-bytes-n : goal.returns-then-bytes-n
 returns-then-bytes-n c = sym (take_all c.args.n c.args.bytes.now (omega arith))
 

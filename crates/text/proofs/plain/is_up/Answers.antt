@@ -2,7 +2,6 @@
 use Rattle.text.proofs.Nine.{up-other, up-half}
 use Rattle.text.proofs.plain.is_up.Goals as goal
 
--- `text::plain::is_up` meets its contract. Assumes nothing.
 pub returns-then-high : goal.returns-then-high
 returns-then-high c = up-other _ _ _ c.requires c.if-high.true
 

@@ -3,7 +3,6 @@ use Rattle.std.proofs.Common.{◌≡◌, ◌+◌, ◌-◌, ◌*◌, ◌^◌, ◌
 use Rattle.text.proofs.Nine.{digit-on, nine-most, digit-least, nine-fits, ten-times, power-on, nine-turns, rounded-up, rounded-down}
 use Rattle.text.proofs.plain.nine_digits.Given as goal
 
--- `text::plain::nine_digits` meets its contract. Assumes nothing.
 abbrev pub invariant-loop-k : goal.invariant-loop-k
 invariant-loop-k l = (l.h < 2 ^ 42) × (l.l < 2 ^ 42) × (l.k ≤ 9) × (l.n < 10 ^ l.k) × ((l.n * 2 ^ 42 + l.h) * 2 ^ 42 + l.l ≡ (l.high * 2 ^ 42 + l.low) * 10 ^ l.k)
 

@@ -2,7 +2,6 @@
 use Rattle.std.proofs.Common.{◌≡◌, ◌+◌, ◌-◌, ◌≤◌, length, rules}
 use Rattle.text.proofs.plain.put_decimals.Given as goal
 
--- `text::plain::put_decimals` meets its contract. Assumes nothing.
 abbrev pub invariant-loop-d : goal.invariant-loop-d
 invariant-loop-d l = (l.o ≤ length l.initial.out) × (l.at ≤ l.o + (l.at - length l.initial.out)) × (length l.out ≡ length l.initial.out)
 

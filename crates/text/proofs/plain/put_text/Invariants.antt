@@ -2,7 +2,6 @@
 use Rattle.std.proofs.Common.{◌≡◌, ◌+◌, ◌-◌, ◌≤◌, length, rules}
 use Rattle.text.proofs.plain.put_text.Given as goal
 
--- `text::plain::put_text` meets its contract. Assumes nothing.
 abbrev pub invariant-loop-j : goal.invariant-loop-j
 invariant-loop-j l = (l.j ≤ length l.bytes) × (l.o ≤ length l.initial.out) × (l.at ≤ l.o + (l.at - length l.initial.out)) × (length l.out ≡ length l.initial.out)
 

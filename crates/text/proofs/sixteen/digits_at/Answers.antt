@@ -4,9 +4,6 @@ use Rattle.text.specs.Hex.{hexes_to, value_to}
 use Rattle.text.proofs.Reading.{hexes-more, value-more, value_room, digits-read, digits-none}
 use Rattle.text.proofs.sixteen.digits_at.Goals as goal
 
-)
-
-
 pub loop-i-init : goal.loop-i-init
 unfolding hexes_to value_to
 loop-i-init c = (search rules, refl, refl)
@@ -22,6 +19,7 @@ loop-i-preserved c = (
   search rules,
   rw (hexes-more _ _ _ _ c.nibble-d.ensures, ← c.loop-i.invariant.1) refl,
   rw (value-more _ _ _ _ c.nibble-d.ensures, ← c.loop-i.invariant.2) refl,
+)
 
 pub returns-then-ok : goal.returns-then-ok
 returns-then-ok c = digits-read _ _ _ _ _ (omega arith) c.loop-i.invariant.1 c.loop-i.invariant.2 c.if-ok.true

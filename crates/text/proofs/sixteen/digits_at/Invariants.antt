@@ -4,7 +4,6 @@ use Rattle.text.specs.Hex.{hexes_to, value_to}
 use Rattle.text.proofs.Reading.{hexes-more, value-more, value_room, digits-read, digits-none}
 use Rattle.text.proofs.sixteen.digits_at.Given as goal
 
--- `text::sixteen::digits_at` meets its contract. The loop's invariant: what the digits passed say. Assumes nothing.
 abbrev pub invariant-loop-i : goal.invariant-loop-i
 invariant-loop-i l = (l.i ≤ l.k) × (l.ok ≡ hexes_to (drop l.at l.s) l.i) × (l.n ≡ value_to (drop l.at l.s) l.i)
 

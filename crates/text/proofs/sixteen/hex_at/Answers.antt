@@ -5,7 +5,6 @@ use Rattle.text.specs.declared.sixteen.Hex.TheVariants.{Of}
 use Rattle.text.proofs.Reading.{number_spelled, number-none, hex-none, hex-minus, hex-of}
 use Rattle.text.proofs.sixteen.hex_at.Goals as goal
 
--- `text::sixteen::hex_at` meets its contract. Assumes nothing.
 pub returns-in_default : goal.returns-in_default
 returns-in_default c = sym (hex-none _ (number-none 16 _ (sym c.digits_at.ensures ∙ c.in_default.is)))
 

@@ -3,7 +3,6 @@ use Rattle.std.proofs.Common.{◌∙◌, arith, rules}
 use Rattle.text.proofs.Reading.{nibble-is-low, nibble-is-high, nibble-first, nibble-between, nibble-last}
 use Rattle.text.proofs.sixteen.nibble.Goals as goal
 
--- `text::sixteen::nibble` meets its contract. Assumes nothing.
 pub returns-then-b-lt48 : goal.returns-then-b-lt48
 returns-then-b-lt48 c = nibble-first _ c.if-b-lt48.true
 

@@ -3,7 +3,6 @@ use Rattle.std.proofs.Common.{sym, ◌∙◌, arith, rules}
 use Rattle.text.proofs.Reading.{number_spelled, number-none, eight-other, eight-none, eight-of, eight-small}
 use Rattle.text.proofs.sixteen.read_eight.Goals as goal
 
--- `text::sixteen::read_eight` meets its contract. Assumes nothing.
 pub returns-then-s-ne8 : goal.returns-then-s-ne8
 returns-then-s-ne8 c = eight-other _ c.if-s-ne8.true
 

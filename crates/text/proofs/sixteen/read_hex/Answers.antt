@@ -3,7 +3,6 @@ use Rattle.std.proofs.Common.{◌∙◌, arith, rules}
 use Rattle.text.proofs.Reading.{tab-field, no-tab, field-short}
 use Rattle.text.proofs.sixteen.read_hex.Goals as goal
 
--- `text::sixteen::read_hex` meets its contract. Assumes nothing.
 pub returns-then-n-lt17 : goal.returns-then-n-lt17
 returns-then-n-lt17 c = let a = c.args in field-short a.s.now a.at (omega arith)
 

@@ -5,9 +5,8 @@ use Rattle.changes.specs.Change.{previewed_paper}
 use Rattle.turning.proofs.Given.{list-refused, list-given}
 use Rattle.turning.proofs.cuts_c.give_changes.Goals as goal
 
--- `turning::cuts_c::give_changes` meets its contract. Assumes nothing.
 pub returns-in-Refused : goal.returns-in-Refused
-returns-in-Refused c = let told = c.answer-1.given in list-refused _ told.0.0 _ _ _ _ (ap previewed_paper told.1) c.number.ensures
+returns-in-Refused c = list-refused _ c.in-Refused.r _ _ _ _ (ap previewed_paper c.in-Refused.is) c.number.ensures
 
 pub returns-in-Listed : goal.returns-in-Listed
-returns-in-Listed c = let told = c.answer-in-Listed-1.given in list-given _ told.0.0 _ _ _ (ap previewed_paper told.1)
+returns-in-Listed c = list-given _ c.in-Listed.list _ _ _ (ap previewed_paper c.in-Listed.is)

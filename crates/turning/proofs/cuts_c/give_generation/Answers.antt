@@ -7,9 +7,8 @@ use Rattle.turning.specs.Boundary.{generation_in}
 use Rattle.turning.proofs.Given.{place-refused, place-given}
 use Rattle.turning.proofs.cuts_c.give_generation.Goals as goal
 
--- `turning::cuts_c::give_generation` meets its contract. Assumes nothing.
 pub returns-in-Refused : goal.returns-in-Refused
-returns-in-Refused c = let told = c.answer-1.given in place-refused _ told.0.0 _ _ _ (ap (λ (x : Applied). generation_in (applied_paper x)) told.1) c.number.ensures
+returns-in-Refused c = place-refused _ c.in-Refused.r _ _ _ (ap (λ (x : Applied). generation_in (applied_paper x)) c.in-Refused.is) c.number.ensures
 
 pub returns-in-RefusedAt : goal.returns-in-RefusedAt
-returns-in-RefusedAt c = let told = c.answer-in-RefusedAt-1.given in place-given _ told.0.0 told.0.1.0 _ _ _ (ap (λ (x : Applied). generation_in (applied_paper x)) told.1) c.number-in-RefusedAt.ensures
+returns-in-RefusedAt c = place-given _ c.in-RefusedAt.r c.in-RefusedAt.k _ _ _ (ap (λ (x : Applied). generation_in (applied_paper x)) c.in-RefusedAt.is) c.number-in-RefusedAt.ensures

@@ -3,7 +3,6 @@ use borrow.Author.Rules.{rules}
 use Rattle.turning.proofs.Given.{gives-stock, same-commit, same-stock}
 use Rattle.turning.proofs.cuts_c.turning_apply.Goals as goal
 
--- `turning::cuts_c::turning_apply` meets its contract. Assumes nothing.
 pub returns : goal.returns
 returns c = gives-stock _ _ _ _ _ _ _ _ _ _ _ _ c.give_generation.ensures
     (same-commit _ _ _ _ _ _ _ _ _ _ _ (same-stock _ _ _ _ _ _ c.stock_of-stock.ensures c.spec_of-spec.ensures) c.list_of-list.ensures c.apply-answer.ensures)

@@ -3,6 +3,5 @@ use borrow.Author.Rules.{rules}
 use Rattle.turning.proofs.Given.{gives-changes, same-preview, same-stock}
 use Rattle.turning.proofs.cuts_c.turning_thread_cut.Goals as goal
 
--- `turning::cuts_c::turning_thread_cut` meets its contract. Assumes nothing.
 pub returns : goal.returns
 returns c = gives-changes _ _ _ _ _ _ _ _ _ _ _ _ _ _ c.give_changes.ensures (same-preview _ _ _ _ _ _ _ _ _ _ (same-stock _ _ _ _ _ _ c.stock_of-stock.ensures c.spec_of-spec.ensures) c.thread_cut-answer.ensures)

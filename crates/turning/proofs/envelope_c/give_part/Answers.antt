@@ -3,7 +3,6 @@ use borrow.Author.Rules.{rules}
 use native.Mathlib.Nat.{add-sub_cancel_left}
 use Rattle.turning.proofs.envelope_c.give_part.Goals as goal
 
--- `turning::envelope_c::give_part` meets its contract. Assumes nothing.
 pub returns-in-Refused : goal.returns-in-Refused
 returns-in-Refused c = let e = c.in-Refused.is in
     record { code = search (rules, e); one = search (rules, e); other = search (rules, e) }

@@ -7,7 +7,6 @@ use mir.Val.{SFits, to_z, of_z}
 use mir.ValLaws.{to_z-of_z}
 use Rattle.turning.proofs.envelope_c.put_order.Goals as goal
 
--- `turning::envelope_c::put_order` meets its contract. Assumes nothing.
 pub overflow_cast-order : goal.overflow_cast-order
 overflow_cast-order c = subst (SFits w32) (sym (to_z-of_z w8 c.args.o c.ranges.o)) (record { sfits = lt_trans c.ranges.o.sfits (lit< tt) })
 

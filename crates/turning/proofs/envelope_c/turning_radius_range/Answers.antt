@@ -3,6 +3,5 @@ use borrow.Author.Rules.{rules}
 use Rattle.turning.proofs.Given.{gives-found-two}
 use Rattle.turning.proofs.envelope_c.turning_radius_range.Goals as goal
 
--- `turning::envelope_c::turning_radius_range` meets its contract. Assumes nothing.
 pub returns : goal.returns
 returns c = gives-found-two _ _ _ _ _ _ _ _ _ _ _ c.radius_range.ensures c.give_range.ensures

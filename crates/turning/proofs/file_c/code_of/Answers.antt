@@ -4,7 +4,6 @@ use borrow.Author.Rules.{rules}
 use Rattle.floats.specs.Pick.{pick_true, pick-false}
 use Rattle.turning.proofs.file_c.code_of.Goals as goal
 
--- `turning::file_c::code_of` meets its contract. Assumes nothing.
 pub returns-then-refused : goal.returns-then-refused
 returns-then-refused c = c.number.ensures ∙ sym (pick_true _ _ _ c.if-refused.true)
 

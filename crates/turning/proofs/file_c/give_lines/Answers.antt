@@ -5,6 +5,5 @@ use Rattle.stock_file.specs.Write.{lines_paper}
 use Rattle.turning.proofs.Given.{gives-refused}
 use Rattle.turning.proofs.file_c.give_lines.Goals as goal
 
--- `turning::file_c::give_lines` meets its contract. Assumes nothing.
 pub returns-in-Refused : goal.returns-in-Refused
-returns-in-Refused c = let told = c.answer-1.given in gives-refused _ told.0.0 _ _ (ap lines_paper told.1) c.number.ensures
+returns-in-Refused c = gives-refused _ c.in-Refused.r _ _ (ap lines_paper c.in-Refused.is) c.number.ensures

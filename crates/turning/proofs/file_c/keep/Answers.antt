@@ -3,6 +3,5 @@ use borrow.Author.Rules.{rules}
 use Rattle.turning.proofs.Filing.{kept-reading}
 use Rattle.turning.proofs.file_c.keep.Goals as goal
 
--- `turning::file_c::keep` meets its contract. Assumes nothing.
 pub returns : goal.returns
 returns c = let a = c.args in kept-reading a.reading a.held a.words.now a.bar.now _ c.code_of.ensures

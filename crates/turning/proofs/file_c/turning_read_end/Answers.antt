@@ -3,7 +3,6 @@ use borrow.Author.Rules.{rules}
 use Rattle.turning.proofs.Filing.{gives-kept, told_is}
 use Rattle.turning.proofs.file_c.turning_read_end.Goals as goal
 
--- `turning::file_c::turning_read_end` meets its contract. Assumes nothing.
 pub returns : goal.returns
 returns c = let a = c.args in
     gives-kept _ _ _ _ _ _ _ _ _ _ _

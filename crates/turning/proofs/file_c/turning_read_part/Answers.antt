@@ -4,7 +4,6 @@ use Rattle.turning.specs.Files.{flat_of}
 use Rattle.turning.proofs.Filing.{part-refused, part-taken}
 use Rattle.turning.proofs.file_c.turning_read_part.Goals as goal
 
--- `turning::file_c::turning_read_part` meets its contract. Assumes nothing.
 pub returns-then-reading : goal.returns-then-reading
 returns-then-reading c = let a = c.args in
     part-refused (flat_of a.state.now a.bar.now a.cells.now a.rings.now a.line.now) a.bytes.now _ _ c.reading_of-reading.ensures c.if-reading.true c.code_of.ensures

@@ -7,7 +7,6 @@ use Rattle.stock_file.specs.Write.{line_for}
 use Rattle.turning.proofs.Filing.{gives-file-line, same-file-line}
 use Rattle.turning.proofs.file_c.turning_stock_line.Goals as goal
 
--- `turning::file_c::turning_stock_line` meets its contract. Assumes nothing.
 pub returns : goal.returns
 returns c = let a = c.args in
     let same = c.stock_of-stock.ensures ∙ ap (λ (s : TurnStockSpec). stock_from s a.edition a.rings-count 0) c.spec_of-spec.ensures in

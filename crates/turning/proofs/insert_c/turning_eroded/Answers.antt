@@ -3,6 +3,5 @@ use borrow.Author.Rules.{rules}
 use Rattle.turning.proofs.Given.{gives_found}
 use Rattle.turning.proofs.insert_c.turning_eroded.Goals as goal
 
--- `turning::insert_c::turning_eroded` meets its contract. Assumes nothing.
 pub returns : goal.returns
 returns c = gives_found _ _ _ _ _ _ _ c.eroded.ensures c.give_radius.ensures

@@ -3,6 +3,5 @@ use borrow.Author.Rules.{rules}
 use Rattle.turning.proofs.Keeping.{end_is}
 use Rattle.turning.proofs.job_c.end_of.Goals as goal
 
--- `turning::job_c::end_of` meets its contract. Assumes nothing.
 pub returns : goal.returns
 returns c = end_is c.args.words.now _ _ _ c.run_of.ensures c.held_in.ensures c.finish.ensures

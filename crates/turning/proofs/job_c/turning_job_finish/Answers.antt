@@ -3,7 +3,6 @@ use borrow.Author.Rules.{rules}
 use Rattle.turning.proofs.Keeping.{ends-well, ends-refused}
 use Rattle.turning.proofs.job_c.turning_job_finish.Goals as goal
 
--- `turning::job_c::turning_job_finish` meets its contract. Assumes nothing.
 pub returns-then-end-eq0 : goal.returns-then-end-eq0
 returns-then-end-eq0 c = ends-well c.args.state.now _ c.end_of-end.ensures _ c.if-end-eq0.true
 

@@ -3,6 +3,5 @@ use borrow.Author.Rules.{rules}
 use Rattle.turning.proofs.Given.{gives}
 use Rattle.turning.proofs.numbers_c.turning_length.Goals as goal
 
--- `turning::numbers_c::turning_length` meets its contract. Assumes nothing.
 pub returns : goal.returns
 returns c = gives _ _ _ _ _ c.length.ensures c.give.ensures

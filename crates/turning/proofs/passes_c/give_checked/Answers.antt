@@ -5,15 +5,14 @@ use Rattle.passes.specs.Check.{checked_paper}
 use Rattle.turning.proofs.Passing.{said-yes, said-cut, said-bin, said-refused}
 use Rattle.turning.proofs.passes_c.give_checked.Goals as goal
 
--- `turning::passes_c::give_checked` meets its contract. Assumes nothing.
 pub returns-in-Refused : goal.returns-in-Refused
-returns-in-Refused c = let told = c.answer-1.given in said-refused _ _ _ _ _ _ told.0.0 _ (ap checked_paper told.1) c.number.ensures
+returns-in-Refused c = said-refused _ _ _ _ _ _ c.in-Refused.r _ (ap checked_paper c.in-Refused.is) c.number.ensures
 
 pub returns-in-Yes : goal.returns-in-Yes
-returns-in-Yes c = let told = c.answer-in-Yes-1.given in said-yes _ _ _ _ _ _ told.0.0 (ap checked_paper told.1)
+returns-in-Yes c = said-yes _ _ _ _ _ _ c.in-Yes.k (ap checked_paper c.in-Yes.is)
 
 pub returns-in-CutFails : goal.returns-in-CutFails
-returns-in-CutFails c = let told = c.answer-in-CutFails-1.given in said-cut _ _ _ _ _ _ told.0.0 _ told.0.1.0 (ap checked_paper told.1) c.number-in-CutFails.ensures
+returns-in-CutFails c = said-cut _ _ _ _ _ _ c.in-CutFails.k _ c.in-CutFails.r (ap checked_paper c.in-CutFails.is) c.number-in-CutFails.ensures
 
 pub returns-in-BinFails : goal.returns-in-BinFails
-returns-in-BinFails c = let told = c.answer-in-BinFails-1.given in said-bin _ _ _ _ _ _ told.0.0 (ap checked_paper told.1)
+returns-in-BinFails c = said-bin _ _ _ _ _ _ c.in-BinFails.i (ap checked_paper c.in-BinFails.is)

@@ -8,7 +8,6 @@ use Rattle.turning.proofs.Given.{same-stock}
 use Rattle.turning.proofs.Passing.{gives-checked, same_check}
 use Rattle.turning.proofs.passes_c.turning_check_passes.Goals as goal
 
--- `turning::passes_c::turning_check_passes` meets its contract. Assumes nothing.
 pub returns : goal.returns
 returns c = let a = c.args in
     gives-checked _ _ _ _ _ _ _ _ _ _ _ _ _ _ _ _ _ c.give_checked.ensures

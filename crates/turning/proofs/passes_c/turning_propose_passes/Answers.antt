@@ -6,7 +6,6 @@ use Rattle.passes.specs.Propose.{pass_room, propose_of}
 use Rattle.turning.proofs.Passing.{gives-passes, same-passes}
 use Rattle.turning.proofs.passes_c.turning_propose_passes.Goals as goal
 
--- `turning::passes_c::turning_propose_passes` meets its contract. Assumes nothing.
 pub returns : goal.returns
 returns c = let a = c.args in
     gives-passes _ _ _ _ _ _ _ _ _ _ _ c.give_passes.ensures

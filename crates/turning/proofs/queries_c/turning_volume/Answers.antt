@@ -6,7 +6,6 @@ use Rattle.queries.specs.Volume.{volume_of}
 use Rattle.turning.proofs.Given.{gives-two}
 use Rattle.turning.proofs.queries_c.turning_volume.Goals as goal
 
--- `turning::queries_c::turning_volume` meets its contract. Assumes nothing.
 pub returns : goal.returns
 returns c = let a = c.args in
     gives-two _ _ _ _ _ _ _ _ _ (c.volume-answer.ensures ∙ ap (λ (x : TurnStockSpec). volume_of x a.cells.now a.rings.now a.rings-count) c.spec_of-spec.ensures) c.give_volumes.ensures

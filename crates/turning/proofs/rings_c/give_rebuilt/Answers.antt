@@ -5,12 +5,11 @@ use Rattle.moves.specs.Move.{rebuilt_paper}
 use Rattle.turning.proofs.Given.{two-answered, two-refused, two-given}
 use Rattle.turning.proofs.rings_c.give_rebuilt.Goals as goal
 
--- `turning::rings_c::give_rebuilt` meets its contract. Assumes nothing.
 pub returns-in-Refused : goal.returns-in-Refused
-returns-in-Refused c = let told = c.answer-1.given in two-refused _ _ _ told.0.0 _ _ _ _ (ap rebuilt_paper told.1) c.number.ensures
+returns-in-Refused c = two-refused _ _ _ c.in-Refused.r _ _ _ _ (ap rebuilt_paper c.in-Refused.is) c.number.ensures
 
 pub returns-in-RefusedAt : goal.returns-in-RefusedAt
-returns-in-RefusedAt c = let told = c.answer-in-RefusedAt-1.given in two-given _ _ _ told.0.0 told.0.1.0 _ _ _ _ (ap rebuilt_paper told.1) c.number-in-RefusedAt.ensures
+returns-in-RefusedAt c = two-given _ _ _ c.in-RefusedAt.r c.in-RefusedAt.k _ _ _ _ (ap rebuilt_paper c.in-RefusedAt.is) c.number-in-RefusedAt.ensures
 
 pub returns-in-Stock : goal.returns-in-Stock
-returns-in-Stock c = let told = c.answer-in-Stock-1.given in two-answered _ _ _ told.0.0 _ _ _ (ap rebuilt_paper told.1)
+returns-in-Stock c = two-answered _ _ _ c.in-Stock.kept _ _ _ (ap rebuilt_paper c.in-Stock.is)

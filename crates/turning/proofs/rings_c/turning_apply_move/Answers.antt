@@ -6,7 +6,6 @@ use Rattle.moves.specs.Move.{move_of}
 use Rattle.turning.proofs.Given.{gives_move, same_move, same-stock}
 use Rattle.turning.proofs.rings_c.turning_apply_move.Goals as goal
 
--- `turning::rings_c::turning_apply_move` meets its contract. Assumes nothing.
 pub returns : goal.returns
 returns c = let a = c.args in
     gives_move _ _ _ _ _ _ _ _ _ _ a.removed.now _ _ _ _ _ _ _ _ c.give_moved.ensures

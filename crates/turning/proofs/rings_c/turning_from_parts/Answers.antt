@@ -3,7 +3,5 @@ use borrow.Author.Rules.{rules}
 use Rattle.turning.proofs.Given.{gives-store, same_store}
 use Rattle.turning.proofs.rings_c.turning_from_parts.Goals as goal
 
--- `turning::rings_c::turning_from_parts` meets its contract. Assumes nothing.
 pub returns : goal.returns
-returns c = let a = c.args in
-    gives-store _ _ _ _ _ _ _ _ _ _ a.given.now _ _ _ _ _ _ _ _ c.give_rebuilt.ensures (same_store _ _ _ a.cells.now a.given.now _ _ _ _ _ _ _ c.spec_of-spec.ensures c.from_parts-answer.ensures)
+returns c = gives-store _ _ _ _ _ _ _ _ _ _ c.args.given.now _ _ _ _ _ _ _ _ c.give_rebuilt.ensures (same_store _ _ _ c.args.cells.now c.args.given.now _ _ _ _ _ _ _ c.spec_of-spec.ensures c.from_parts-answer.ensures)

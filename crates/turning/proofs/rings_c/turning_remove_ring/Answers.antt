@@ -7,7 +7,6 @@ use Rattle.rings.specs.Tests.{ring_tests}
 use Rattle.turning.proofs.Given.{gives-rings, same-ring, same-stock}
 use Rattle.turning.proofs.rings_c.turning_remove_ring.Goals as goal
 
--- `turning::rings_c::turning_remove_ring` meets its contract. Assumes nothing.
 pub returns : goal.returns
 returns c = let a = c.args in
     gives-rings _ _ _ _ _ _ _ _ _ _ _ _ _ _ _ c.give_removed.ensures

@@ -7,6 +7,5 @@ use Rattle.turning.specs.Boundary.{generation_in}
 use Rattle.turning.proofs.Given.{gives-refused}
 use Rattle.turning.proofs.stock_c.give_new.Goals as goal
 
--- `turning::stock_c::give_new` meets its contract. Assumes nothing.
 pub returns-in-Refused : goal.returns-in-Refused
-returns-in-Refused c = let told = c.answer-1.given in gives-refused _ told.0.0 _ _ (ap (λ (x : Made). generation_in (made_paper x)) told.1) c.number.ensures
+returns-in-Refused c = gives-refused _ c.in-Refused.r _ _ (ap (λ (x : Made). generation_in (made_paper x)) c.in-Refused.is) c.number.ensures

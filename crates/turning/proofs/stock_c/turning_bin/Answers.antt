@@ -6,6 +6,5 @@ use Rattle.stock.specs.Bin.{bin_for}
 use Rattle.turning.proofs.Given.{gives_bin}
 use Rattle.turning.proofs.stock_c.turning_bin.Goals as goal
 
--- `turning::stock_c::turning_bin` meets its contract. Assumes nothing.
 pub returns : goal.returns
 returns c = gives_bin _ _ _ _ _ _ _ (c.bin.ensures ∙ ap (λ (x : TurnStockSpec). bin_for x c.args.i) c.spec_of-spec.ensures) c.give_bin.ensures

@@ -3,6 +3,5 @@ use borrow.Author.Rules.{rules}
 use Rattle.turning.proofs.Blocks.{gives-blocks, same_blocks}
 use Rattle.turning.proofs.stock_c.turning_renew.Goals as goal
 
--- `turning::stock_c::turning_renew` meets its contract. Assumes nothing.
 pub returns : goal.returns
 returns c = same_blocks _ _ _ _ _ _ c.spec_of-spec.ensures (gives-blocks _ _ _ _ _ _ c.number_in.ensures c.renew.ensures)

@@ -5,7 +5,6 @@ use Rattle.refusals.specs.Paper.{papers}
 use Rattle.stock.specs.Spec.{counted_paper}
 use Rattle.turning.proofs.sweeps_c.no_side.Goals as goal
 
--- `turning::sweeps_c::no_side` meets its contract. Assumes nothing.
 pub returns-in-Refused : goal.returns-in-Refused
 returns-in-Refused c = search (papers, ← c.cells_fit-counted.ensures, c.in-Refused.is)
 

@@ -5,7 +5,6 @@ use Rattle.changes.proofs.Proposals.{same-listing}
 use Rattle.turning.proofs.Given.{by-outer, by-inner, by-none, no-list}
 use Rattle.turning.proofs.sweeps_c.nose_by.Goals as goal
 
--- `turning::sweeps_c::nose_by` meets its contract. Assumes nothing.
 pub returns-then-side-eq0 : goal.returns-then-side-eq0
 returns-then-side-eq0 c = same-listing _ _ _ _ _ _ _ _ (by-outer _ _ _ _ c.if-side-eq0.true) c.preview.ensures
 

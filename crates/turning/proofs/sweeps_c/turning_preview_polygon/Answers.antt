@@ -8,7 +8,6 @@ use Rattle.turning.specs.Boundary.{by_side}
 use Rattle.turning.proofs.Given.{gives-changes, same_by, same-stock}
 use Rattle.turning.proofs.sweeps_c.turning_preview_polygon.Goals as goal
 
--- `turning::sweeps_c::turning_preview_polygon` meets its contract. Assumes nothing.
 pub returns : goal.returns
 returns c = let a = c.args in
     gives-changes _ _ _ _ _ _ _ _ _ _ _ _ _ _ c.give_changes.ensures
