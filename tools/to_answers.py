@@ -374,7 +374,7 @@ def convert(root, crate, names, folder):
             ps = lam.group(1).split()
             more = [x for x in ps[1:] if not (new.endswith("requires") or "-requires-" in new)]
             var, body = ps[0], lam.group(2)
-            if body.strip() in ("tt", "search rules", "(tt, tt)"):
+            if body.strip() in ("tt", "search rules", "(tt, tt)") and not (unf and body.strip() == "tt" and new.startswith("returns")):
                 continue
             if "search" not in body and "grind" not in body and "simp" not in body:
                 pass

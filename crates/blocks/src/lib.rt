@@ -6,6 +6,8 @@
 // greatest alone. A range is then its whole blocks' numbers, and the cells of at most 63 bins on
 // either side. Whoever writes cells renews the numbers: a number that missed one bin would set a stop
 // into metal.
+#![tactic(auto)]
+
 ghost use Rattle.std.specs.Prelude.{◌≡◌, map, ◌+◌, ◌*◌, ◌-◌, ◌≤◌, ◌<◌, length, take};
 ghost use Rattle.refusals.specs.Paper.{answers};
 ghost use Rattle.refusals.specs.Limits.{block_bins};

@@ -1,10 +1,7 @@
-pub mod Lists
-pub mod Again
 pub mod Once
 pub mod Reading
 pub mod Shown
 pub mod Rooms
-pub mod Arrays
 pub mod Renewed
 pub mod Taking
 pub mod Agree

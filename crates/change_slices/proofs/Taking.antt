@@ -6,7 +6,7 @@ use Prim.Native.Nat.{ℕ, ◌/◌}
 use lib.ListN.{length}
 use lib.Ieee.{Float}
 use Rattle.refusals.specs.Paper.{Paper, Reason, answers, refuses, onward}
-use Rattle.floats.specs.Pick.{pick, pick_true, pick-false}
+use Rattle.floats.specs.Pick.{pick}
 use Rattle.stock.specs.declared.TurnStockSpec.{TurnStockSpec}
 use Rattle.stock.specs.declared.TurnChange.{TurnChange}
 use Rattle.stock.specs.declared.TurnStock.{TurnStock}
@@ -27,7 +27,7 @@ use Rattle.moves.specs.Move.{Left, RingsLeft, movable_of, rings_moved, taken_of,
 use Rattle.moves.proofs.Answered.{answered}
 use Rattle.moves.proofs.Told.{told-where, moved-rings}
 use Rattle.change_slices.specs.Move.{move_list_of}
-use Rattle.change_slices.specs.Kept.{renewed_over, WrittenKept, Renewable, taken_for, Takes, TakesTold}
+use Rattle.change_slices.specs.Kept.{renewed_over, WrittenKept, taken_for, Takes, TakesTold}
 use Rattle.change_slices.proofs.Renewed.{cells_in, renewable}
 
 -- ---- rings that are taken

@@ -5,6 +5,8 @@
 // every after-cell, and then the kept numbers of the blocks in which the records' bins lie. A tool's
 // changes are listed in flat lists with room for every cell, and what they hold is read into the lent
 // records one by one.
+#![tactic(auto)]
+
 ghost use Rattle.std.specs.Prelude.{◌≡◌};
 ghost use Rattle.stock.specs.Cell.{put_cell};
 ghost use Rattle.changes.specs.Commit.{pass_all, passing_paper, commit_of, put_all, CommitsKept};

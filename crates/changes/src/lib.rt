@@ -10,6 +10,8 @@
 // begins, goes a step for each change, and comes out. Then every after-cell is written, the kept numbers
 // of the blocks in which they lie are worked out again, and the generation rises by one, also with no
 // changes.
+#![tactic(auto)]
+
 ghost use Rattle.std.specs.Prelude.{◌≡◌, true, ◌+◌, ◌*◌, ◌≤◌, ◌<◌, min, length};
 ghost use Rattle.refusals.specs.Limits.{last_place};
 ghost use Rattle.refusals.specs.Paper.{answers, place_or, placed, onward};

@@ -1,5 +1,7 @@
 // Turns a profile on standard input into lines of a job on standard output, one for each of its chords,
 // or tells the one refusal.
+#![tactic(auto)]
+
 use streams::GATHERED;
 
 fn main(rt: HostRuntime) {

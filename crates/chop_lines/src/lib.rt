@@ -4,6 +4,8 @@
 // out is a `line` of a job for each chord of the profile (crate `profile`), or the one refusal, which is
 // decided before the first byte. The profile is the path of the nose's centre. Bytes are taken as they
 // come, to the end of the input; a read that fails cuts the input off inside its next line.
+#![tactic(auto)]
+
 mod number;
 mod scan;
 mod spell;

@@ -137,3 +137,4 @@
 // metal that it does not cut: the demands are about the rules, and this is what the rules say. Crate
 // `reach` says in `proofs/Forms` what a cut and the closed form are for each side in least and
 // greatest, and in `proofs/Deepest` what a deepest bound is.
+#![tactic(auto)]

@@ -73,7 +73,7 @@ module _ {A : Type 0} where
   points-loop f (u ∷ []) z = refl
   points-loop f (u ∷ v ∷ ps) z =
       let e : count (u ∷ v ∷ ps) ≡ suc (count ps) = omega arith in
-      rw e (points-loop f ps (f z (point_at (u ∷ v ∷ ps) 0)) ∙ (alike _ _ _ 0 0 (count ps) (λ j l r. ap (f r) (sym (point-next u v ps (0 + j)))) ∙ sym (first_step (λ r i. f r (point_at (u ∷ v ∷ ps) i)) z (count ps))))
+      rw e (points-loop f ps (f z (point_at (u ∷ v ∷ ps) 0)) ∙ (alike (λ r i. f r (point_at ps i)) (λ r i. f r (point_at (u ∷ v ∷ ps) (suc i))) _ 0 0 (count ps) (λ j l r. ap (f r) (sym (point-next u v ps (0 + j)))) ∙ sym (first_step (λ r i. f r (point_at (u ∷ v ∷ ps) i)) z (count ps))))
 
   pub segments-loop : (f : A → Segment → A) (ps : List Float) (z : A) → foldl f z (segments_of ps) ≡ loop (λ r i. f r (segment ps i)) z 0 (count ps - 1)
   unfolding segments_of neighbours points_of loop u_at v_at
@@ -83,7 +83,7 @@ module _ {A : Type 0} where
   segments-loop f (u ∷ v ∷ w ∷ []) z = refl
   segments-loop f (u ∷ v ∷ w ∷ x ∷ ps) z =
       let e : count (u ∷ v ∷ w ∷ x ∷ ps) - 1 ≡ suc (count (w ∷ x ∷ ps) - 1) = omega arith in
-      rw e (segments-loop f (w ∷ x ∷ ps) (f z (segment (u ∷ v ∷ w ∷ x ∷ ps) 0)) ∙ (alike _ _ _ 0 0 (count (w ∷ x ∷ ps) - 1) (λ j l r. ap (f r) (segment-next j)) ∙ sym (first_step (λ r i. f r (segment (u ∷ v ∷ w ∷ x ∷ ps) i)) z (count (w ∷ x ∷ ps) - 1))))
+      rw e (segments-loop f (w ∷ x ∷ ps) (f z (segment (u ∷ v ∷ w ∷ x ∷ ps) 0)) ∙ (alike (λ r i. f r (segment (w ∷ x ∷ ps) i)) (λ r i. f r (segment (u ∷ v ∷ w ∷ x ∷ ps) (suc i))) _ 0 0 (count (w ∷ x ∷ ps) - 1) (λ j l r. ap (f r) (segment-next j)) ∙ sym (first_step (λ r i. f r (segment (u ∷ v ∷ w ∷ x ∷ ps) i)) z (count (w ∷ x ∷ ps) - 1))))
     where
       segment-next : (j : ℕ) → segment (w ∷ x ∷ ps) (0 + j) ≡ segment (u ∷ v ∷ w ∷ x ∷ ps) (suc (0 + j))
       segment-next j =

@@ -1,5 +1,5 @@
 -- The envelope of a profile: a chain of points (u, v), lent flat as u, v, u, v, .., its order, the part of it between two bounds, and its radius over u. Assumes nothing.
-use Rattle.std.specs.Prelude.{Bool, true, ◌&&◌, ◌||◌, List, [], ℕ, zero, suc, ◌+◌, ◌*◌, ◌/◌, ◌%◌, ◌-◌, min, leb, eqb, length, get_or, take, drop, ℤ, pos, negsuc, Float}
+use Rattle.std.specs.Prelude.{Bool, ◌&&◌, ◌||◌, List, [], ℕ, zero, suc, ◌+◌, ◌*◌, ◌/◌, ◌%◌, ◌-◌, min, leb, eqb, length, get_or, take, drop, ℤ, pos, negsuc, Float}
 use Rattle.std.proofs.Math.Option.{Option, none, some}
 use Rattle.std.specs.Float.{nan}
 use Rattle.std.specs.Float.Ieee.{le, lt, eq}

@@ -6,6 +6,8 @@
 // them in any order (Lattice, Folds), what rounding does to an order and to a size (Rounded, Signed,
 // Within, Ratio), which results are finite (FiniteTest) and which are not -0.0 (Exact, Zeros), and a Bool
 // beside what it says (Bools).
+#![tactic(auto)]
+
 ghost use Rattle.std.specs.Prelude.{◌≡◌};
 ghost use Rattle.floats.specs.Numbers.{least_of, greatest_of, size_of, minus_zero, clean_of, usable};
 

@@ -10,6 +10,8 @@
 //
 // Both go by the same steps, `Greatest` for excess and `Least` for penetration: samples over a window
 // (`samples`), the polygon's edges (`edges`), and the candidates where they are compared (`candidates`).
+#![tactic(auto)]
+
 ghost use Rattle.std.specs.Prelude.{◌≡◌, true};
 ghost use Rattle.envelope.specs.Envelope.{count, points_good, order_of, radius_at_paper};
 ghost use Rattle.envelope.specs.Halving.{radius_of};

@@ -2,6 +2,8 @@
 // generation, or the one refusal. Standard error gets that refusal in words.
 //
 // The job in `stdin` is longer than one read of 65,536 bytes, and lines of it lie over the seams.
+#![tactic(auto)]
+
 use job_run::{CELL_NUMBERS, LINE_LIMIT, RING_NUMBERS};
 
 fn main(rt: HostRuntime) {

@@ -1,4 +1,6 @@
 // A job's answer, line by line: its cells, its rings and its generation, or the one refusal.
+#![tactic(auto)]
+
 ghost use Rattle.std.specs.Prelude.{[], get_or};
 ghost use Rattle.text.specs.Wrote.{WritesLine};
 ghost use Rattle.job_answer.specs.Lines.{cell_line, gen_line, refused_line};

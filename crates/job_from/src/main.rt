@@ -5,6 +5,8 @@
 // stock is kept under EDITION, 8 digits, and with none under the edition that FROM has, 00000000 for a new
 // one. Standard output is that of `job`, but for a third argument that is no edition, for a stock file that
 // is refused and for a stock that could not be kept. The job is read to its end before anything is written.
+#![tactic(auto)]
+
 use edition::Asked;
 use job_run::{CELL_NUMBERS, LINE_LIMIT, RING_NUMBERS, Run};
 use job_streams::Ended;

@@ -2,6 +2,8 @@
 //
 // The number is the answer, and the words promise nothing: they look at the refused line again, and
 // say what in it the number means.
+#![tactic(auto)]
+
 ghost use Rattle.std.specs.Prelude.{◌≤◌, length};
 
 use job_run::LINE_LIMIT;

@@ -2,13 +2,15 @@
 //
 // Lines are carried out one by one, to the first refusal. Only the unfinished line is held over, in
 // lent memory with room for it, so that a job has no size limit.
+#![tactic(auto)]
+
 mod line;
 
 ghost use Rattle.std.specs.Prelude.{◌≡◌, ◌*◌, ◌≤◌, [], length, take, slice_index_or, slice_set};
 ghost use mathlib.Core.List.{foldl};
 ghost use Rattle.job_run.specs.Job.{Full};
 ghost use Rattle.text.specs.Wrote.{WritesLine};
-ghost use Rattle.job_run.specs.Run.{fresh_run, resumed_run, is_empty, refusing, on_line, byte_on, finish_of, output_of, most_lines, state_found, state_left, as_found, as_left, TakesPart};
+ghost use Rattle.job_run.specs.Run.{fresh_run, resumed_run, is_empty, refusing, on_line, byte_on, finish_of, output_of, most_lines, state, state_found, state_left, as_found, as_left, TakesPart};
 
 use job_words::MAX_CELLS;
 pub use line::{Carried, INDICES, Job, LINE_LIMIT, NUMBERS, carry_out};
@@ -257,8 +259,8 @@ pub fn output_line(
     rings: &[f64; RING_NUMBERS],
     k: usize,
 ) -> usize
-    ensures writes_line { WritesLine out (slice_index_or (output_of (state_found run cells rings)) k []) result }
-    ensures rings_len_bound { length (output_of (state_found run cells rings)) ≤ most_lines }
+    ensures writes_line { WritesLine out (slice_index_or (output_of (state run cells.now rings.now)) k []) result }
+    ensures rings_len_bound { length (output_of (state run cells.now rings.now)) ≤ most_lines }
 {
     let job = run.job;
     job_answer::answer_line(

@@ -3,6 +3,8 @@
 // Bytes are taken as they come, to the end of the input, also after a refused line, so that whoever
 // writes them is not stopped. A read that fails cuts the input off inside its next line: it is refused
 // there, and never answered as if it were whole.
+#![tactic(auto)]
+
 ghost use Rattle.std.specs.Prelude.{◌≡◌, ◌≤◌};
 ghost use Rattle.streams.specs.Moves.{Reads};
 ghost use Rattle.job_run.specs.Run.{state, output_of};

@@ -3,6 +3,8 @@
 // A line's fields are parted by tabs. A line that is not of the form of its kind is bad; an arc is
 // one whatever follows its first field. A number is one of whole micrometres, read as millimetres
 // (`number`), and is read once.
+#![tactic(auto)]
+
 mod number;
 
 ghost use Rattle.std.specs.Prelude.{◌≡◌, ◌+◌, ◌<◌, ◌≤◌, length};

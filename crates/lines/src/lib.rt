@@ -1,3 +1,5 @@
+#![tactic(auto)]
+
 // Files of lines, read as their bytes come, cut anywhere.
 //
 // There is no code here. `specs/File` says what a whole file does, line by line: what a line does to

@@ -6,6 +6,8 @@
 // that is not empty within the stock. Parts are cells and rings that were kept elsewhere: the rings
 // are taken into an empty store, and the generation is 0 again. Both leave the kept numbers of the cells
 // as they are then.
+#![tactic(auto)]
+
 ghost use Rattle.std.specs.Prelude.{◌≡◌, ◌≤◌, length};
 ghost use Rattle.floats.specs.Pick.{pick};
 ghost use Rattle.changes.specs.Change.{room_of, changes_from};

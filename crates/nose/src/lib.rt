@@ -10,6 +10,8 @@
 //
 // What of a segment no bin changes is worked out once, in its track; what a bin's line needs of a
 // track is a sample, and two samples make a step.
+#![tactic(auto)]
+
 ghost use Rattle.std.specs.Prelude.{◌≡◌, true, ◌+◌, ◌*◌, ◌≤◌, length, Float};
 ghost use Rattle.reach.specs.Low.{low_paper, lower_of, swept_paper};
 ghost use Rattle.nose.specs.Capsule.{facing, shifted, normal_of, least_point, capsule_lowest};

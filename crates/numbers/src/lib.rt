@@ -6,6 +6,8 @@
 // of the whole numbers beside the guess, and where it says so of neither, the root is taken one binary
 // digit at a time. Its definition speaks of squares of whole numbers alone, and of all values of f64
 // the answer is the nearest one.
+#![tactic(auto)]
+
 ghost use Rattle.std.specs.Prelude.{◌≡◌, ◌*◌, ◌^◌, ◌<◌, ◌≤◌, min, max, true};
 ghost use Rattle.numbers.specs.Root.{root_of, rooted_paper};
 ghost use Rattle.numbers.specs.RootBits.{nearest_root, aligned_root, Pattern};

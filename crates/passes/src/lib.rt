@@ -3,6 +3,8 @@
 // A drawing tool proposes outside cuts. The check says yes exactly when each of them is accepted in turn
 // by preview and commit, and every bin is then within its target; else it names the first cut or the
 // first bin that fails, and hands the old stock back. It never writes the stock that it is given.
+#![tactic(auto)]
+
 ghost use Rattle.std.specs.Prelude.{◌≡◌, ◌*◌, ◌≤◌, ◌<◌, length};
 ghost use Rattle.refusals.specs.Limits.{cell_limit};
 ghost use Rattle.stock.specs.Spec.{counted_paper};

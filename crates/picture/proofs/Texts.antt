@@ -1,5 +1,5 @@
 -- Texts put one behind the other, with how long they are at most. Assumes nothing.
-use Prim.Native.Nat.{ℕ, ◌+◌, ◌/◌, ◌%◌, ◌≤◌, ◌<◌}
+use Prim.Native.Nat.{ℕ, ◌+◌, ◌/◌, ◌%◌, ◌≤◌}
 use native.Mathlib.Omega.{arith}
 use mathlib.Core.Path.{◌≡◌, refl, sym, ap, ◌∙◌}
 use mathlib.Core.Bool.{Bool, true, false}
@@ -8,7 +8,7 @@ use lib.Dec.{eqb}
 use lib.ListN.{length, take, drop, length-append}
 use lib.Seq.{sets-eq, take-append_seam}
 use lib.Ieee.{Float}
-use borrow.Author.Tests.{eq-eqb, ne_eqb, lt-ltb, le-ltb}
+use borrow.Author.Tests.{eq-eqb, ne_eqb}
 use Rattle.floats.specs.Pick.{pick, pick_true, pick-false}
 use Rattle.stock.specs.declared.TurnSide.{TurnSide}
 use Rattle.stock.specs.declared.TurnSide.TheVariants.{Outer, Inner}
@@ -20,7 +20,7 @@ use Rattle.text.proofs.Spelling.{digits-length, decimal-short}
 use Rattle.picture.specs.declared.decimals.Tail.{Tail}
 use Rattle.picture.specs.declared.Stretch.{Stretch}
 use Rattle.picture.specs.Decimals.{units_of, tail_of, tail_with, fraction_text, units_text, length_text}
-use Rattle.picture.specs.Steps.{near_end, start_text, radius_text, turn_text, along_text}
+use Rattle.picture.specs.Steps.{near_end, start_text, radius_text, turn_text}
 
 -- ---- decimals
 

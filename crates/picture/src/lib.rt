@@ -5,6 +5,8 @@
 // same is to be seen are a stretch; its contour goes along the outer radii and back along the bores, and
 // neighbours at one radius are one step of it. Nothing is worked out here: a radius is a bound of a
 // cell, and a place along z is a bin's end, told from z_min on; both are rounded to 1e-4 mm.
+#![tactic(auto)]
+
 mod decimals;
 
 ghost use Rattle.std.specs.Prelude.{◌≡◌, not, min, ◌/◌, ◌≤◌, length};

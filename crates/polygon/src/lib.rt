@@ -5,6 +5,8 @@
 // sides. Over a bin that boundary is convex: it is lowest at a vertex or at an end, and highest at
 // an end. What lies beyond the lowest may be gone; where the polygon spans the whole bin, what lies
 // beyond the highest and the excess is certainly gone.
+#![tactic(auto)]
+
 ghost use Rattle.std.specs.Prelude.{◌≡◌, ◌+◌, ◌*◌, ◌≤◌, length};
 ghost use Rattle.floats.specs.Numbers.{usable_to};
 ghost use Rattle.reach.specs.Low.{low_paper, lower_of};

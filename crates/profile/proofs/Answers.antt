@@ -3,28 +3,26 @@ use mathlib.Core.Path.{◌≡◌, refl, sym, ap, ◌∙◌, subst}
 use mathlib.Core.Bool.{Bool, true, false, ◌&&◌}
 use mathlib.Core.List.{List, [], ◌∷◌, ◌++◌}
 use mathlib.Core.Option.{Option, none, some}
-use Prim.Native.Nat.{ℕ, zero, suc, ◌+◌, ◌-◌, ◌*◌, ◌/◌, ◌≤◌, ◌<◌}
-use native.Mathlib.Numerals.{add-one}
+use Prim.Native.Nat.{ℕ, suc, ◌+◌, ◌-◌, ◌*◌, ◌/◌, ◌≤◌, ◌<◌}
 use native.Mathlib.Omega.{arith}
-use borrow.Author.Tests.{leb-true, leb-false, le-leb, lt-leb}
+use borrow.Author.Tests.{leb-false, le-leb, lt-leb}
 use lib.Dec.{T, eqb, leb, leb→le}
-use lib.ListN.{length, drop, set, length-set}
+use lib.ListN.{length, drop, set}
 use lib.Seq.{sets, sets-eq, length-sets}
 use lib.Ieee.{Float, le}
 use lib.Ieee.Fits.{and_l, and_r}
 use Rattle.refusals.specs.Limits.{profile_limit}
 use Rattle.refusals.specs.Lent.{over}
-use Rattle.floats.specs.Pick.{pick, pick_true, pick-false}
+use Rattle.floats.specs.Pick.{pick-false}
 use Rattle.floats.specs.Numbers.{zero64, clean_of, usable}
-use Rattle.profile.specs.declared.Point.{Point}
 use Rattle.profile.specs.declared.Placed.{Placed}
 use Rattle.profile.specs.declared.Placed.TheVariants.{To, Over}
 use Rattle.profile.specs.declared.Chopped.TheVariants.{Chords, Refused}
 use Rattle.refusals.specs.declared.Refusal.TheVariants.{ProfileOutside, ChordsOutgrow}
-use Rattle.refusals.specs.Paper.{Paper, answers, refuses, only, demand, demand-true, demand-false}
+use Rattle.refusals.specs.Paper.{Paper, answers, refuses, only, demand-true, demand-false}
 use Rattle.profile.specs.Profile.{point_count, good_to, apart_to, profile_good}
-use Rattle.profile.specs.Chords.{Chord, chords_to, profile_chords, flat_of, room_for, segments_of, written_of, count_of, chopped_paper, Segmented, put_chord, put_all, placed_paper, placed, Chops}
-use Rattle.profile.proofs.Halves.{placed-says, no_test, none-some}
+use Rattle.profile.specs.Chords.{Chord, chords_to, profile_chords, flat_of, room_for, segments_of, written_of, count_of, Segmented, put_chord, put_all, placed_paper, placed, Chops}
+use Rattle.profile.proofs.Halves.{placed-says, no_test}
 
 -- ---- what is written
 abbrev five : Chord → List Float

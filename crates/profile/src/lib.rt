@@ -10,6 +10,8 @@
 //
 // One function counts and writes: handed no room, it counts. So nothing is written before refusal 18 is
 // decided.
+#![tactic(auto)]
+
 ghost use Rattle.std.specs.Prelude.{◌≡◌, ◌+◌, ◌*◌, ◌≤◌, length};
 ghost use Rattle.profile.specs.Profile.{clean_at, point_at, bulge_at, point_good, good_to, apart, apart_to, profile_good};
 ghost use Rattle.profile.specs.Chords.{sag_of, middle_of, half_of, chords_of, chords_to, put_chord, ChopsInto, Segments};

@@ -8,6 +8,8 @@
 //
 // At a height the most over the bins that touch it is asked: the bin of z, and a neighbour on either
 // side whose closed range holds z too.
+#![tactic(auto)]
+
 ghost use Rattle.std.specs.Prelude.{◌≡◌, ◌+◌, ◌*◌, ◌≤◌, ◌<◌, length};
 ghost use Rattle.refusals.specs.Paper.{answers};
 ghost use Rattle.rings.specs.Store.{ring_at};

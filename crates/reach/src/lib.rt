@@ -5,6 +5,8 @@
 // deep it lies at least (outer.upper, inner.lower). What a cut reaches in a bin is worked out
 // without looking at the cell. Floor and ceiling belong to the update, which is one for every kind
 // of cut and for both sides.
+#![tactic(auto)]
+
 ghost use Rattle.std.specs.Prelude.{◌≡◌};
 ghost use Rattle.reach.specs.Low.{lower_of, upper_of, low_paper};
 ghost use Rattle.reach.specs.Reach.{deeper, shallower, deep_of, sure_of, limit_of, with_pair, cut_cell, flipped, stored_of, reach_from, reach_paper, low_of};

@@ -4,6 +4,8 @@
 // (Req 04), and every lent buffer keeps its contents. The rules of the other crates' specs/ speak of
 // numbers, as 01 does (`Paper`); the code speaks of these cases, and this is the one place that turns
 // a case into its number. 9 is given out no more.
+#![tactic(auto)]
+
 ghost use Rattle.std.specs.Prelude.{◌≡◌};
 ghost use Rattle.refusals.specs.Number.{number_of};
 

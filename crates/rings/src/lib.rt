@@ -5,6 +5,8 @@
 // clipped to the stock's extent, z_min..z_max and 0..outer. Each stored ring then leaves of every piece
 // in hand the parts about it: before it and behind it in z, inside it and outside it in r. What all of
 // them leave is stored behind them, and nothing else. Rings are lent flat, four numbers each.
+#![tactic(auto)]
+
 ghost use Rattle.std.specs.Prelude.{◌≡◌, ◌*◌, ◌/◌, ◌≤◌, length};
 ghost use Rattle.refusals.specs.Paper.{place_or};
 ghost use Rattle.floats.specs.Pick.{pick};

@@ -7,6 +7,8 @@
 //
 // The program runs 01's other examples, those of a list kept from another edition or generation, and
 // those of kept numbers, and writes what it finds, a line each.
+#![tactic(auto)]
+
 use changes::{Applied, ChangeList, Previewed};
 use cuts::Cut;
 use moves::Rebuilt;

@@ -1,5 +1,7 @@
 // Shows what a job leaves, for a person: reads it on standard input as `job` does, and writes its
 // bins, its rings and its generation in millimetres, or why it was refused.
+#![tactic(auto)]
+
 use job_run::{CELL_NUMBERS, LINE_LIMIT, RING_NUMBERS, Run};
 use page::WIDTHS;
 use stock::TurnStockSpec;

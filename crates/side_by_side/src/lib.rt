@@ -7,6 +7,8 @@
 // decided first (`compare`); the text then comes in chunks that are asked by number (`chunk`), so that
 // no buffer holds it all. `spelled` puts the lines of a chunk one behind the other, and
 // `refused` has the one line of a comparison that is refused.
+#![tactic(auto)]
+
 mod refused;
 mod spelled;
 

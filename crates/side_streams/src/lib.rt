@@ -4,6 +4,8 @@
 // first line is missing, and one whose read fails is one whose next line is. What is handed on to be
 // written, byte for byte and in order, is `files_text` of crate `side_by_side`, as far as writes succeed;
 // no contract can speak of descriptors.
+#![tactic(auto)]
+
 ghost use Rattle.std.specs.Prelude.{◌≡◌, ◌*◌, take};
 ghost use Rattle.refusals.specs.Limits.{cell_limit};
 ghost use Rattle.stock_file.specs.Read.{kept_paper};

@@ -3,6 +3,8 @@
 // The stock is split into bins along z. In each bin the radius of the outer surface is known within
 // bounds, and so is that of the bore: a cell is these two pairs of bounds. Material lies between
 // bore and outer surface, and cuts only take from it. Cells are lent flat, four numbers a bin.
+#![tactic(auto)]
+
 ghost use Rattle.std.specs.Prelude.{◌≡◌, ◌+◌, ◌*◌, ◌≤◌, true, ◌&&◌, length, pos, nat_lt};
 ghost use Rattle.std.specs.Float.{binary64};
 ghost use Rattle.std.specs.Float.Ieee.{of_int, le, lt};

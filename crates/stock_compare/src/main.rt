@@ -1,5 +1,7 @@
 // Writes what differs between the two stock files that its arguments name, as lines of a stock file, or
 // the one refusal. A file that is not named cannot be opened.
+#![tactic(auto)]
+
 fn main(rt: HostRuntime) {
     if !streams::hold_standard(&rt) {
         return;

@@ -1,19 +1,18 @@
 -- Read after write of a stock that 1 to 4 accept: it reads as that stock. Assumes nothing.
-use Prim.Native.Nat.{ℕ, zero, suc, ◌+◌, ◌*◌, ◌/◌, ◌≤◌, ◌<◌, min}
+use Prim.Native.Nat.{ℕ, zero, suc, ◌+◌, ◌*◌, ◌/◌, ◌≤◌, ◌<◌}
 use native.Mathlib.Omega.{arith}
 use native.Mathlib.Nat.{min-le_left, min-le_right, le-min}
-use mathlib.Core.Path.{◌≡◌, refl, sym, ap, ◌∙◌, subst}
+use mathlib.Core.Path.{◌≡◌, refl, sym, ap, ◌∙◌}
 use mathlib.Core.Bool.{Bool, true, false, not, ◌&&◌}
 use mathlib.Core.List.{List, [], ◌∷◌, ◌++◌, append_assoc}
-use mathlib.Core.Option.{Option, none, some}
 use lib.Dec.{eqb, leb}
 use lib.ListN.{length, take, drop, get_or, get_or-append}
 use lib.Seq.{take-suc, take_all, take-append_seam, get_or-take}
 use lib.Ieee.{Float, nan, eq}
-use borrow.Author.Tests.{le-leb, leb-true, ne_eqb}
+use borrow.Author.Tests.{le-leb, ne_eqb}
 use Rattle.refusals.specs.Lent.{over}
 use Rattle.refusals.specs.Limits.{cell_limit}
-use Rattle.refusals.specs.Paper.{Paper, answers, demand, demand-true}
+use Rattle.refusals.specs.Paper.{answers, demand, demand-true}
 use Rattle.refusals.proofs.Written.{length_over}
 use Rattle.floats.specs.Pick.{pick, pick_true, pick-false}
 use Rattle.floats.specs.Numbers.{zero64, clean_of}
@@ -25,12 +24,12 @@ use Rattle.stock.proofs.Count.{checked, stocked, stock-is, stock-length, and_bot
 use Rattle.rings.specs.declared.Ring.{Ring}
 use Rattle.rings.specs.Store.{ring_at, rings_of, bar_ring, room_for_rings, store_fits, count_fits}
 use Rattle.rings.proofs.Removing.{fits-within}
-use Rattle.stock_lines.specs.Reading.{State, state}
-use Rattle.stock_file.specs.Read.{spec_of, front_of, stocked_of, told_as, file_in, read_of}
+use Rattle.stock_lines.specs.Reading.{State}
+use Rattle.stock_file.specs.Read.{spec_of, front_of, stocked_of, told_as, read_of}
 use Rattle.stock_file.specs.Write.{bar_of, opening, file_of}
 use Rattle.stock_file.proofs.Ends.{front_long, told-stock}
 use Rattle.stock_file.proofs.LineSteps.{reading}
-use Rattle.stock_file.proofs.ReadBack.{four_at, fours_to, fours-long, Kept, reads-back}
+use Rattle.stock_file.proofs.ReadBack.{fours_to, fours-long, Kept, reads-back}
 
 -- ---- the spec that is read is the clean one, with the reader's limit
 

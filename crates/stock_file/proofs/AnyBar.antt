@@ -7,8 +7,7 @@ use mathlib.Core.List.{List, [], ◌∷◌}
 use lib.Dec.{eqb, ltb}
 use lib.ListN.{length}
 use lib.Ieee.{Float}
-use Rattle.refusals.specs.Paper.{Paper}
-use Rattle.floats.specs.Pick.{pick, pick_true, pick-false}
+use Rattle.floats.specs.Pick.{pick_true, pick-false}
 use Rattle.text.proofs.Parting.{some}
 use Rattle.lines.specs.File.{pieces_of, ended, line_on_bytes, over_pieces}
 use Rattle.stock_lines.specs.declared.Bar.{Bar}
@@ -16,9 +15,9 @@ use Rattle.stock_lines.specs.declared.Reading.{Reading}
 use Rattle.stock_lines.specs.declared.form.First.{First}
 use Rattle.stock_lines.specs.declared.form.First.TheVariants.{Says, NoFirst}
 use Rattle.stock_lines.specs.First.{first_of}
-use Rattle.stock_lines.specs.Reading.{State, state, next, refusing, begun, on_line}
+use Rattle.stock_lines.specs.Reading.{State, state, refusing, begun}
 use Rattle.stock_lines.proofs.Readings.{line_first}
-use Rattle.stock_file.specs.Read.{fresh_reading, stopped, on_long, on_end, Stocked, told_as, file_in}
+use Rattle.stock_file.specs.Read.{fresh_reading, on_long, told_as, file_in}
 use Rattle.stock_file.proofs.Ends.{told_line}
 use Rattle.stock_file.proofs.Spelt.{walk, stopped-walk}
 

@@ -1,5 +1,5 @@
 -- However the bytes of a file are cut into parts, what `take_part` leaves of them one after the other and `finish` at the end is that of the whole file. Assumes nothing.
-use Prim.Native.Nat.{ℕ, ◌+◌, ◌≤◌, ◌<◌, min}
+use Prim.Native.Nat.{ℕ, ◌≤◌, ◌<◌, min}
 use native.Mathlib.Omega.{arith}
 use native.Mathlib.Nat.{min-eq_left}
 use mathlib.Core.Path.{◌≡◌, refl, sym, ap, ◌∙◌, subst}
@@ -11,7 +11,6 @@ use lib.Seq.{take-append_seam}
 use lib.Ieee.{Float}
 use borrow.Author.Tests.{ltb-true}
 use Rattle.refusals.specs.Lent.{over}
-use Rattle.refusals.specs.Paper.{Paper}
 use Rattle.floats.specs.Pick.{pick}
 use Rattle.text.proofs.Chosen.{yes, no}
 use Rattle.lines.specs.File.{joined}
@@ -21,7 +20,7 @@ use Rattle.lines.proofs.AnyCut.{any-cut}
 use Rattle.stock_lines.specs.declared.Reading.{Reading}
 use Rattle.stock_lines.specs.Reading.{State, state, refusing, on_line}
 use Rattle.stock_file.specs.declared.Kept.{Kept}
-use Rattle.stock_file.specs.Read.{fresh_reading, stopped, on_long, on_end, held_in, taking, TakesPart, ended, Stocked, told_as, kept_paper, file_in, read_of}
+use Rattle.stock_file.specs.Read.{fresh_reading, stopped, on_long, on_end, held_in, taking, ended, told_as, kept_paper, file_in, read_of}
 use Rattle.stock_file.specs.InParts.{Took, start, part, Finished}
 
 pub long-stops : (st : State) → stopped (on_long st) ≡ true

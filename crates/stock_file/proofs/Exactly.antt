@@ -1,23 +1,22 @@
 -- A file is refused at a line exactly when the lines before it begin some file of the form, and with it, or with the end in its place, they begin none. Assumes nothing.
-use Prim.Native.Nat.{ℕ, zero, suc, ◌+◌, ◌-◌, ◌%◌, ◌^◌, ◌≤◌, ◌<◌}
+use Prim.Native.Nat.{ℕ, zero, suc, ◌+◌, ◌-◌, ◌^◌, ◌≤◌, ◌<◌}
 use native.Mathlib.Omega.{arith}
 use mathlib.Core.Path.{◌≡◌, refl, sym, ap, ◌∙◌, subst}
 use mathlib.Core.Bool.{Bool, true, false, not, true≢false, false≢true}
 use mathlib.Core.Option.{Option, none, some}
-use mathlib.Core.List.{List, [], ◌∷◌, ◌++◌, append_assoc, append-nil}
+use mathlib.Core.List.{List, [], ◌∷◌, ◌++◌, append_assoc}
 use lib.Dec.{T, eqb, leb, ltb}
 use lib.ListN.{length, take, drop, length-append}
 use lib.Ieee.{Float, binary64, fits, to_bits, of_bits, of_fields, odd}
 use borrow.Author.Tests.{eqb-true, eqb-false, ne_eqb, lt-ltb, ltb-true, ltb-false, leb-true, leb-false}
 use Rattle.refusals.specs.Paper.{Paper, answers, refuses, at, place_or, demand, onward, demand_at-true}
 use Rattle.floats.specs.Numbers.{zero64, minus_zero}
-use Rattle.floats.specs.Pick.{pick, pick_true, pick-false}
+use Rattle.floats.specs.Pick.{pick_true, pick-false}
 use Rattle.numbers.specs.Whole.{whole_up}
 use Rattle.refusals.specs.Limits.{cell_limit}
 use Rattle.stock.specs.declared.TurnStockSpec.{TurnStockSpec}
-use Rattle.stock.specs.Spec.{clean_spec, spec_good, quotient, counted, cells_of}
-use Rattle.stock.specs.Cell.{cells_fit, stock_of}
-use Rattle.rings.specs.Store.{bar_ring, count_fits}
+use Rattle.stock.specs.Spec.{clean_spec, quotient, counted, cells_of}
+use Rattle.stock.specs.Cell.{stock_of}
 use Rattle.text.specs.Lines.{newline}
 use Rattle.text.specs.Parts.{into_first}
 use Rattle.text.proofs.Parting as parting
@@ -36,9 +35,9 @@ use Rattle.stock_lines.specs.Reading.{State, state, next, refusing, begun, onwar
 use Rattle.stock_lines.proofs.Forms as forms
 use Rattle.stock_lines.proofs.Steps.{counts-few, least-most, few-least, cell-short}
 use Rattle.stock_lines.proofs.Readings.{line_first, line-body, line-behind}
-use Rattle.stock_file.specs.Read.{fresh_reading, stopped, on_long, on_end, spec_of, front_of, Stocked, stock_in, told_as, file_in, read_of}
+use Rattle.stock_file.specs.Read.{fresh_reading, stopped, on_long, spec_of, Stocked, stock_in, told_as, file_in, read_of}
 use Rattle.stock_file.specs.Write.{Opening, opening, file_of}
-use Rattle.stock_file.specs.Exactly.{OfForm, Begins, ended_lines, first_lines, RefusedBehind}
+use Rattle.stock_file.specs.Exactly.{Begins, ended_lines, first_lines, RefusedBehind}
 use Rattle.stock_file.proofs.Newlines.{Free, none, more, cell_free, end-free}
 use Rattle.stock_file.proofs.LineSteps.{most, least, reading, cell-on, end_step}
 use Rattle.stock_file.proofs.Spelt.{walk, stopped-walk, went_on}

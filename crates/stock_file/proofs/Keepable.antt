@@ -1,21 +1,19 @@
 -- The numbers of a stock that 1 to 4 accept can be kept: they are of the format, as lent numbers are, and none is -0.0. Assumes nothing.
-use Prim.Native.Nat.{ℕ, zero, suc, ◌+◌, ◌*◌, ◌≤◌, ◌<◌}
+use Prim.Native.Nat.{ℕ, zero, suc, ◌*◌, ◌≤◌, ◌<◌}
 use native.Mathlib.Omega.{arith}
 use native.Mathlib.Nat.{eq-or-lt_of_le}
 use mathlib.Core.Logic.{◌⊎◌, inl, inr}
 use mathlib.Core.Path.{◌≡◌, refl, sym, ap, ◌∙◌, subst}
-use mathlib.Core.Bool.{Bool, true, false, not, ◌&&◌}
-use mathlib.Core.List.{List, [], ◌∷◌, ◌++◌}
+use mathlib.Core.Bool.{Bool, true, not, ◌&&◌}
+use mathlib.Core.List.{List}
 use lib.Dec.{T, eqb, leb}
 use lib.ListN.{length, get_or}
-use lib.IntN.{pos}
-use lib.Ieee.{Float, nan, fin, binary64, fits, to_bits, of_bits, of_fields, odd, le}
+use lib.Ieee.{Float, nan, binary64, fits, to_bits, of_bits, of_fields, odd, le}
 use Rattle.refusals.specs.Paper.{answers}
 use Rattle.floats.specs.Numbers.{minus_zero, clean_of}
 use Rattle.floats.proofs.Cleared.{clean-keeps}
 use Rattle.floats.proofs.Exact.{plain-zero}
 use Rattle.stock.specs.declared.TurnStockSpec.{TurnStockSpec}
-use Rattle.stock.specs.declared.TurnCell.{TurnCell}
 use Rattle.stock.specs.declared.RadiusBounds.{RadiusBounds}
 use Rattle.stock.specs.Spec.{clean_spec}
 use Rattle.stock.specs.Cell.{cell_at, cell_fits, pair_fits_in, fit_to, cells_fit, stock_of}
@@ -24,7 +22,7 @@ use Rattle.stock.proofs.EachFits.{fit-below}
 use Rattle.rings.specs.declared.Ring.{Ring}
 use Rattle.rings.specs.Store.{ring_at, rings_of, bar_ring, room_for_rings, ring_fits, apart_all, store_fits, count_fits}
 use Rattle.rings.proofs.Prefix.{store_fits-snoc}
-use Rattle.rings.proofs.Fitting.{Fits, fits-of}
+use Rattle.rings.proofs.Fitting.{fits-of}
 use Rattle.floats.proofs.Bounding.{clean-unsigned}
 use Rattle.text.proofs.Reading.{plus-bits}
 use Rattle.stock_lines.proofs.Forms.{Keeps, none, more}

@@ -1,33 +1,29 @@
 -- A whole line taken: its bytes, and what each kind of line leaves. Assumes nothing.
-use Prim.Native.Nat.{ℕ, zero, suc, ◌+◌, ◌*◌, ◌/◌, ◌%◌, ◌^◌, ◌≤◌, ◌<◌}
+use Prim.Native.Nat.{ℕ, ◌+◌, ◌*◌, ◌/◌, ◌^◌, ◌≤◌, ◌<◌}
 use native.Mathlib.Omega.{arith}
-use mathlib.Core.Path.{◌≡◌, refl, sym, ap, ◌∙◌, subst}
+use mathlib.Core.Path.{◌≡◌, refl, sym, ap, ◌∙◌}
 use mathlib.Core.Bool.{Bool, true, false}
 use mathlib.Core.List.{List, [], ◌∷◌, ◌++◌, append_assoc, append-nil}
-use lib.Dec.{T, eqb, ltb}
+use lib.Dec.{eqb, ltb}
 use lib.ListN.{length, get_or, length-append}
 use lib.Seq.{sets}
 use lib.Ieee.{Float}
-use borrow.Author.Tests.{eq-eqb, ne_eqb, lt-ltb, le-ltb}
+use borrow.Author.Tests.{ne_eqb, lt-ltb}
 use Rattle.floats.specs.Pick.{pick, pick_true, pick-false}
 use Rattle.text.specs.Lines.{newline, ring_line}
-use Rattle.text.specs.Same.{same_bytes}
-use Rattle.lines.specs.Hands.{Hand, hand, byte_on, takes}
+use Rattle.lines.specs.Hands.{Hand, hand, takes}
 use Rattle.lines.proofs.Parts.{byte-newline, byte-held}
 use Rattle.stock_lines.specs.declared.Reading.{Reading}
-use Rattle.stock_lines.specs.declared.form.Four.{Four}
 use Rattle.stock_lines.specs.declared.form.Four.TheVariants.{Numbers, NoFour}
 use Rattle.stock_lines.specs.declared.form.First.TheVariants.{Says}
-use Rattle.stock_lines.specs.declared.room.Took.{Took}
-use Rattle.stock_lines.specs.declared.room.Took.TheVariants.{Cell, Ring, End, NoLine}
-use Rattle.stock_lines.specs.Form.{Line, holds, other, form_of, line_of, four_of, bar_numbers, cell_prefix, ring_prefix, end_text, stock_line, kept_cell_line, end_line}
-use Rattle.stock_lines.specs.Room.{kept, stored, taken, cell_at, ring_at, ring_turn, end_turn, took_of, rings_left_after}
-use Rattle.stock_lines.specs.Reading.{State, state, next, count_to, begun, onward_to, went, on_body, on_line}
+use Rattle.stock_lines.specs.Form.{Line, holds, other, form_of, line_of, four_of, bar_numbers, cell_prefix, stock_line, kept_cell_line, end_line}
+use Rattle.stock_lines.specs.Room.{kept, stored, taken, cell_at, ring_turn, took_of, rings_left_after}
+use Rattle.stock_lines.specs.Reading.{State, state, next, onward_to, went, on_body, on_line}
 use Rattle.stock_lines.proofs.Forms.{Keeps}
 use Rattle.stock_lines.specs.First.{first_of, CanSay}
 use Rattle.stock_lines.proofs.EachLine.{cell-reads, ring-reads, end_reads, first_byte}
 use Rattle.stock_lines.proofs.Firsts.{first_reads}
-use Rattle.stock_lines.proofs.Rooms.{cell-turn, cell-after-ring, ring-turn, end-turn, took-cell, took-ring, took-end, rings-cell, rings-other, stored_other, taken-numbers, taken_none}
+use Rattle.stock_lines.proofs.Rooms.{cell-turn, ring-turn, end-turn, took-cell, took-ring, took-end, rings-cell, rings-other, taken-numbers, taken_none}
 use Rattle.stock_lines.proofs.Readings.{line_first, line-body, count-more, begun-is, went-cell, went-ring, went-end}
 use Rattle.stock_file.specs.Read.{fresh_reading, stopped, on_long}
 use Rattle.stock_file.specs.Write.{Opening}

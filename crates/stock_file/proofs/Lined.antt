@@ -1,12 +1,12 @@
 -- The lines of a stock's file, case by case. Assumes nothing.
-use Prim.Native.Nat.{ℕ, ◌+◌, ◌-◌, ◌*◌, ◌/◌, ◌≤◌, ◌<◌, min}
+use Prim.Native.Nat.{ℕ, ◌+◌, ◌-◌, ◌*◌, ◌/◌, ◌≤◌, ◌<◌}
 use native.Mathlib.Omega.{arith}
 use native.Mathlib.Nat.{min-le_right}
 use mathlib.Core.Path.{◌≡◌, refl, sym, ap, ◌∙◌, subst}
 use mathlib.Core.Bool.{Bool, true, false}
-use mathlib.Core.List.{List, [], ◌∷◌, ◌++◌}
+use mathlib.Core.List.{List, []}
 use lib.Dec.{leb, eqb}
-use lib.ListN.{length, take, drop}
+use lib.ListN.{length}
 use lib.Ieee.{Float}
 use borrow.Author.Tests.{eq-eqb, ne_eqb, eqb-true, lt-ltb, le-ltb, lt-leb, le-leb}
 use Rattle.refusals.specs.declared.Refusal.{Refusal}
@@ -19,11 +19,10 @@ use Rattle.stock.specs.Cell.{new_of}
 use Rattle.rings.specs.declared.Ring.{Ring}
 use Rattle.rings.specs.Store.{count_fits, room_for_rings}
 use Rattle.rings.proofs.Removing.{fits-within}
-use Rattle.text.specs.Wrote.{line_room, Wrote, WroteLine}
+use Rattle.text.specs.Wrote.{WroteLine}
 use Rattle.stock_lines.specs.Form.{stock_line, end_line}
-use Rattle.stock_file.specs.declared.written.Spelled.{Spelled}
 use Rattle.stock_file.specs.declared.written.Spelled.TheVariants as spelled
-use Rattle.stock_file.specs.Write.{Opening, opening_of, cell_at, ring_at, line_behind, line_at, line_for, line_paper, length_of, line_over, WroteFileLine}
+use Rattle.stock_file.specs.Write.{Opening, opening_of, cell_at, ring_at, line_behind, line_at, line_for, length_of, line_over, WroteFileLine}
 
 -- the same line under another name
 pub reline : {l s t m : List ℕ} {r : ℕ} → s ≡ t → WroteLine l s m r → WroteLine l t m r

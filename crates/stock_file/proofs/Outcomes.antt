@@ -1,14 +1,12 @@
 -- Two outcomes that meet the promise of a call are the same. Assumes nothing.
 use Prim.Native.Nat.{ℕ}
-use mathlib.Core.Path.{◌≡◌, refl, sym, ap, ap₂, ◌∙◌}
+use mathlib.Core.Path.{◌≡◌, sym, ap, ap₂, ◌∙◌}
 use mathlib.Core.List.{List}
-use mathlib.Core.Option.{Option, none, some}
+use mathlib.Core.Option.{none, some}
 use native.Mathlib.Omega.{arith}
 use lib.ListN.{length}
 use lib.Ieee.{Float}
-use Rattle.refusals.specs.declared.Refusal.{Refusal}
-use Rattle.refusals.specs.Number.{number_of, reason_of}
-use Rattle.refusals.specs.Paper.{Paper, Reason, answers, refuses, at}
+use Rattle.refusals.specs.Paper.{Paper, Reason, refuses, at}
 use Rattle.refusals.specs.Lent.{Lent, over}
 use Rattle.refusals.proofs.OneToOne.{one-to-one}
 use Rattle.stock.proofs.Count.{same_answer, no_answer}

@@ -1,10 +1,8 @@
 -- Read after write: the file of numbers that can be kept leaves those numbers in a room that reaches. Assumes nothing.
 use Prim.Native.Nat.{ℕ, zero, suc, ◌+◌, ◌-◌, ◌*◌, ◌/◌, ◌^◌, ◌≤◌, ◌<◌}
 use native.Mathlib.Omega.{arith}
-use mathlib.Core.Path.{◌≡◌, refl, sym, ap, ◌∙◌, subst}
-use mathlib.Core.Bool.{Bool, true, false}
+use mathlib.Core.Path.{◌≡◌, refl, sym, ap, ◌∙◌}
 use mathlib.Core.List.{List, [], ◌∷◌, ◌++◌, append_assoc}
-use lib.Dec.{eqb, ltb}
 use lib.ListN.{length, get_or, length-append}
 use lib.Seq.{sets}
 use lib.Ieee.{Float, nan}
@@ -17,7 +15,7 @@ use Rattle.lines.specs.File as file
 use Rattle.lines.specs.Hands.{Hand, hand, takes}
 use Rattle.lines.proofs.Parts.{parts}
 use Rattle.lines.proofs.OneFile.{whole-file}
-use Rattle.stock_lines.specs.Form.{form_of, Counts, fields_text, bar_numbers, cell_prefix, ring_prefix, end_text, stock_text, stock_line, kept_cell_line, end_line}
+use Rattle.stock_lines.specs.Form.{Counts, fields_text, bar_numbers, cell_prefix, ring_prefix, end_text, stock_text, stock_line, kept_cell_line, end_line}
 use Rattle.stock_lines.specs.Reading.{State, state, on_line}
 use Rattle.stock_lines.specs.First.{CanSay}
 use Rattle.stock_lines.proofs.Forms.{Keeps, fields-then, fields-text-long}

@@ -4,7 +4,7 @@ use native.Mathlib.Omega.{arith}
 use mathlib.Core.Path.{◌≡◌, refl, sym, ap, ◌∙◌, subst}
 use mathlib.Core.Bool.{Bool, true, false, true≢false}
 use mathlib.Core.List.{List, [], ◌∷◌, ◌++◌, append_assoc, append-nil}
-use lib.Dec.{eqb, ltb}
+use lib.Dec.{ltb}
 use lib.ListN.{length, get_or, set, length-set}
 use lib.Seq.{sets, length-sets, get_or-set_same, get_or-set_other}
 use lib.Ieee.{Float, nan}
@@ -32,7 +32,7 @@ use Rattle.stock_file.proofs.Lined.{first-line, cell-line, ring-line, last_line}
 use Rattle.stock_file.proofs.LineSteps.{most, least, reading}
 use Rattle.stock_file.proofs.ReadBack.{four_at}
 use Rattle.stock_file.proofs.Leaves.{Filled, Stays, pieces-stay}
-use Rattle.stock_file.proofs.Spelt.{parted, pieces-all, walk, went_on, Last, last-piece, next-piece}
+use Rattle.stock_file.proofs.Spelt.{parted, pieces-all, walk, went_on, last-piece, next-piece}
 use Rattle.stock_file.proofs.WriteAfter.{Kind, cell, ring, end, kind}
 
 -- ---- four numbers stand where they were put

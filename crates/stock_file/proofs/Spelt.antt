@@ -1,19 +1,17 @@
 -- Write after read: bytes that tell a stock are the bytes of its file. Assumes nothing.
-use Prim.Native.Nat.{ℕ, zero, suc, ◌+◌, ◌-◌, ◌*◌, ◌/◌, ◌%◌, ◌^◌, ◌≤◌, ◌<◌}
+use Prim.Native.Nat.{ℕ, ◌≤◌, ◌<◌}
 use native.Mathlib.Omega.{arith}
-use mathlib.Core.Path.{◌≡◌, refl, sym, ap, ◌∙◌, subst}
-use mathlib.Core.Bool.{Bool, true, false, false≢true, true≢false}
-use mathlib.Core.List.{List, [], ◌∷◌, ◌++◌, append_assoc, append-nil}
-use lib.Dec.{T, eqb, ltb}
-use lib.ListN.{length, get_or}
-use lib.Ieee.{Float, nan}
-use borrow.Author.Tests.{eqb-true, eqb-false, ltb-true, ltb-false, eq-eqb}
-use Rattle.floats.specs.Pick.{pick, pick_true, pick-false}
-use Rattle.text.specs.Parts.{into_first, parted_at}
+use mathlib.Core.Path.{◌≡◌, refl, sym, ap, ◌∙◌}
+use mathlib.Core.Bool.{Bool, true, false, true≢false}
+use mathlib.Core.List.{List, [], ◌∷◌, ◌++◌}
+use lib.Dec.{eqb, ltb}
+use lib.ListN.{length}
+use borrow.Author.Tests.{eqb-true, ltb-false}
+use Rattle.floats.specs.Pick.{pick_true, pick-false}
+use Rattle.text.specs.Parts.{into_first}
 use Rattle.text.proofs.Parting.{parted-end, parted-here, parted-on, some}
 use Rattle.lines.specs.File.{pieces_of, ended, line_on_bytes, over_pieces}
-use Rattle.stock_lines.specs.declared.Reading.{Reading}
-use Rattle.stock_lines.specs.Reading.{State, state, refusing, on_line}
+use Rattle.stock_lines.specs.Reading.{State, refusing, on_line}
 use Rattle.stock_file.specs.Read.{stopped, on_long, on_end}
 
 -- ---- the bytes of pieces

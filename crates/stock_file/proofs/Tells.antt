@@ -1,19 +1,19 @@
 -- A file that tells a stock: what 1 to 4 asked, and so that in its form it is the only file of that stock. Assumes nothing.
-use Prim.Native.Nat.{ℕ, zero, suc, ◌+◌, ◌*◌, ◌/◌, ◌^◌, ◌≤◌, ◌<◌}
+use Prim.Native.Nat.{ℕ, ◌+◌, ◌*◌, ◌/◌, ◌^◌, ◌≤◌, ◌<◌}
 use native.Mathlib.Omega.{arith}
 use native.Mathlib.Nat.{min-le_left, min-le_right}
 use mathlib.Core.Logic.{◌⊎◌, inl, inr}
 use mathlib.Core.Path.{◌≡◌, refl, sym, ap, ◌∙◌, subst}
-use mathlib.Core.Bool.{Bool, true, false, not, ◌&&◌, true≢false, false≢true}
+use mathlib.Core.Bool.{Bool, true, false, not, ◌&&◌, false≢true}
 use mathlib.Core.List.{List, [], ◌∷◌}
 use lib.Dec.{T, eqb, leb}
-use lib.ListN.{length, take, get_or}
+use lib.ListN.{length, take}
 use lib.Seq.{get_or-take, length-take-le}
 use lib.Ieee.{Float, nan, inf, fin, is_nan, le, lt, eq, neg}
 use borrow.Author.Tests.{leb-true, leb-false}
-use Rattle.refusals.specs.Paper.{Paper, Reason, answers, refuses, demand, demand_at, onward, at, demand_at-true, demand_at-false}
-use Rattle.floats.specs.Pick.{pick, pick_true, pick-false}
-use Rattle.floats.specs.Numbers.{zero64, clean_of, usable, million, minus_zero}
+use Rattle.refusals.specs.Paper.{Paper, answers, refuses, demand, onward, at, demand_at-true, demand_at-false}
+use Rattle.floats.specs.Pick.{pick}
+use Rattle.floats.specs.Numbers.{clean_of, usable, million, minus_zero}
 use Rattle.stock.specs.declared.TurnStockSpec.{TurnStockSpec}
 use Rattle.stock.specs.declared.RadiusBounds.{RadiusBounds}
 use Rattle.stock.specs.Spec.{clean_spec, spec_good}
@@ -25,7 +25,6 @@ use Rattle.rings.specs.Store.{ring_at, rings_of, bar_ring, room_for_rings, ring_
 use Rattle.rings.proofs.Removing.{fits-within}
 use Rattle.rings.proofs.Fitting.{fits-of}
 use Rattle.lines.specs.File.{pieces_of}
-use Rattle.stock_lines.specs.declared.Bar.{Bar}
 use Rattle.stock_lines.specs.Form.{few_cells, written_form, bar_numbers}
 use Rattle.stock_lines.proofs.Steps.{form-told}
 use Rattle.stock_lines.specs.Reading.{State}

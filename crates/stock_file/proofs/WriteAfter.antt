@@ -1,28 +1,25 @@
 -- Write after read: the lines of a file that is not refused are those that are written of what it left. Assumes nothing.
-use Prim.Native.Nat.{ℕ, zero, suc, ◌+◌, ◌-◌, ◌*◌, ◌/◌, ◌%◌, ◌^◌, ◌≤◌, ◌<◌}
+use Prim.Native.Nat.{ℕ, ◌+◌, ◌^◌, ◌≤◌, ◌<◌}
 use native.Mathlib.Omega.{arith}
-use mathlib.Core.Path.{◌≡◌, refl, sym, ap, ◌∙◌, subst}
+use mathlib.Core.Path.{◌≡◌, refl, sym, ap, ◌∙◌}
 use mathlib.Core.Bool.{Bool, true, false, false≢true, true≢false}
-use mathlib.Core.List.{List, [], ◌∷◌, ◌++◌, append_assoc, append-nil}
-use lib.Dec.{T, eqb, ltb}
-use lib.ListN.{length, get_or, length-set}
-use lib.Seq.{sets, get_or-set_same, get_or-set_other}
-use lib.Ieee.{Float, nan}
-use borrow.Author.Tests.{eqb-true, eqb-false, ltb-true, ltb-false, lt-ltb}
-use Rattle.floats.specs.Pick.{pick, pick_true, pick-false}
-use Rattle.text.specs.Lines.{newline, ring_line}
+use mathlib.Core.List.{List, ◌++◌}
+use lib.Dec.{eqb, ltb}
+use lib.Ieee.{Float}
+use borrow.Author.Tests.{eqb-true, ltb-true}
+use Rattle.floats.specs.Pick.{pick_true, pick-false}
+use Rattle.text.specs.Lines.{newline}
 use Rattle.stock_lines.specs.declared.Reading.{Reading}
 use Rattle.stock_lines.specs.declared.form.Four.{Four}
 use Rattle.stock_lines.specs.declared.form.Four.TheVariants.{Numbers, NoFour}
 use Rattle.stock_lines.specs.declared.room.Took.{Took}
 use Rattle.stock_lines.specs.declared.room.Took.TheVariants.{Cell, Ring, End, NoLine}
-use Rattle.stock_lines.specs.Form.{form_of, line_of, four_of, cell_prefix, ring_prefix, end_text, kept_cell_line, end_line}
-use Rattle.stock_lines.specs.Room.{kept, stored, taken, cell_at, ring_at, ring_turn, end_turn, took_of, rings_left_after}
+use Rattle.stock_lines.specs.Form.{form_of, line_of, four_of, cell_prefix, end_line}
+use Rattle.stock_lines.specs.Room.{stored, taken, cell_at, ring_at, ring_turn, end_turn, took_of, rings_left_after}
 use Rattle.stock_lines.specs.Reading.{State, state, next, count_to, refusing, onward_to, went, on_body, on_line}
-use Rattle.stock_lines.proofs.Forms.{NoNan}
-use Rattle.stock_lines.proofs.EachLine.{cell-spelled, ring-spelled, end-spelled}
+use Rattle.stock_lines.proofs.EachLine.{end-spelled}
 use Rattle.stock_lines.proofs.Rooms.{ring-turned, end-turned, took-cell, took-ring, took-end, took-none, rings-cell, rings-other, stored_other}
-use Rattle.stock_lines.proofs.Readings.{line-body, line-behind, count-more, count-full}
+use Rattle.stock_lines.proofs.Readings.{line-body, count-more}
 use Rattle.stock_file.specs.Read.{stopped}
 use Rattle.stock_file.specs.Write.{Opening}
 use Rattle.stock_file.proofs.LineSteps.{most, least, reading}

@@ -4,6 +4,8 @@
 // is held over. A line that is not of the form is the last that is looked at, and its number is told at
 // the end; only a file that is of the form to its end is asked for 1, 2, 3 and 4. `written` has the
 // other way: the lines of a stock's file, one by one.
+#![tactic(auto)]
+
 mod written;
 
 ghost use Rattle.std.specs.Prelude.{◌≡◌, ◌*◌, ◌≤◌, ◌<◌, [], length, set};

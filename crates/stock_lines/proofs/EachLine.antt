@@ -1,22 +1,15 @@
 -- Each kind of line: read after write, write after read, and no two lines for the same numbers. Assumes nothing.
-use Rattle.std.proofs.Common.{◌≡◌, ℕ, zero, suc, ◌+◌, ◌-◌, ◌*◌, ◌^◌, ◌<◌, ◌≤◌, Bool, true, false, not, T, eqb, List, [], ◌∷◌, ◌++◌, length, get_or, take, drop, sym, refl, ap, ◌∙◌, subst, append_assoc, arith, length-append}
-use lib.Ieee.{Float, nan, binary64, fits, is_nan, to_bits, of_bits}
-use lib.Ieee.Bits.{of_bits-to_bits, to_bits-of_bits, of_bits-fits}
+use Rattle.std.proofs.Common.{◌≡◌, ℕ, suc, ◌^◌, ◌<◌, true, List, [], ◌∷◌, ◌++◌, length, get_or, take, drop, sym, refl, ap, ◌∙◌, append_assoc, arith, length-append}
+use lib.Ieee.{Float, nan}
 use Rattle.text.specs.Same.{same_bytes}
-use Rattle.text.specs.Digits.{digits, decimal_of, hex_of}
 use Rattle.text.specs.Lines.{newline, ring_line}
 use Rattle.text.proofs.Spelling.{digits-length}
-use Rattle.text.proofs.Distinct.{Both, cancel, digits-distinct, decimal-distinct}
-use Rattle.text.specs.declared.sixteen.Hex.{Hex}
-use Rattle.text.specs.declared.sixteen.Hex.TheVariants.{Of, NoHex}
-use Rattle.stock_lines.specs.declared.form.Four.{Four}
+use Rattle.text.proofs.Distinct.{cancel, digits-distinct, decimal-distinct}
 use Rattle.stock_lines.specs.declared.form.Four.TheVariants.{Numbers, NoFour}
-use Rattle.stock_lines.specs.declared.form.Five.{Five}
 use Rattle.stock_lines.specs.declared.form.Five.TheVariants.{Spec, NoFive}
-use Rattle.text.specs.Hex.{hex_at, field_of}
-use Rattle.stock_lines.specs.Form.{Line, holds, other, form_of, fields_of, line_of, fields_text, cell_prefix, ring_prefix, end_text, kept_cell_line, end_line, four_of, five_of}
+use Rattle.stock_lines.specs.Form.{Line, holds, other, form_of, line_of, fields_text, cell_prefix, ring_prefix, end_text, kept_cell_line, end_line, four_of, five_of}
 use Rattle.text.proofs.Compare.{same_self, same_true}
-use Rattle.stock_lines.proofs.Forms.{Keeps, NoNan, Parted, line-parted, line-back, line-spelled, fields-count, fields-then}
+use Rattle.stock_lines.proofs.Forms.{Keeps, NoNan, line-parted, line-back, line-spelled, fields-count, fields-then}
 
 -- ---- a line and its newline
 

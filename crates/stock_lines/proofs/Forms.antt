@@ -1,16 +1,14 @@
 -- A line is of the form exactly when it is the writer's line of what is read of it. Assumes nothing.
-use Rattle.std.proofs.Common.{◌≡◌, ℕ, zero, suc, ◌+◌, ◌-◌, ◌*◌, ◌<◌, ◌≤◌, Bool, true, false, not, T, eqb, List, [], ◌∷◌, ◌++◌, map, length, get_or, take, drop, sym, refl, ap, ◌∙◌, subst, append_assoc, arith, length-append, length-drop, take-append-drop, length-take, length-take-le, drop-cons, drop-drop, drop_at, eq-eqb, ne_eqb, eqb-true}
+use Rattle.std.proofs.Common.{◌≡◌, ℕ, zero, suc, ◌+◌, ◌*◌, ◌≤◌, Bool, true, false, not, T, List, [], ◌∷◌, ◌++◌, map, length, get_or, take, drop, sym, refl, ap, ◌∙◌, subst, append_assoc, arith, length-append, length-drop, take-append-drop, drop-cons, drop-drop, drop_at}
 use lib.Ieee.{Float, binary64, fits, is_nan, to_bits, of_bits}
-use lib.ListN.{get_or-eq_default}
-use lib.Seq.{take-append_seam, drop-append_seam, take-append-le}
-use Rattle.floats.specs.Pick.{pick, pick_true, pick-false}
-use Rattle.text.proofs.Chosen.{yes, no}
+use lib.Seq.{take-append_seam, drop-append_seam}
+use Rattle.floats.specs.Pick.{pick_true, pick-false}
 use Rattle.text.specs.Same.{same_bytes}
 use Rattle.text.specs.Digits.{digits, hex_of}
 use Rattle.text.proofs.Spelling.{hex-long}
 use Rattle.text.specs.declared.sixteen.Hex.{Hex}
 use Rattle.text.specs.declared.sixteen.Hex.TheVariants.{Of, NoHex}
-use Rattle.text.specs.Hex.{hexes_to, hex_at, field_of}
+use Rattle.text.specs.Hex.{field_of}
 use Rattle.stock_lines.specs.Form.{Line, holds, other, with_first, fields_of, line_of, fields_text}
 use Rattle.text.proofs.Compare.{same_self, same_true}
 use Rattle.text.proofs.Reading.{Word, hex-word, hex-fits, hex-plus, field_back, field_is, field-tab, field-text, tabbed-long}

@@ -1,7 +1,7 @@
 -- What a line does to a reading, case by case. Assumes nothing.
-use Rattle.std.proofs.Common.{◌≡◌, ℕ, ◌+◌, ◌%◌, ◌^◌, ◌<◌, ◌≤◌, Bool, true, false, eqb, ltb, List, sym, refl, ap, ◌∙◌, le-ltb, lt-ltb, eq-eqb, ne_eqb}
+use Rattle.std.proofs.Common.{◌≡◌, ℕ, ◌+◌, ◌<◌, ◌≤◌, true, false, List, sym, ap, ◌∙◌, le-ltb, lt-ltb, eq-eqb, ne_eqb}
 use lib.Ieee.{Float}
-use Rattle.floats.specs.Pick.{pick, pick_true, pick-false}
+use Rattle.floats.specs.Pick.{pick_true, pick-false}
 use Rattle.stock_lines.specs.declared.Reading.{Reading}
 use Rattle.stock_lines.specs.declared.Bar.{Bar}
 use Rattle.stock_lines.specs.Form.{form_of}

@@ -1,14 +1,12 @@
 -- What a line leaves in the lent room. Assumes nothing.
-use Rattle.std.proofs.Common.{◌≡◌, ℕ, zero, suc, ◌+◌, ◌*◌, ◌/◌, ◌<◌, ◌≤◌, Bool, true, false, T, eqb, ltb, leb, List, [], ◌∷◌, length, set, sym, refl, ap, ◌∙◌, subst, arith, le-ltb, lt-ltb, eq-eqb, ne_eqb, le-leb, leb-false, leb-true}
+use Rattle.std.proofs.Common.{◌≡◌, ℕ, suc, ◌+◌, ◌*◌, ◌/◌, ◌<◌, ◌≤◌, Bool, true, false, T, leb, List, [], ◌∷◌, length, set, sym, refl, ap, ◌∙◌, subst, arith, le-ltb, lt-ltb, eq-eqb, ne_eqb, le-leb, leb-false, leb-true}
 use mathlib.Core.Bool.{false≢true}
 use lib.Ieee.{Float}
-use lib.Seq.{sets, length-sets}
 use borrow.Author.Tests.{lt-leb}
-use Rattle.floats.specs.Pick.{pick, pick_true, pick-false}
+use Rattle.floats.specs.Pick.{pick_true, pick-false}
 use Rattle.text.specs.Same.{same_bytes}
 use Rattle.stock_lines.specs.declared.form.Four.{Four}
 use Rattle.stock_lines.specs.declared.form.Four.TheVariants.{Numbers, NoFour}
-use Rattle.stock_lines.specs.declared.room.Took.{Took}
 use Rattle.stock_lines.specs.declared.room.Took.TheVariants.{Cell, Ring, End, NoLine}
 use Rattle.stock_lines.specs.Form.{form_of, line_of, four_of, cell_prefix, end_text}
 use Rattle.stock_lines.specs.Room.{kept, taken, stored, cell_at, ring_at, ring_turn, end_turn, took_of, rings_left_after}

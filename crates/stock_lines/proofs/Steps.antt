@@ -1,18 +1,17 @@
 -- What the code of a line walks by. Assumes nothing.
-use Rattle.std.proofs.Common.{◌≡◌, ℕ, zero, suc, ◌+◌, ◌-◌, ◌*◌, ◌<◌, ◌≤◌, Bool, true, false, T, eqb, leb, ◌⊎◌, List, [], ◌∷◌, ◌++◌, length, get_or, take, drop, sym, refl, ap, ◌∙◌, subst, inl, inr, arith, drop_of_length-le, get_or-drop, drop-drop, eq-eqb, ne_eqb, eqb-true, le-leb, leb-false, leb-true}
+use Rattle.std.proofs.Common.{◌≡◌, ℕ, suc, ◌+◌, ◌*◌, ◌<◌, ◌≤◌, Bool, true, false, T, eqb, leb, ◌⊎◌, List, [], ◌∷◌, ◌++◌, length, take, drop, sym, refl, ap, ◌∙◌, subst, inl, inr, arith, drop_of_length-le, drop-drop, eq-eqb, ne_eqb, eqb-true, le-leb, leb-false, leb-true}
 use lib.Ieee.{Float}
 use lib.Seq.{sets-eq, take-append_seam}
 use borrow.Author.Tests.{lt-leb}
 use Rattle.refusals.specs.Limits.{cell_limit}
-use Rattle.floats.specs.Pick.{pick, pick_true, pick-false}
+use Rattle.floats.specs.Pick.{pick_true, pick-false}
 use Rattle.text.specs.Same.{same_bytes}
-use Rattle.text.specs.Digits.{digits, decimal_of}
 use Rattle.text.specs.Wrote.{line_room, Wrote, Put, WroteLine}
 use Rattle.text.proofs.Sets.{room, and_then, put-wrote}
 use Rattle.text.proofs.Spelling.{digits-length, decimal-short}
 use Rattle.text.specs.declared.sixteen.Hex.{Hex}
 use Rattle.text.specs.declared.sixteen.Hex.TheVariants.{Of, NoHex}
-use Rattle.text.specs.Hex.{hex_at, field_of}
+use Rattle.text.specs.Hex.{field_of}
 use Rattle.stock_lines.specs.declared.form.Form.{Form}
 use Rattle.stock_lines.specs.First.{CanSay, one, two, three}
 use Rattle.stock_lines.specs.Form.{Line, holds, other, with_first, fields_of, few_cells, form_of, Counts, written_form, begins_with, line_of, stock_prefix, cell_prefix, end_text}

@@ -1,5 +1,5 @@
 -- A file read line by line: what each line does to the reading and to the lent room. Assumes nothing.
-use Rattle.std.specs.Prelude.{ℕ, ◌+◌, ◌%◌, ◌^◌, Bool, true, false, List, ◌==◌, nat_lt, Float}
+use Rattle.std.specs.Prelude.{ℕ, ◌+◌, ◌%◌, ◌^◌, true, false, List, ◌==◌, nat_lt, Float}
 use Rattle.refusals.specs.Lent.{Lent}
 use Rattle.refusals.specs.Limits.{ring_limit}
 use Rattle.floats.specs.Pick.{pick}

@@ -6,6 +6,8 @@
 // digits. Form 2 is that of up to 4,096 cells, with four digits an index; form 3 that of more, with five.
 // 1 is still read, has no edition, and is of edition 0; its other lines are those of 2. `form` reads one
 // line; here a line moves a reading on, and lines are spelled.
+#![tactic(auto)]
+
 mod form;
 mod room;
 

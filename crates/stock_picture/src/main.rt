@@ -1,5 +1,7 @@
 // Draws a stock file as a half section, or two of one bar as what differs between them: reads the one or
 // two files that its arguments name, and writes the picture as SVG, or the one refusal.
+#![tactic(auto)]
+
 ghost use Rattle.refusals.specs.Limits.{cell_limit};
 ghost use Rattle.stock_file.specs.Read.{kept_paper};
 ghost use Rattle.stock_streams.specs.Read.{ReadsStock};

@@ -3,6 +3,8 @@
 // Bytes are taken as they come, to the end of the input, also after a refused line. A read that fails
 // cuts the file off inside its next line, also behind `end`: it is refused there, and never told as if
 // it were whole. Lines to write are gathered, and a stock that is refused writes none.
+#![tactic(auto)]
+
 ghost use Rattle.std.specs.Prelude.{◌≡◌, ◌≤◌, true};
 ghost use Rattle.streams.specs.Moves.{Puts};
 ghost use Rattle.stock_file.specs.Write.{line_for, lines_to};

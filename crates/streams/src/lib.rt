@@ -7,6 +7,8 @@
 // failure is told on standard error.
 //
 // No contract can say which bytes the system's `read` and `write` move.
+#![tactic(auto)]
+
 ghost use Rattle.std.specs.Prelude.{◌≡◌, ◌++◌, ◌+◌, ◌≤◌, length, take, true, false};
 ghost use Rattle.io.specs.Counts.{IsPrefixLen};
 ghost use Rattle.streams.specs.Moves.{Reads, Takes, SameFront, Puts};

@@ -5,6 +5,8 @@
 // stock of their own. A list of edition 2 is refused on edition 3, and kept numbers that do not match
 // the cells are refused, in both forms. The program writes what each answers, whether the cells are the
 // same, and whether the kept numbers are those worked out of the cells.
+#![tactic(auto)]
+
 ghost use Rattle.std.specs.Prelude.{◌≡◌, replicate};
 ghost use Rattle.refusals.specs.Lent.{over};
 ghost use Rattle.envelope.specs.Envelope.{radius_at_paper, radius_at_of};

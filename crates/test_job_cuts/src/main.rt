@@ -3,6 +3,8 @@
 //
 // It writes each name with how many bytes were cut, and whether every cut left the run, the cells and
 // the rings of the whole file.
+#![tactic(auto)]
+
 use job_run::{CELL_NUMBERS, LINE_LIMIT, RING_NUMBERS, Run, Taken};
 use std::fs::File;
 use stock::TurnStockSpec;

@@ -2,6 +2,8 @@
 // its job writes, and a refusal in words too.
 //
 // The last argument is a folder: its read fails, so that its job is cut off.
+#![tactic(auto)]
+
 use job_run::{CELL_NUMBERS, LINE_LIMIT, RING_NUMBERS};
 use job_streams::End;
 use std::fs::File;

@@ -1,5 +1,7 @@
 // Compares stock files by pairs of names that its arguments have, and writes each pair with what
 // differs; then stocks of thousands of bins (`many`).
+#![tactic(auto)]
+
 mod many;
 
 // Writes a name of a pair, and what stands behind it.

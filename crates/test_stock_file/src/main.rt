@@ -5,6 +5,8 @@
 // every byte damaged in every way of `ways`, and files of thousands of lines (`long`). A room is told by how many of its numbers were
 // written and by a sum of all of them. `scripts/stock-cases` has what is to be written, by a reader of
 // its own.
+#![tactic(auto)]
+
 mod long;
 mod shown;
 mod ways;

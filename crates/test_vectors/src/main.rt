@@ -10,6 +10,8 @@
 // by single spaces. An f64 is the 16 digits of its bits, everything else is decimal. `N*M` stands for M
 // fields, each the one N places before it. The recorded calls are `compare record 160 2026`, with the
 // answers of the Rust: a sample of each family, and the calls at the limits.
+#![tactic(auto)]
+
 mod answers;
 mod calls;
 mod given;

@@ -1,5 +1,5 @@
 -- Texts put one after the other, where all of them find room. Assumes nothing.
-use Rattle.std.proofs.Common.{◌≡◌, ℕ, ◌+◌, ◌≤◌, true, leb, List, [], ◌∷◌, length, sym, refl, ◌∙◌, arith, leb-true}
+use Rattle.std.proofs.Common.{◌≡◌, ℕ, ◌+◌, ◌≤◌, true, leb, List, refl, arith, leb-true}
 use lib.Ieee.{Float}
 use Rattle.text.specs.Lines.{newline, field, four_fields}
 use Rattle.text.specs.Wrote.{Wrote, line_room, Put}

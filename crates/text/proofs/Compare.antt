@@ -1,5 +1,5 @@
 -- Two lists of bytes compared from the left. Assumes nothing.
-use Rattle.std.proofs.Common.{◌≡◌, ℕ, ◌+◌, ◌-◌, ◌<◌, ◌≤◌, Bool, true, false, T, eqb, leb, List, [], ◌∷◌, length, get_or, drop, sym, refl, ◌∙◌, subst, add-one, drop_of_length-le, drop-cons, eq-eqb, ne_eqb, eqb-true, leb-false, leb-true}
+use Rattle.std.proofs.Common.{◌≡◌, ℕ, ◌+◌, ◌<◌, ◌≤◌, Bool, true, false, T, eqb, leb, List, [], ◌∷◌, length, get_or, drop, sym, refl, ◌∙◌, subst, add-one, drop_of_length-le, drop-cons, eq-eqb, ne_eqb, eqb-true, leb-false, leb-true}
 use Rattle.floats.specs.Pick.{pick_true, pick-false}
 use Rattle.text.proofs.Chosen.{yes, no}
 use Rattle.text.specs.Same.{same_bytes}

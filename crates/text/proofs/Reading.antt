@@ -12,7 +12,6 @@ use Rattle.text.specs.Digits.{glyph_of, digits, hex_of}
 use Rattle.text.specs.Lines.{field}
 use Rattle.text.proofs.Spelling.{digits-length, glyph-low, glyph-high}
 use Rattle.text.proofs.Distinct.{quotient}
-use Rattle.text.specs.declared.sixteen.Hex.{Hex}
 use Rattle.text.specs.declared.sixteen.Hex.TheVariants.{Of, NoHex}
 use Rattle.text.specs.declared.sixteen.Eight.TheVariants as eight
 use Rattle.text.specs.declared.Whole.TheVariants as whole
@@ -121,7 +120,7 @@ spelled-hexes (suc k) n t =
     let g : ℕ = glyph_of (n % 16) in
     let a : (f ++ (g ∷ [])) ++ t ≡ f ++ (g ∷ t) = append_assoc f (g ∷ []) t in
     let d : nibble_of (get_or (f ++ (g ∷ t)) k 0) ≡ n % 16 = ap nibble_of (get_or_at f g t 0 k (digits-length 16 k (n / 16))) ∙ nibble-glyph (n % 16) l in
-    rw a (simp (spelled-hexes k (n / 16) (g ∷ t), d, lt-ltb _ _ l))
+    subst (λ (w : List ℕ). hexes_to w (suc k) ≡ true) (sym a) (simp (spelled-hexes k (n / 16) (g ∷ t), d, lt-ltb _ _ l))
 
 -- and reads as itself
 pub spelled-value : (k n : ℕ) (t : List ℕ) → n < 16 ^ k → value_to (digits 16 k n ++ t) k ≡ n
@@ -134,7 +133,7 @@ spelled-value (suc k) n t h =
     let a : (f ++ (g ∷ [])) ++ t ≡ f ++ (g ∷ t) = append_assoc f (g ∷ []) t in
     let d : nibble_of (get_or (f ++ (g ∷ t)) k 0) ≡ n % 16 = ap nibble_of (get_or_at f g t 0 k (digits-length 16 k (n / 16))) ∙ nibble-glyph (n % 16) l in
     let v : value_to (f ++ (g ∷ t)) k ≡ n / 16 = spelled-value k (n / 16) (g ∷ t) (quotient 16 k n (omega arith) h) in
-    rw a (omega (arith, d, v))
+    subst (λ (w : List ℕ). value_to w (suc k) ≡ n) (sym a) (omega (arith, d, v))
 
 zero-none : nibble_of 0 < 16 → ⊥
 unfolding nibble_of pick

@@ -2,7 +2,7 @@
 use Rattle.std.proofs.Common.{◌≡◌, ℕ, suc, ◌+◌, ◌-◌, ◌<◌, ◌≤◌, Bool, true, false, leb, List, [], ◌∷◌, ◌++◌, length, get_or, drop, set, sym, refl, ap, ◌∙◌, subst, add-one, arith, length-append, drop_of_length-le, drop-cons, le-leb, leb-false, leb-true}
 use lib.Seq.{sets, length-sets, set_comm}
 use borrow.Author.Tests.{lt-leb}
-use Rattle.floats.specs.Pick.{pick, pick_true, pick-false}
+use Rattle.floats.specs.Pick.{pick_true, pick-false}
 use Rattle.text.specs.Wrote.{Wrote, line_room, Put}
 
 -- a store past a text commutes with it

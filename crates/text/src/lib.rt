@@ -4,6 +4,8 @@
 // decimal, an f64 in the 16 hexadecimal digits of its bits, and an edition in 8 (`sixteen`). A line is put together in a
 // buffer of 128 bytes, each text whole or not at all (`digits`); what is for a person goes into any
 // buffer as far as there is room (`plain`).
+#![tactic(auto)]
+
 mod digits;
 mod plain;
 mod sixteen;

@@ -7,6 +7,8 @@
 // `turning_job_finish` alone tells a refusal that is not its own: that of the job, with its line.
 // `turning_read_part` alone writes where it is refused: what it read before the refused line.
 // Each promise allows one outcome (`proofs/Once`).
+#![tactic(auto)]
+
 mod cuts_c;
 mod envelope_c;
 mod file_c;

@@ -20,8 +20,8 @@ pub loop-i-preserved : goal.loop-i-preserved
 loop-i-preserved c = let f = other_cell c.args.after.now in
     let same = ap₂ same_cell (sym c.cell_at-a.ensures) (sym c.cell_at-b.ensures) ∙ sym c.same_cell.ensures in
     elim c.if-not-same_cell.branch [
-      then-not-same_cell w ↦ (omega arith, omega arith, w.k-is ∙ (ap (λ (j : ℕ). j + 1) c.loop-i.invariant.2 ∙ sym (ap length (made f c.args.cells.now c.loop-i.i (same ∙ w.if-not-same_cell.true)) ∙ length-append (changes_to f c.args.cells.now c.loop-i.i) (change_of f c.args.cells.now c.loop-i.i ∷ []))))
-    | else-not-same_cell w ↦ (omega arith, omega arith, w.k-is ∙ (c.loop-i.invariant.2 ∙ sym (ap length (kept f c.args.cells.now c.loop-i.i (same ∙ w.if-not-same_cell.false)))))
+      | then-not-same_cell w ↦ (omega arith, omega arith, w.k-is ∙ (ap (λ (j : ℕ). j + 1) c.loop-i.invariant.2 ∙ sym (ap length (made f c.args.cells.now c.loop-i.i (same ∙ w.if-not-same_cell.true)) ∙ length-append (changes_to f c.args.cells.now c.loop-i.i) (change_of f c.args.cells.now c.loop-i.i ∷ []))))
+      | else-not-same_cell w ↦ (omega arith, omega arith, w.k-is ∙ (c.loop-i.invariant.2 ∙ sym (ap length (kept f c.args.cells.now c.loop-i.i (same ∙ w.if-not-same_cell.false)))))
     ]
 
 pub returns : goal.returns

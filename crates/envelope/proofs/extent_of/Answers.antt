@@ -1,5 +1,4 @@
 -- `envelope::extent_of` meets its contract. Assumes nothing.
-use borrow.Author.Rules.{rules}
 use mathlib.Core.Path.{sym, ap, ◌∙◌}
 use mir.Facts.{to_z-of_z}
 use Rattle.floats.specs.Pick.{pick_true, pick-false}

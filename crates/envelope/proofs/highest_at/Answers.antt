@@ -1,5 +1,4 @@
 -- `envelope::highest_at` meets its contract. Assumes nothing.
-use borrow.Author.Rules.{rules}
 use mathlib.Core.Path.{ap, ◌∙◌}
 use mir.Facts.{to_z-of_z}
 use Rattle.envelope.specs.Envelope.{count, wider, highest_in}

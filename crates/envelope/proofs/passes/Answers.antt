@@ -1,5 +1,4 @@
 -- `envelope::passes` meets its contract. Assumes nothing.
-use borrow.Author.Rules.{rules}
 use Rattle.floats.specs.Pick.{picks}
 use Rattle.envelope.proofs.passes.Goals as goal
 

@@ -1,8 +1,8 @@
 -- `envelope::radius_at` meets its contract. Assumes nothing.
-use borrow.Author.Rules.{rules}
 use mathlib.Core.Path.{◌∙◌}
+use mir.Syntax.{w8}
 use mir.Facts.{to_z-of_z}
 use Rattle.envelope.proofs.radius_at.Goals as goal
 
 pub returns : goal.returns
-returns c = c.radius_at_kept.ensures.ruled (to_z-of_z (record { sfits = c.number_of.type-inv }) ∙ c.number_of.ensures)
+returns c = c.radius_at_kept.ensures.ruled (to_z-of_z {w = w8} (record { sfits = c.number_of.type_inv }) ∙ c.number_of.ensures)

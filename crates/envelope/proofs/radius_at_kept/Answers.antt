@@ -1,5 +1,4 @@
 -- `envelope::radius_at_kept` meets its contract. Assumes nothing.
-use borrow.Author.Rules.{rules}
 use mathlib.Core.Path.{sym, ap, ◌∙◌}
 use borrow.Author.Tests.{not-true, not-false}
 use mir.Facts.{to_z-of_z}

@@ -1,6 +1,6 @@
 -- `envelope::scan` meets its contract. Assumes nothing.
 use borrow.Author.Rules.{rules}
-use Prim.Native.Nat.{◌+◌, ◌-◌, ◌*◌, ◌/◌, ◌≤◌}
+use Prim.Native.Nat.{◌+◌, ◌-◌, ◌*◌, ◌/◌}
 use mathlib.Core.Path.{◌≡◌, refl, ap, ◌∙◌}
 use lib.ListN.{length}
 use native.Mathlib.Omega.{arith}
@@ -20,6 +20,7 @@ loop-i-init c = (search rules, refl, refl, refl)
 pub loop-i-preserved : goal.loop-i-preserved
 loop-i-preserved c = let ps = c.args.points.now in
     let i = c.loop-i.i in
+    let held = c.shared_slice_known-1.given in
     let inv = c.loop-i.invariant in (
       search rules,
       rw (usable-more ps i, ← inv.1, ← c.is_usable.ensures, ← c.is_usable-in-loop-i.ensures),

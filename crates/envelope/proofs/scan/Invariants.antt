@@ -1,13 +1,8 @@
 -- `envelope::scan` meets its contract. Assumes nothing.
-use borrow.Author.Rules.{rules}
-use Prim.Native.Nat.{◌+◌, ◌-◌, ◌*◌, ◌/◌, ◌≤◌}
-use mathlib.Core.Path.{◌≡◌, refl, ap, ◌∙◌}
-use lib.ListN.{length}
-use native.Mathlib.Omega.{arith}
-use Rattle.floats.specs.Numbers.{usable_to, all_to}
+use Prim.Native.Nat.{◌-◌, ◌*◌, ◌≤◌}
+use mathlib.Core.Path.{◌≡◌}
+use Rattle.floats.specs.Numbers.{usable_to}
 use Rattle.envelope.specs.Envelope.{rises_to, falls_to}
-use Rattle.envelope.proofs.Steps.{usable-more, rises_next, falls-next}
-use Rattle.envelope.proofs.Kept.{scan-made, scan-none}
 use Rattle.envelope.proofs.scan.Given as goal
 
 abbrev pub invariant-loop-i : goal.invariant-loop-i

@@ -1,5 +1,4 @@
 -- `envelope::span_of` meets its contract. Assumes nothing.
-use borrow.Author.Rules.{rules}
 use Rattle.envelope.proofs.Steps.{reads}
 use Rattle.envelope.proofs.Kept.{span-up, span-down, span-all}
 use Rattle.envelope.proofs.span_of.Goals as goal

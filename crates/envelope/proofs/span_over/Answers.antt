@@ -1,5 +1,4 @@
 -- `envelope::span_over` meets its contract. Assumes nothing.
-use borrow.Author.Rules.{rules}
 use mathlib.Core.Path.{ap, ◌∙◌}
 use mir.Facts.{to_z-of_z}
 use Rattle.envelope.specs.Halving.{halved_span}

@@ -1,11 +1,9 @@
 -- `envelope::split` meets its contract (`Halves.antt` has the loop's turn). Assumes nothing.
-use Prim.Native.Nat.{◌-◌, ◌/◌, ◌≤◌}
+use Prim.Native.Nat.{◌-◌}
 use Rattle.envelope.proofs.Halves.{done, left, right, whole}
 use Rattle.envelope.specs.Envelope.{passes}
-use Rattle.envelope.specs.Halving.{halve, split_of}
 use borrow.Author.Rules.{rules}
-use lib.ListN.{length}
-use mathlib.Core.Path.{◌∙◌, ◌≡◌, ap, sym}
+use mathlib.Core.Path.{◌∙◌, ap, sym}
 use native.Mathlib.Omega.{arith}
 use Rattle.envelope.proofs.split.Goals as goal
 

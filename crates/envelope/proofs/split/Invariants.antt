@@ -1,12 +1,8 @@
 -- `envelope::split` meets its contract (`Halves.antt` has the loop's turn). Assumes nothing.
 use Prim.Native.Nat.{◌-◌, ◌/◌, ◌≤◌}
-use Rattle.envelope.proofs.Halves.{done, left, right, whole}
-use Rattle.envelope.specs.Envelope.{passes}
 use Rattle.envelope.specs.Halving.{halve, split_of}
-use borrow.Author.Rules.{rules}
 use lib.ListN.{length}
-use mathlib.Core.Path.{◌∙◌, ◌≡◌, ap, sym}
-use native.Mathlib.Omega.{arith}
+use mathlib.Core.Path.{◌≡◌}
 use Rattle.envelope.proofs.split.Given as goal
 
 abbrev pub invariant-loop-a : goal.invariant-loop-a

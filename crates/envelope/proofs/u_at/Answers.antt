@@ -1,5 +1,4 @@
 -- `envelope::u_at` meets its contract. Assumes nothing.
-use borrow.Author.Rules.{rules}
 use Rattle.floats.specs.Pick.{picks}
 use Rattle.envelope.specs.Envelope.{u_at}
 use Rattle.envelope.proofs.u_at.Goals as goal

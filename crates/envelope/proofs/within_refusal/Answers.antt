@@ -1,5 +1,4 @@
 -- `envelope::within_refusal` meets its contract. Assumes nothing.
-use borrow.Author.Rules.{rules}
 use mathlib.Core.Path.{sym, ap, ◌∙◌}
 use Rattle.refusals.specs.Paper.{onward-answers, onward-refuses}
 use Rattle.envelope.specs.Envelope.{spanned_paper, within_refusal_of}

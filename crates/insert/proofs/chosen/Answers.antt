@@ -1,5 +1,4 @@
 -- `insert::chosen` meets its contract. Assumes nothing.
-use borrow.Author.Rules.{rules}
 use Rattle.floats.specs.Pick.{picks}
 use Rattle.insert.proofs.chosen.Goals as goal
 

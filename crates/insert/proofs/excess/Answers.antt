@@ -1,5 +1,4 @@
 -- `insert::excess` meets its contract. Assumes nothing.
-use borrow.Author.Rules.{rules}
 use Rattle.insert.proofs.excess.Goals as goal
 
 pub returns : goal.returns

@@ -1,7 +1,6 @@
 -- `insert::is_polygon` meets its contract. Assumes nothing.
 use mathlib.Core.Path.{◌≡◌, sym, ◌∙◌}
 use lib.IntN.{pos}
-use borrow.Author.Rules.{rules}
 use borrow.Author.Tests.{le-leb, lt-leb}
 use Rattle.envelope.specs.Halving.{kept_of}
 use Rattle.envelope.proofs.Steps.{reads}
@@ -16,7 +15,7 @@ returns-then-polygon-gt-POINT_LIMIT c = rw (lt-leb _ _ c.if-polygon-gt-POINT_LIM
 pub returns-then-order-eq-OUTSIDE : goal.returns-then-order-eq-OUTSIDE
 unfolding polygon_good
 returns-then-order-eq-OUTSIDE c = let n = c.number_of-order in
-    rw (le-leb _ _ c.if-polygon-gt-POINT_LIMIT.false, kept-refused _ (sym n.ensures ∙ reads n.result 2 (record { sfits = n.type-inv }) c.if-order-eq-OUTSIDE.true))
+    rw (le-leb _ _ c.if-polygon-gt-POINT_LIMIT.false, kept-refused _ (sym n.ensures ∙ reads n.result 2 (record { sfits = n.type_inv }) c.if-order-eq-OUTSIDE.true))
 
 pub returns : goal.returns
 unfolding polygon_good

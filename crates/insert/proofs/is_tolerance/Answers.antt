@@ -1,5 +1,4 @@
 -- `insert::is_tolerance` meets its contract. Assumes nothing.
-use borrow.Author.Rules.{rules}
 use Rattle.floats.specs.Pick.{picks}
 use Rattle.insert.proofs.is_tolerance.Goals as goal
 

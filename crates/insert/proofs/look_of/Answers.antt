@@ -1,6 +1,5 @@
 -- `insert::look_of` meets its contract. Assumes nothing.
-use borrow.Author.Rules.{rules}
-use mathlib.Core.Path.{◌≡◌, sym, ap, ◌∙◌}
+use mathlib.Core.Path.{sym, ap, ◌∙◌}
 use mir.Facts.{to_z-of_z}
 use Rattle.insert.specs.declared.Which.{Which}
 use Rattle.insert.specs.declared.Which.TheVariants.{Least, Greatest}

@@ -1,5 +1,4 @@
 -- `insert::over_held` meets its contract. Assumes nothing.
-use borrow.Author.Rules.{rules}
 use Rattle.insert.proofs.Held.{carried}
 use Rattle.insert.proofs.over_held.Goals as goal
 

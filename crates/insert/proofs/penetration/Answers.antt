@@ -1,5 +1,4 @@
 -- `insert::penetration` meets its contract. Assumes nothing.
-use borrow.Author.Rules.{rules}
 use Rattle.insert.proofs.penetration.Goals as goal
 
 pub returns : goal.returns

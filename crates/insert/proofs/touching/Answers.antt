@@ -1,6 +1,6 @@
 -- `insert::touching` meets its contract. Assumes nothing.
-use borrow.Author.Rules.{rules}
 use mathlib.Core.Path.{◌≡◌, sym, ap, ap₂, ◌∙◌}
+use mir.Syntax.{w8}
 use mir.Facts.{to_z-of_z}
 use mathlib.Core.Bool.{◌&&◌}
 use lib.IntN.{pos}
@@ -17,7 +17,7 @@ use Rattle.insert.proofs.touching.Goals as goal
 pub returns-then-order-eq-OUTSIDE : goal.returns-then-order-eq-OUTSIDE
 unfolding touched touch_asks
 returns-then-order-eq-OUTSIDE c = let n = c.number_of-order in
-    asks-outside _ _ _ (kept-refused _ (sym n.ensures ∙ reads n.result 2 (record { sfits = n.type-inv }) c.if-order-eq-OUTSIDE.true))
+    asks-outside _ _ _ (kept-refused _ (sym n.ensures ∙ reads n.result 2 (record { sfits = n.type_inv }) c.if-order-eq-OUTSIDE.true))
 
 pub returns-then-not-is_polygon-is_tolerance : goal.returns-then-not-is_polygon-is_tolerance
 unfolding touched touch_asks
@@ -30,7 +30,7 @@ pub tried-found-requires : goal.tried-found-requires
 tried-found-requires c = let ps = c.args.points.now in
     let n = c.number_of-order in
     let g = kept-accepted ps (λ (e : kept_of ps ≡ pos 2). c.if-order-eq-OUTSIDE.false (rw (n.ensures, e))) in
-    (g, to_z-of_z (record { sfits = n.type-inv }) ∙ (n.ensures ∙ kept-good ps g))
+    (g, to_z-of_z {w = w8} (record { sfits = n.type_inv }) ∙ (n.ensures ∙ kept-good ps g))
 
 pub returns-in-At : goal.returns-in-At
 unfolding touched touch_asks radius_of

@@ -1,6 +1,5 @@
 -- `insert::tried` meets its contract. Assumes nothing.
-use borrow.Author.Rules.{rules}
-use mathlib.Core.Path.{◌≡◌, sym, ap, ap₂, ◌∙◌}
+use mathlib.Core.Path.{sym, ap₂, ◌∙◌}
 use mir.Facts.{to_z-of_z}
 use Rattle.floats.specs.Pick.{pick_true, pick-false}
 use lib.Ieee.{Float}

@@ -1,5 +1,4 @@
 -- `job_answer::answer_line` meets its contract. Assumes nothing.
-use borrow.Author.Rules.{rules}
 use Rattle.job_answer.proofs.Nth.{is-refused, past-refused, is-cell, is-ring, is-gen, is-past, none, reline}
 use Rattle.job_answer.proofs.answer_line.Goals as goal
 

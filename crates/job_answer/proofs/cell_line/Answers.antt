@@ -1,7 +1,6 @@
 -- `job_answer::cell_line` meets its contract. Assumes nothing.
 use mathlib.Core.Path.{refl}
 use native.Mathlib.Omega.{arith}
-use borrow.Author.Rules.{rules}
 use Rattle.text.proofs.Sets.{and_then, put-wrote}
 use Rattle.text.proofs.Spelling.{decimal-short, four-long}
 use Rattle.job_answer.specs.Lines.{cell_line}

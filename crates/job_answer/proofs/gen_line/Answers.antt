@@ -1,7 +1,6 @@
 -- `job_answer::gen_line` meets its contract. Assumes nothing.
 use mathlib.Core.Path.{refl}
 use native.Mathlib.Omega.{arith}
-use borrow.Author.Rules.{rules}
 use Rattle.text.proofs.Sets.{and_then, put-wrote}
 use Rattle.text.proofs.Spelling.{decimal-short}
 use Rattle.job_answer.specs.Lines.{gen_line}

@@ -4,4 +4,4 @@ use Rattle.std.proofs.Common.{rules}
 use Rattle.job_run.proofs.refuse.Goals as goal
 
 pub returns : goal.returns
-returns c = refused-is c.args.run c.args.refusal _ _ c.wrapping_add_u64.ensures c.number-number.ensures
+returns c = refused-is c.args.run c.args.refusal _ _ c.wrapping_add_u64.ensures.value c.number-number.ensures

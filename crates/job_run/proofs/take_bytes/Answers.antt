@@ -4,17 +4,9 @@ use Rattle.job_run.specs.Run.{state, hold, byte_on}
 use Rattle.std.proofs.Common.{◌≡◌, ◌-◌, ◌^◌, ◌<◌, ◌≤◌, length, drop, sym, refl, ◌∙◌, arith, rules}
 use mathlib.Core.List.{foldl}
 use Rattle.job_run.proofs.take_bytes.Goals as goal
-use Rattle.job_run.proofs.take_bytes.Goals.{Start}
-
--- a slice's length is a usize
-few : (c : Start) → length c.args.bytes.now < 2 ^ 64
-few c = omega arith
 
 pub loop-i-init : goal.loop-i-init
 loop-i-init c = (search rules, search rules, search rules, search rules, refl, refl, refl)
-
-pub overflow_add-i : goal.overflow_add-i
-overflow_add-i c = omega (arith, few c.before.before.before.before.before.before.before.before.before.before.before.before.before.before.before.before.before.before.before.before.before.before, c.loop-i-test.true)
 
 pub loop-i-preserved : goal.loop-i-preserved
 loop-i-preserved c = (search rules, search rules, search rules, search rules, search rules, search rules, c.loop-i.invariant.6 ∙ bytes-step _ _ _ _ c.loop-i-test.true c.take_byte-t.ensures)

@@ -8,8 +8,8 @@ use Rattle.numbers.proofs.by_digits.Goals.{then-r-rem, else-r-rem}
 pub loop-i-preserved : goal.loop-i-preserved
 loop-i-preserved c =
     elim c.if-r-rem.branch [
-      then-r-rem w ↦ rw (w.r-is, w.rem-is) (up c.args.m c.loop-i.w c.loop-i.r c.loop-i.rem c.loop-i.i c.loop-i.invariant c.loop-i-test.true w.if-r-rem.true)
-    | else-r-rem w ↦ rw (w.r-is, w.rem-is) (stay c.args.m c.loop-i.w c.loop-i.r c.loop-i.rem c.loop-i.i c.loop-i.invariant c.loop-i-test.true w.if-r-rem.false)
+      | then-r-rem w ↦ rw (w.r-is, w.rem-is) (up c.args.m c.loop-i.w c.loop-i.r c.loop-i.rem c.loop-i.i c.loop-i.invariant c.loop-i-test.true w.if-r-rem.true)
+      | else-r-rem w ↦ rw (w.r-is, w.rem-is) (stay c.args.m c.loop-i.w c.loop-i.r c.loop-i.rem c.loop-i.i c.loop-i.invariant c.loop-i-test.true w.if-r-rem.false)
     ]
 
 pub returns-then-r-rem-2 : goal.returns-then-r-rem-2

@@ -15,7 +15,7 @@ pub returns-then-q : goal.returns-then-q
 returns-then-q c = up-minus c.args.q c.args.limit c.if-q.true c.if-q-2.false
 
 pub truncating_f64_to_u64-t-requires : goal.truncating_f64_to_u64-t-requires
-truncating_f64_to_u64-t-requires c = 
+truncating_f64_to_u64-t-requires c =
     let h = in-range c.args.q (held _ c.well_formed.0.1) (above c.args.q (held _ c.well_formed.0.1) c.if-q.false c.if-q-3.true) in
     record { lower_bound = h.0; upper_bound = h.1 }
 

@@ -1,7 +1,6 @@
 -- `picture::band_of` meets its contract. Assumes nothing.
 use Rattle.picture.specs.Drawn.{band_of}
 use Rattle.picture.proofs.Drawing.{band-at, common-of}
-use borrow.Author.Rules.{rules}
 use Rattle.picture.proofs.band_of.Goals as goal
 
 pub returns-in-Metal : goal.returns-in-Metal

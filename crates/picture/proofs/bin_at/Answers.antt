@@ -1,6 +1,5 @@
 -- `picture::bin_at` meets its contract. Assumes nothing.
 use Rattle.picture.proofs.Drawing.{bin-past, bin-outer, bin-inner}
-use borrow.Author.Rules.{rules}
 use Rattle.picture.proofs.bin_at.Goals as goal
 
 pub returns-then-bins-k : goal.returns-then-bins-k

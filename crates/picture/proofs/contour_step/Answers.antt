@@ -1,6 +1,5 @@
 -- `picture::contour_step` meets its contract. Assumes nothing.
 use Rattle.picture.proofs.Contours.{no_text, its-text}
-use borrow.Author.Rules.{rules}
 use Rattle.picture.proofs.contour_step.Goals as goal
 
 pub returns-then-next-k : goal.returns-then-next-k

@@ -1,6 +1,5 @@
 -- `picture::edge` meets its contract. Assumes nothing.
 use Rattle.picture.proofs.Drawing.{edge-outer, edge-inner}
-use borrow.Author.Rules.{rules}
 use Rattle.picture.proofs.edge.Goals as goal
 
 pub returns-in-Outer : goal.returns-in-Outer

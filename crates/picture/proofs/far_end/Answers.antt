@@ -1,6 +1,5 @@
 -- `picture::far_end` meets its contract. Assumes nothing.
 use Rattle.picture.proofs.Drawing.{far-outer, far-inner}
-use borrow.Author.Rules.{rules}
 use Rattle.picture.proofs.far_end.Goals as goal
 
 pub returns-in-Outer : goal.returns-in-Outer

@@ -1,10 +1,8 @@
 -- `picture::first_so` meets its contract. The loop's invariant: no bin passed is as it is wanted. Assumes nothing.
-use Prim.Native.Nat.{◌≤◌, ◌-◌}
 use native.Mathlib.Omega.{arith}
 use mathlib.Core.Path.{sym, ◌∙◌}
-use Rattle.picture.specs.Drawn.{looks_at}
 use Rattle.picture.proofs.Drawing.{looks-at, agree_same, agree-other}
-use Rattle.picture.proofs.Runs.{Passed, passed_none, passed-more, first_found, first-none}
+use Rattle.picture.proofs.Runs.{passed_none, passed-more, first_found, first-none}
 use Rattle.picture.proofs.first_so.Goals as goal
 
 pub loop-j-init : goal.loop-j-init

@@ -3,7 +3,6 @@ use mathlib.Core.Path.{ap}
 use mathlib.Core.Bool.{not}
 use Rattle.picture.specs.Drawn.{looks_so}
 use Rattle.picture.proofs.Drawing.{band-known, metal-at, gone-in, looks-so}
-use borrow.Author.Rules.{rules}
 use Rattle.picture.proofs.is_so.Goals as goal
 
 pub returns-in-Metal : goal.returns-in-Metal

@@ -2,7 +2,6 @@
 use mathlib.Core.Path.{ap}
 use Rattle.floats.specs.Numbers.{◌-₆₄◌}
 use Rattle.stock.specs.declared.ZRange.{ZRange}
-use borrow.Author.Rules.{rules}
 use Rattle.picture.proofs.near_end.Goals as goal
 
 pub returns : goal.returns

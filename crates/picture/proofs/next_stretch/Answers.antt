@@ -1,6 +1,5 @@
 -- `picture::next_stretch` meets its contract. Assumes nothing.
 use Rattle.picture.proofs.Runs.{stretch-of}
-use borrow.Author.Rules.{rules}
 use Rattle.picture.proofs.next_stretch.Goals as goal
 
 pub returns : goal.returns

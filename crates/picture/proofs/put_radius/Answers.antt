@@ -1,7 +1,6 @@
 -- `picture::put_radius` meets its contract. Assumes nothing.
 use native.Mathlib.Omega.{arith}
 use Rattle.picture.proofs.Texts.{lettered}
-use borrow.Author.Rules.{rules}
 use Rattle.picture.proofs.put_radius.Goals as goal
 
 pub returns : goal.returns

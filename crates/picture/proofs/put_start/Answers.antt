@@ -1,6 +1,5 @@
 -- `picture::put_start` meets its contract. Assumes nothing.
 use Rattle.picture.proofs.Texts.{start-put}
-use borrow.Author.Rules.{rules}
 use Rattle.picture.proofs.put_start.Goals as goal
 
 pub returns : goal.returns

@@ -1,6 +1,5 @@
 -- `picture::put_turn` meets its contract. Assumes nothing.
 use Rattle.picture.proofs.Texts.{turn-later, turn-outer, turn-inner}
-use borrow.Author.Rules.{rules}
 use Rattle.picture.proofs.put_turn.Goals as goal
 
 pub returns-then-k-ne0 : goal.returns-then-k-ne0

@@ -1,9 +1,8 @@
 -- `picture::run_end` meets its contract. The loop's invariant: all bins passed are at k's radius. Assumes nothing.
-use Prim.Native.Nat.{◌≤◌, ◌<◌, ◌-◌}
 use native.Mathlib.Omega.{arith}
 use borrow.Author.Tests.{not-true, not-false}
 use Rattle.picture.specs.Steps.{edge_of}
-use Rattle.picture.proofs.Runs.{Level, told, level-none, level-more, run_none, run-found, run-full}
+use Rattle.picture.proofs.Runs.{told, level-none, level-more, run_none, run-found, run-full}
 use Rattle.picture.proofs.run_end.Goals as goal
 
 pub bins-n-requires : goal.bins-n-requires

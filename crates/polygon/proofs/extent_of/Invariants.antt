@@ -12,7 +12,5 @@ use Rattle.polygon.proofs.extent_of.Given as goal
 abbrev pub invariant-loop-i : goal.invariant-loop-i
 invariant-loop-i l = (l.i ≤ l.n) × (extent_to l.points l.i ≡ some (record { lo = l.lo; hi = l.hi }))
 
-
 abbrev pub decreases-loop-i : goal.decreases-loop-i
 decreases-loop-i l = l.n - l.i
-

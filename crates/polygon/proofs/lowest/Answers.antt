@@ -22,8 +22,8 @@ pub loop-i-preserved : goal.loop-i-preserved
 loop-i-preserved c = let l = c.loop-i in
     let h : l.i + 1 < length c.args.points.now / 2 = omega arith in
     elim c.if-not-is_beside.branch [
-      then-not-is_beside w ↦ (search rules, c.height_at-b.ensures, rw (lowest-more _ _ _ _ l.i h, ← l.invariant.2) (ap low_paper w.low-is ∙ w.lower_at-low.ensures))
-    | else-not-is_beside w ↦ (search rules, c.height_at-b.ensures, rw (lowest-beside _ _ _ _ l.i h l.invariant.1 c.height_at-b.ensures (sym c.is_beside.ensures ∙ w.if-not-is_beside.false), ← l.invariant.2) (ap low_paper w.low-is))
+      | then-not-is_beside w ↦ (search rules, c.height_at-b.ensures, rw (lowest-more _ _ _ _ l.i h, ← l.invariant.2) (ap low_paper w.low-is ∙ w.lower_at-low.ensures))
+      | else-not-is_beside w ↦ (search rules, c.height_at-b.ensures, rw (lowest-beside _ _ _ _ l.i h l.invariant.1 c.height_at-b.ensures (sym c.is_beside.ensures ∙ w.if-not-is_beside.false), ← l.invariant.2) (ap low_paper w.low-is))
     ]
 
 pub returns : goal.returns

@@ -18,8 +18,8 @@ loop-i-init c = (search rules, refl)
 pub loop-i-preserved : goal.loop-i-preserved
 loop-i-preserved c = let l = c.loop-i in
     elim c.if-za-z.branch [
-      then-za-z w ↦ (search rules, rw (lows-more, ← l.invariant.1, ← c.height_at-z.ensures, pick_true _ _ _ w.if-za-z.true, ← w.lowest.ensures) (ap low_paper w.low-is ∙ w.lower-low.ensures))
-    | else-za-z w ↦ (search rules, rw (lows-more, ← l.invariant.1, ← c.height_at-z.ensures, pick-false _ _ _ w.if-za-z.false) (ap low_paper w.low-is))
+      | then-za-z w ↦ (search rules, rw (lows-more, ← l.invariant.1, ← c.height_at-z.ensures, pick_true _ _ _ w.if-za-z.true, ← w.lowest.ensures) (ap low_paper w.low-is ∙ w.lower-low.ensures))
+      | else-za-z w ↦ (search rules, rw (lows-more, ← l.invariant.1, ← c.height_at-z.ensures, pick-false _ _ _ w.if-za-z.false) (ap low_paper w.low-is))
     ]
 
 pub returns : goal.returns

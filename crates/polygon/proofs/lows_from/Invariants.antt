@@ -14,7 +14,5 @@ use Rattle.polygon.proofs.lows_from.Given as goal
 abbrev pub invariant-loop-i : goal.invariant-loop-i
 invariant-loop-i l = (l.i ≤ l.n) × (low_paper l.low ≡ lows_to l.points l.side (record { za = l.za; zb = l.zb }) (low_paper l.initial.low) l.i)
 
-
 abbrev pub decreases-loop-i : goal.decreases-loop-i
 decreases-loop-i l = l.n - l.i
-

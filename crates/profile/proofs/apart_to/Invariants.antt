@@ -1,10 +1,7 @@
 -- `profile::apart_to` meets its contract. The loop's invariant: what is found so far is said of the points passed. Assumes nothing.
-use mathlib.Core.Path.{◌≡◌, refl}
+use mathlib.Core.Path.{◌≡◌}
 use Prim.Native.Nat.{◌≤◌, ◌-◌}
-use native.Mathlib.Omega.{arith}
-use borrow.Author.Rules.{rules}
 use Rattle.profile.specs.Profile.{apart_to}
-use Rattle.profile.proofs.Points.{apart_more}
 use Rattle.profile.proofs.apart_to.Given as goal
 
 abbrev pub invariant-loop-k : goal.invariant-loop-k

@@ -1,5 +1,4 @@
 -- `profile::bulge_at` meets its contract. Assumes nothing.
-use borrow.Author.Rules.{rules}
 use Rattle.profile.specs.Profile.{bulge_at}
 use Rattle.profile.proofs.bulge_at.Goals as goal
 

@@ -1,12 +1,9 @@
 -- `profile::chop_all` meets its contract. The loop's invariant: the chords of the segments passed are put. Assumes nothing.
-use borrow.Author.Rules.{rules}
-use mathlib.Core.Path.{◌≡◌, refl}
+use mathlib.Core.Path.{◌≡◌}
 use Prim.Native.Nat.{◌≤◌, ◌-◌}
-use native.Mathlib.Omega.{arith}
 use lib.ListN.{length}
 use Rattle.profile.specs.declared.Placed.TheVariants.{To}
 use Rattle.profile.specs.Chords.{chords_to, Chops}
-use Rattle.profile.proofs.Walks.{at-start, one_more, no_more}
 use Rattle.profile.proofs.chop_all.Given as goal
 
 abbrev pub invariant-loop-k : goal.invariant-loop-k

@@ -1,5 +1,4 @@
 -- `profile::clean_at` meets its contract. Assumes nothing.
-use borrow.Author.Rules.{rules}
 use mathlib.Core.Path.{sym}
 use lib.Ieee.{div, of_bits}
 use Rattle.profile.specs.Profile.{clean_at}

@@ -1,6 +1,5 @@
 -- `profile::good_to` meets its contract. The loop's invariant: what is found so far is said of the points passed. Assumes nothing.
 use mathlib.Core.Path.{◌≡◌, refl}
-use Prim.Native.Nat.{◌≤◌, ◌-◌}
 use native.Mathlib.Omega.{arith}
 use borrow.Author.Rules.{rules}
 use Rattle.profile.specs.Profile.{good_to}

@@ -1,10 +1,7 @@
 -- `profile::good_to` meets its contract. The loop's invariant: what is found so far is said of the points passed. Assumes nothing.
-use mathlib.Core.Path.{◌≡◌, refl}
+use mathlib.Core.Path.{◌≡◌}
 use Prim.Native.Nat.{◌≤◌, ◌-◌}
-use native.Mathlib.Omega.{arith}
-use borrow.Author.Rules.{rules}
 use Rattle.profile.specs.Profile.{good_to}
-use Rattle.profile.proofs.Points.{good_more}
 use Rattle.profile.proofs.good_to.Given as goal
 
 abbrev pub invariant-loop-k : goal.invariant-loop-k

@@ -1,5 +1,4 @@
 -- `profile::half_bulge` meets its contract. Assumes nothing.
-use borrow.Author.Rules.{rules}
 use Rattle.profile.specs.Chords.{half_of}
 use Rattle.floats.specs.Pick.{picks}
 use lib.Ieee.{div, of_bits}

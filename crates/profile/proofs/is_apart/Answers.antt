@@ -1,5 +1,4 @@
 -- `profile::is_apart` meets its contract. Assumes nothing.
-use borrow.Author.Rules.{rules}
 use Rattle.profile.specs.Profile.{apart}
 use Rattle.floats.specs.Pick.{picks}
 use Rattle.profile.proofs.is_apart.Goals as goal

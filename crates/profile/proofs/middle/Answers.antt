@@ -1,5 +1,4 @@
 -- `profile::middle` meets its contract. Assumes nothing.
-use borrow.Author.Rules.{rules}
 use Rattle.profile.specs.Chords.{middle_of}
 use Rattle.profile.proofs.middle.Goals as goal
 

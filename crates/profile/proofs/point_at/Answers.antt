@@ -1,5 +1,4 @@
 -- `profile::point_at` meets its contract. Assumes nothing.
-use borrow.Author.Rules.{rules}
 use Rattle.profile.specs.Profile.{point_at}
 use Rattle.profile.proofs.point_at.Goals as goal
 

@@ -1,5 +1,4 @@
 -- `profile::point_good` meets its contract. Assumes nothing.
-use borrow.Author.Rules.{rules}
 use Rattle.profile.specs.Profile.{point_good}
 use Rattle.floats.specs.Pick.{picks}
 use Rattle.profile.proofs.point_good.Goals as goal

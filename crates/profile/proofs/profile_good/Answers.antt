@@ -1,7 +1,6 @@
 -- `profile::profile_good` meets its contract. Assumes nothing.
 use borrow.Author.Tests.{eq-eqb, ne_eqb, le-leb, lt-leb}
 use Rattle.profile.specs.Profile.{profile_good}
-use borrow.Author.Rules.{rules}
 use Rattle.profile.proofs.profile_good.Goals as goal
 
 pub returns-then-m-len : goal.returns-then-m-len

@@ -1,5 +1,4 @@
 -- `profile::sag_of` meets its contract. Assumes nothing.
-use borrow.Author.Rules.{rules}
 use Rattle.profile.specs.Chords.{sag_of}
 use Rattle.floats.specs.Pick.{picks}
 use lib.Ieee.{div, of_bits}

@@ -2,7 +2,6 @@
 use mathlib.Core.Path.{refl}
 use native.Mathlib.Omega.{arith}
 use Rattle.profile.proofs.Answers.{good-points, says-profile, says-outgrow, says-chords}
-use borrow.Author.Rules.{rules}
 use Rattle.profile.proofs.segments.Goals as goal
 
 pub overflow_sub-m : goal.overflow_sub-m

@@ -1,7 +1,6 @@
 -- `stock_file::end` meets its contract. Assumes nothing.
 use mathlib.Core.Path.{◌∙◌}
 use Rattle.stock_file.proofs.Ends.{ended-stopped, ended-cut, ended-missing, ended-whole}
-use borrow.Author.Rules.{rules}
 use Rattle.stock_file.proofs.end.Goals as goal
 
 pub returns-then-reading : goal.returns-then-reading

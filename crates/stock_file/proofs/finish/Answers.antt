@@ -4,7 +4,6 @@ use Rattle.stock.specs.Spec.{counted_paper}
 use Rattle.stock_lines.specs.declared.Reading.{Reading}
 use Rattle.stock_file.specs.Read.{told_as}
 use Rattle.stock_file.proofs.Ends.{told_line, told-cells, told-rings, told-stock}
-use borrow.Author.Rules.{rules}
 use Rattle.stock_file.proofs.finish.Goals as goal
 
 pub returns-then-last : goal.returns-then-last

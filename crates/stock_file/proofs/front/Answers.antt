@@ -3,7 +3,6 @@ use native.Mathlib.Omega.{arith}
 use mathlib.Core.Path.{sym}
 use lib.Seq.{length-take-le}
 use Rattle.stock_file.proofs.Ends.{front-short, front_long}
-use borrow.Author.Rules.{rules}
 use Rattle.stock_file.proofs.front.Goals as goal
 
 pub returns-then-xs-n : goal.returns-then-xs-n

@@ -1,17 +1,8 @@
 -- `stock_file::hold_bytes` meets its contract. Assumes nothing.
 use native.Mathlib.Omega.{arith}
-use mathlib.Core.Path.{◌≡◌}
-use Prim.Native.Nat.{◌<◌, ◌-◌, ◌^◌}
-use lib.ListN.{length}
-use Rattle.stock_file.specs.Read.{HoldsOn}
 use Rattle.stock_file.proofs.Held.{none-held, one-held}
 use borrow.Author.Rules.{rules}
 use Rattle.stock_file.proofs.hold_bytes.Goals as goal
-use Rattle.stock_file.proofs.hold_bytes.Goals.{Start}
-
--- a slice's length is a usize
-few : (c : Start) → length c.args.bytes.now < 2 ^ 64
-few c = omega arith
 
 pub loop-m-init : goal.loop-m-init
 loop-m-init c = (search rules, none-held _ _ _ _ c.requires.0 c.requires.1 c.requires.2)
@@ -20,7 +11,7 @@ pub overflow_sub-len : goal.overflow_sub-len
 overflow_sub-len c = omega (arith, c.requires.0)
 
 pub overflow_add-at : goal.overflow_add-at
-overflow_add-at c = omega (arith, few c.before.before.before.before, c.loop-m.invariant.1.reach)
+overflow_add-at c = omega (arith, c.loop-m.invariant.1.reach)
 
 pub returns-then-bytes-at : goal.returns-then-bytes-at
 returns-then-bytes-at c = c.loop-m.invariant.1

@@ -1,11 +1,8 @@
 -- `stock_file::hold_bytes` meets its contract. Assumes nothing.
-use native.Mathlib.Omega.{arith}
 use mathlib.Core.Path.{◌≡◌}
-use Prim.Native.Nat.{◌<◌, ◌-◌, ◌^◌}
+use Prim.Native.Nat.{◌-◌}
 use lib.ListN.{length}
 use Rattle.stock_file.specs.Read.{HoldsOn}
-use Rattle.stock_file.proofs.Held.{none-held, one-held}
-use borrow.Author.Rules.{rules}
 use Rattle.stock_file.proofs.hold_bytes.Given as goal
 
 abbrev pub invariant-loop-m : goal.invariant-loop-m

@@ -2,7 +2,6 @@
 use native.Mathlib.Omega.{arith}
 use mathlib.Core.Path.{sym}
 use lib.Seq.{set_out}
-use borrow.Author.Rules.{rules}
 use Rattle.stock_file.proofs.put_byte.Goals as goal
 
 pub returns-else-at-line : goal.returns-else-at-line

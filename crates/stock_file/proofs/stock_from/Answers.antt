@@ -2,7 +2,6 @@
 use mathlib.Core.Path.{ap}
 use Rattle.stock.specs.declared.TurnStockSpec.{TurnStockSpec}
 use Rattle.stock.specs.Stock.{stock_from}
-use borrow.Author.Rules.{rules}
 use Rattle.stock_file.proofs.stock_from.Goals as goal
 
 pub returns : goal.returns

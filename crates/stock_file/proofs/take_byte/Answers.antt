@@ -1,6 +1,6 @@
 -- `stock_file::take_byte` meets its contract. Assumes nothing.
 use native.Mathlib.Omega.{arith}
-use mathlib.Core.Path.{refl, sym, ap, ◌∙◌}
+use mathlib.Core.Path.{ap, ◌∙◌}
 use Rattle.stock_lines.specs.Reading.{state, on_line}
 use Rattle.stock_file.proofs.Held.{taken-stopped, taken-line, taken-held, taken-long}
 use borrow.Author.Rules.{rules}

@@ -1,11 +1,6 @@
 -- `stock_file::take_bytes` meets its contract. Assumes nothing.
 use native.Mathlib.Omega.{arith}
-use mathlib.Core.Path.{◌≡◌, refl, sym, ◌∙◌}
-use Prim.Native.Nat.{◌≤◌, ◌-◌}
-use lib.ListN.{length, take, drop}
-use Rattle.text.specs.Wrote.{line_room}
-use Rattle.stock_lines.specs.Reading.{state}
-use Rattle.stock_file.specs.Read.{taking}
+use mathlib.Core.Path.{refl, sym, ◌∙◌}
 use Rattle.stock_file.proofs.Held.{bytes-end}
 use borrow.Author.Rules.{rules}
 use Rattle.stock_file.proofs.take_bytes.Goals as goal

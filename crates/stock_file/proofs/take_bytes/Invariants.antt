@@ -1,13 +1,10 @@
 -- `stock_file::take_bytes` meets its contract. Assumes nothing.
-use native.Mathlib.Omega.{arith}
-use mathlib.Core.Path.{◌≡◌, refl, sym, ◌∙◌}
+use mathlib.Core.Path.{◌≡◌}
 use Prim.Native.Nat.{◌≤◌, ◌-◌}
 use lib.ListN.{length, take, drop}
 use Rattle.text.specs.Wrote.{line_room}
 use Rattle.stock_lines.specs.Reading.{state}
 use Rattle.stock_file.specs.Read.{taking}
-use Rattle.stock_file.proofs.Held.{bytes-end}
-use borrow.Author.Rules.{rules}
 use Rattle.stock_file.proofs.take_bytes.Given as goal
 
 abbrev pub invariant-loop-i : goal.invariant-loop-i

@@ -1,6 +1,5 @@
 -- `stock_file::take_part` meets its contract. Assumes nothing.
-use native.Mathlib.Omega.{arith}
-use mathlib.Core.Path.{◌≡◌, refl, sym, ap, ◌∙◌, subst}
+use mathlib.Core.Path.{◌≡◌, refl, sym}
 use lib.ListN.{length}
 use Rattle.text.specs.Wrote.{line_room}
 use Rattle.text.proofs.Sets.{put-room}

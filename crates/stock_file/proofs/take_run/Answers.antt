@@ -1,17 +1,10 @@
 -- `stock_file::take_run` meets its contract. Assumes nothing.
 use native.Mathlib.Omega.{arith}
 use mathlib.Core.Path.{◌∙◌}
-use Prim.Native.Nat.{◌<◌, ◌^◌}
 use lib.ListN.{length}
 use Rattle.stock_lines.specs.Reading.{state}
 use Rattle.stock_file.proofs.Held.{bytes-step, run-stopped}
-use borrow.Author.Rules.{rules}
 use Rattle.stock_file.proofs.take_run.Goals as goal
-use Rattle.stock_file.proofs.take_run.Goals.{Start}
-
--- a slice's length is a usize
-few : (c : Start) → length c.args.bytes.now < 2 ^ 64
-few c = omega arith
 
 pub returns-then-reading : goal.returns-then-reading
 returns-then-reading c = let a = c.args in
@@ -35,7 +28,7 @@ returns-then-bytes-at c = let h = c.hold_bytes-m.ensures in
     }
 
 pub overflow_add-result : goal.overflow_add-result
-overflow_add-result c = omega (arith, few c.before.before.before.before.before.before.before.before.before.before.before.before.before.before.before.before.before.before.before.before.before.before, c.if-bytes-at.false)
+overflow_add-result c = omega (arith, c.if-bytes-at.false)
 
 pub returns : goal.returns
 returns c = let t = c.take_byte-t.ensures in

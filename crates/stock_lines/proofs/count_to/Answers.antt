@@ -1,6 +1,5 @@
 -- `stock_lines::count_to` meets its contract. Assumes nothing.
 use Rattle.stock_lines.proofs.Readings.{count-more, count-full}
-use Rattle.std.proofs.Common.{rules}
 use Rattle.stock_lines.proofs.count_to.Goals as goal
 
 pub returns-then-n-limit : goal.returns-then-n-limit

@@ -1,5 +1,5 @@
 -- `stock_lines::end_line` meets its contract. Assumes nothing.
-use Rattle.std.proofs.Common.{refl, arith, rules}
+use Rattle.std.proofs.Common.{refl, arith}
 use Rattle.text.proofs.Sets.{and_then, put-wrote}
 use Rattle.stock_lines.specs.Form.{end_line}
 use Rattle.stock_lines.proofs.Steps.{end_short}

@@ -1,5 +1,5 @@
 -- `stock_lines::go_on` meets its contract. Assumes nothing.
-use Rattle.std.proofs.Common.{ap, ◌∙◌, rules}
+use Rattle.std.proofs.Common.{ap, ◌∙◌}
 use Rattle.stock_lines.specs.declared.form.Form.{Form}
 use Rattle.stock_lines.specs.Reading.{count_to}
 use Rattle.stock_lines.proofs.Readings.{went-cell, went-ring, went-end, went-none}

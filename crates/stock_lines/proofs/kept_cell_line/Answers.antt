@@ -1,8 +1,8 @@
 -- `stock_lines::kept_cell_line` meets its contract. Assumes nothing.
-use Rattle.std.proofs.Common.{ℕ, ap, arith, rules}
+use Rattle.std.proofs.Common.{ℕ, ap, arith}
 use Rattle.text.proofs.Sets.{and_then, put-wrote, retext}
 use Rattle.text.proofs.Spelling.{four-long}
-use Rattle.stock_lines.specs.Form.{written_form, kept_cell_line, fields_text}
+use Rattle.stock_lines.specs.Form.{kept_cell_line, fields_text}
 use Rattle.stock_lines.proofs.Steps.{cell-short}
 use Rattle.stock_lines.proofs.kept_cell_line.Goals as goal
 

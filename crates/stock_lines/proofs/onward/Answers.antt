@@ -1,7 +1,6 @@
 -- `stock_lines::onward` meets its contract. Assumes nothing.
 use Rattle.stock_lines.proofs.Readings.{onward-is}
-use Rattle.std.proofs.Common.{rules}
 use Rattle.stock_lines.proofs.onward.Goals as goal
 
 pub returns : goal.returns
-returns c = let a = c.args in onward-is a.reading a.stage a.cells a.rings _ c.wrapping_add_u64.ensures
+returns c = let a = c.args in onward-is a.reading a.stage a.cells a.rings _ c.wrapping_add_u64.ensures.value

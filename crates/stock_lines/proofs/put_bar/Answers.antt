@@ -1,5 +1,5 @@
 -- `stock_lines::put_bar` meets its contract. Assumes nothing.
-use Rattle.std.proofs.Common.{sym, append-nil, arith, rules}
+use Rattle.std.proofs.Common.{sym, append-nil, arith}
 use Rattle.text.specs.Lines.{field}
 use Rattle.text.proofs.Sets.{and_then, retext, put-wrote}
 use Rattle.text.proofs.Spelling.{field-long}

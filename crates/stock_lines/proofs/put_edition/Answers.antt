@@ -1,5 +1,5 @@
 -- `stock_lines::put_edition` meets its contract. Assumes nothing.
-use Rattle.std.proofs.Common.{refl, arith, rules}
+use Rattle.std.proofs.Common.{refl, arith}
 use Rattle.text.proofs.Sets.{and_then, put-wrote}
 use Rattle.text.proofs.Spelling.{digits-length}
 use Rattle.stock_lines.proofs.put_edition.Goals as goal

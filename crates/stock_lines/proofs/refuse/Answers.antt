@@ -1,7 +1,6 @@
 -- `stock_lines::refuse` meets its contract. Assumes nothing.
 use Rattle.stock_lines.proofs.Readings.{refused-is}
-use Rattle.std.proofs.Common.{rules}
 use Rattle.stock_lines.proofs.refuse.Goals as goal
 
 pub returns : goal.returns
-returns c = refused-is c.args.reading _ c.wrapping_add_u64.ensures
+returns c = refused-is c.args.reading _ c.wrapping_add_u64.ensures.value

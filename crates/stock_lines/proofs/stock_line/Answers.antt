@@ -1,5 +1,5 @@
 -- `stock_lines::stock_line` meets its contract. Assumes nothing.
-use Rattle.std.proofs.Common.{◌≡◌, ℕ, true, List, ◌∷◌, ◌++◌, sym, refl, ap, ◌∙◌, arith, rules}
+use Rattle.std.proofs.Common.{◌≡◌, ℕ, true, List, ◌∷◌, ◌++◌, sym, refl, ap, ◌∙◌, arith}
 use Rattle.floats.specs.Pick.{pick_true}
 use Rattle.text.specs.Digits.{digits}
 use Rattle.text.specs.Lines.{newline}

@@ -1,5 +1,5 @@
 -- `stock_lines::take_line` meets its contract. Assumes nothing.
-use Rattle.std.proofs.Common.{sym, ap, ◌∙◌, rules}
+use Rattle.std.proofs.Common.{sym, ap, ◌∙◌}
 use Rattle.stock_lines.specs.declared.Reading.{Reading}
 use Rattle.stock_lines.specs.declared.form.First.{First}
 use Rattle.stock_lines.specs.Reading.{state, begun}
@@ -15,7 +15,7 @@ returns-then-reading-eq0 c = let a = c.args in
 pub returns-then-reading-eq1 : goal.returns-then-reading-eq1
 returns-then-reading-eq1 c = let a = c.args in
     let st = state a.reading a.cells.now a.rings.now in
-    body_is a.reading _ _ a.cells.now _ a.rings.now _ a.line.now c.store_line-took.ensures.0 c.go_on.ensures c.store_line-took.ensures.1.0 c.store_line-took.ensures.1.1
+    body_is a.reading _ _ a.cells.now _ a.rings.now _ a.line.now c.store_line-took.ensures.value c.go_on.ensures c.store_line-took.ensures.cells_after c.store_line-took.ensures.rings_after
     ∙ sym (line-body st a.line.now c.if-reading-eq0.false c.if-reading-eq1.true)
 
 pub returns : goal.returns

@@ -1,7 +1,6 @@
 -- `text::part` meets its contract. Assumes nothing.
 use Rattle.text.proofs.Parting.{field-start, end-within, field-none, field_next, field_is}
-use Rattle.std.proofs.Common.{◌≡◌, ◌-◌, ◌≤◌, [], length, get_or, drop, sym, ◌∙◌, arith, rules}
-use Rattle.text.specs.Parts.{parted_at}
+use Rattle.std.proofs.Common.{sym, ◌∙◌, arith, rules}
 use Rattle.text.proofs.part.Goals as goal
 
 pub loop-k-init : goal.loop-k-init

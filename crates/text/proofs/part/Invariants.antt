@@ -1,6 +1,5 @@
 -- `text::part` meets its contract. Assumes nothing.
-use Rattle.text.proofs.Parting.{field-start, end-within, field-none, field_next, field_is}
-use Rattle.std.proofs.Common.{◌≡◌, ◌-◌, ◌≤◌, [], length, get_or, drop, sym, ◌∙◌, arith, rules}
+use Rattle.std.proofs.Common.{◌≡◌, ◌-◌, ◌≤◌, [], length, get_or, drop}
 use Rattle.text.specs.Parts.{parted_at}
 use Rattle.text.proofs.part.Given as goal
 

@@ -1,7 +1,6 @@
 -- `text::part_count` meets its contract. Assumes nothing.
-use Rattle.std.proofs.Common.{◌≡◌, ◌+◌, ◌-◌, ◌≤◌, length, drop, ⊎_elim, arith, rules}
+use Rattle.std.proofs.Common.{◌≡◌, ◌+◌, ◌-◌, ◌≤◌, length, drop}
 use Rattle.text.specs.Parts.{parted_at}
-use Rattle.text.proofs.Parting.{count-tab, count-byte, count-end}
 use Rattle.text.proofs.part_count.Given as goal
 
 abbrev pub invariant-loop-i : goal.invariant-loop-i

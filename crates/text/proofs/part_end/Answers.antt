@@ -1,6 +1,6 @@
 -- `text::part_end` meets its contract. Assumes nothing.
-use Rattle.std.proofs.Common.{◌≡◌, ◌+◌, ◌-◌, ◌≤◌, length, drop, refl, arith, rules}
-use Rattle.text.proofs.Parting.{first, end-tab, end-byte, end-end}
+use Rattle.std.proofs.Common.{refl, arith, rules}
+use Rattle.text.proofs.Parting.{end-tab, end-byte, end-end}
 use Rattle.text.proofs.part_end.Goals as goal
 
 pub loop-e-init : goal.loop-e-init

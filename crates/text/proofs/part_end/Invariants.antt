@@ -1,6 +1,6 @@
 -- `text::part_end` meets its contract. Assumes nothing.
-use Rattle.std.proofs.Common.{◌≡◌, ◌+◌, ◌-◌, ◌≤◌, length, drop, refl, arith, rules}
-use Rattle.text.proofs.Parting.{first, end-tab, end-byte, end-end}
+use Rattle.std.proofs.Common.{◌≡◌, ◌+◌, ◌-◌, ◌≤◌, length, drop}
+use Rattle.text.proofs.Parting.{first}
 use Rattle.text.proofs.part_end.Given as goal
 
 abbrev pub invariant-loop-e : goal.invariant-loop-e

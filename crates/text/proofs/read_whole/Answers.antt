@@ -1,7 +1,6 @@
 -- `text::read_whole` meets its contract. Assumes nothing.
-use Rattle.std.proofs.Common.{◌≡◌, ◌-◌, ◌≤◌, length, drop, sym, ◌∙◌, rules}
-use Rattle.text.specs.Whole.{whole_of}
-use Rattle.text.proofs.Wholes.{whole_from, whole-empty, whole_long, whole-start, whole-low, whole-high, whole-step, whole-over, whole-end}
+use Rattle.std.proofs.Common.{sym, ◌∙◌, rules}
+use Rattle.text.proofs.Wholes.{whole-empty, whole_long, whole-start, whole-low, whole-high, whole-step, whole-over, whole-end}
 use Rattle.text.proofs.read_whole.Goals as goal
 
 pub returns-then-s-lt1 : goal.returns-then-s-lt1

@@ -1,7 +1,7 @@
 -- `text::read_whole` meets its contract. Assumes nothing.
-use Rattle.std.proofs.Common.{◌≡◌, ◌-◌, ◌≤◌, length, drop, sym, ◌∙◌, rules}
+use Rattle.std.proofs.Common.{◌≡◌, ◌-◌, ◌≤◌, length, drop}
 use Rattle.text.specs.Whole.{whole_of}
-use Rattle.text.proofs.Wholes.{whole_from, whole-empty, whole_long, whole-start, whole-low, whole-high, whole-step, whole-over, whole-end}
+use Rattle.text.proofs.Wholes.{whole_from}
 use Rattle.text.proofs.read_whole.Given as goal
 
 abbrev pub invariant-loop-i : goal.invariant-loop-i

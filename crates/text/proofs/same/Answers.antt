@@ -1,6 +1,5 @@
 -- `text::same` meets its contract. Assumes nothing.
-use Rattle.std.proofs.Common.{◌≡◌, ◌-◌, ◌≤◌, length, drop, sym, refl, ◌∙◌, rules}
-use Rattle.text.specs.Same.{same_bytes}
+use Rattle.std.proofs.Common.{sym, refl, ◌∙◌, rules}
 use Rattle.text.proofs.Compare.{same-short, same-other, same_step, same_end}
 use Rattle.text.proofs.same.Goals as goal
 

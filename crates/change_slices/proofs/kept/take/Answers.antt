@@ -1,5 +1,4 @@
 -- `change_slices::kept::take` meets its contract. Assumes nothing.
-use borrow.Author.Rules.{rules}
 use Rattle.changes.specs.Commit.{passing_paper}
 use Rattle.change_slices.proofs.Taking.{take-told}
 use Rattle.change_slices.proofs.kept.take.Goals as goal

@@ -11,11 +11,10 @@ use Rattle.cuts.proofs.each_cut.fill.Goals as goal
 
 pub returns-in-Nose : goal.returns-in-Nose
 returns-in-Nose c = let a = c.args in
-    let l = c.fill.new.1.1.1.1.1 in
     let side = c.in-Nose.side in
     let rn = c.in-Nose.rn in
-    let w : RowFilled a.s a.n side (clean_of rn) a.beside.now (segment_count a.beside.now) (row_at l.0 l.1.0) = subst (λ (x : Float). RowFilled a.s a.n side x a.beside.now (segment_count a.beside.now) (row_at l.0 l.1.0)) c.clean.ensures c.fill.ensures.0 in
-    says-nose-sweep _ _ _ _ _ _ _ c.in-Nose.is (says-nose a.s a.n side rn a.beside.now (row_at l.0 l.1.0) c.fill.result w c.fill.ensures.1 c.fill.ensures.2)
+    let w : RowFilled a.s a.n side (clean_of rn) a.beside.now (segment_count a.beside.now) (row_at c.fill.new.values c.fill.new.there) = subst (λ (x : Float). RowFilled a.s a.n side x a.beside.now (segment_count a.beside.now) (row_at c.fill.new.values c.fill.new.there)) c.clean.ensures c.fill.ensures.0 in
+    says-nose-sweep _ _ _ _ _ _ _ c.in-Nose.is (says-nose a.s a.n side rn a.beside.now (row_at c.fill.new.values c.fill.new.there) c.fill.result w c.fill.ensures.1 c.fill.ensures.2)
 
 pub returns-in-Polygon : goal.returns-in-Polygon
 returns-in-Polygon c = says-polygon-sweep _ _ _ _ _ _ _ c.in-Polygon.is c.fill-in-Polygon.ensures

@@ -25,11 +25,10 @@ overflow_add-k c = omega (arith, c.loop-k-test.true, c.loop-k.invariant.1)
 pub loop-k-preserved : goal.loop-k-preserved
 loop-k-preserved c = let l = c.loop-k in
     let a = c.args in
-    let kept = c.pass-seen.auto.values in
     let e = l.invariant.2 in (
       omega arith,
       l.invariant.1,
-      record { numbers = kept.0 ∙ e.numbers; flags = kept.1.0 ∙ e.flags },
+      record { numbers = c.pass-seen.auto.values ∙ e.numbers; flags = c.pass-seen.auto.there ∙ e.flags },
       filled_more _ _ _ _ _ l.k _ _ _ (c.track_of-t.ensures ∙ ap (λ (x : Segment). track_of x a.rn) c.segment_at.ensures) l.invariant.3 c.pass-seen.ensures.0,
       c.pass-seen.ensures.1,
     )

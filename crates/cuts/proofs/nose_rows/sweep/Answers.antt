@@ -24,12 +24,11 @@ overflow_add-i c = omega (arith, c.loop-i-test.true, c.requires.1)
 
 pub loop-i-preserved : goal.loop-i-preserved
 loop-i-preserved c = let l = c.loop-i in
-    let kept = c.touch.auto.values in
     let e = l.invariant.3 in (
       omega arith,
       omega arith,
       c.sampled-stop.ensures,
-      record { numbers = kept.0 ∙ e.numbers; flags = kept.1.0 ∙ e.flags },
+      record { numbers = c.touch.auto.values ∙ e.numbers; flags = c.touch.auto.there ∙ e.flags },
       stepped-more _ _ _ c.bin_of-bin.ensures c.kept-start.ensures c.sampled-stop.ensures l.invariant.0 l.invariant.4 c.touch.ensures,
     )
 

@@ -39,11 +39,10 @@ loop-i-preserved c = let to = c.lesser-to.ensures in
     let o = r.1.ordered in
     let l = c.loop-i in
     let h = l.invariant.0 in
-    let kept = c.sweep.auto.values in
     let e = l.invariant.2 in (
       omega arith,
       omega arith,
-      record { numbers = kept.0 ∙ e.numbers; flags = kept.1.0 ∙ e.flags },
+      record { numbers = c.sweep.auto.values ∙ e.numbers; flags = c.sweep.auto.there ∙ e.flags },
       part-more h (omega arith) l.invariant.3 r.1 c.sweep.ensures,
     )
 

@@ -18,3 +18,15 @@ unfolding low_paper
 returns-then-high-low c = let l = c.in-At.is in
     let h = c.in-At-h.is in
     topped _ _ _ _ _ l h (le_same _ (le-number-r _ _ (so c.if-high-low.true))) (so c.if-high-low.true)
+
+pub returns-in_default : goal.returns-in_default
+unfolding low_paper
+returns-in_default c = tt
+
+pub returns-in_default-h : goal.returns-in_default-h
+unfolding low_paper
+returns-in_default-h c = tt
+
+pub returns : goal.returns
+unfolding low_paper
+returns c = tt

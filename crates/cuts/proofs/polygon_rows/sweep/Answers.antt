@@ -30,12 +30,11 @@ overflow_add-i c = omega (arith, c.loop-i-test.true, c.requires.3)
 
 pub loop-i-preserved : goal.loop-i-preserved
 loop-i-preserved c = let l = c.loop-i in
-    let kept = c.cross-held.auto.values in
     let e = l.invariant.3 in (
       omega arith,
       omega arith,
       c.cross-held.ensures.0,
-      record { numbers = kept.0 ∙ e.numbers; flags = kept.1.0 ∙ e.flags },
+      record { numbers = c.cross-held.auto.values ∙ e.numbers; flags = c.cross-held.auto.there ∙ e.flags },
       crossed-more l.invariant.0 l.invariant.4 c.cross-held.ensures.1,
     )
 

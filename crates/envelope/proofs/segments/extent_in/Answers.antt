@@ -1,6 +1,6 @@
 -- `envelope::segments::extent_in` meets its contract. Assumes nothing.
 use borrow.Author.Rules.{rules}
-use Prim.Native.Nat.{◌+◌, ◌-◌, ◌≤◌, ◌<◌}
+use Prim.Native.Nat.{◌+◌, ◌-◌}
 use mathlib.Core.Path.{◌≡◌, ap, sym, ◌∙◌}
 use Rattle.floats.specs.Pick.{pick}
 use mathlib.Core.Option.{Option}

@@ -1,13 +1,8 @@
 -- `envelope::segments::extent_in` meets its contract. Assumes nothing.
-use borrow.Author.Rules.{rules}
-use Prim.Native.Nat.{◌+◌, ◌-◌, ◌≤◌, ◌<◌}
-use mathlib.Core.Path.{◌≡◌, ap, sym, ◌∙◌}
-use Rattle.floats.specs.Pick.{pick}
-use mathlib.Core.Option.{Option}
-use native.Mathlib.Omega.{arith}
-use Rattle.envelope.specs.Envelope.{point_at, Radii, segment_in, radii_to}
-use Rattle.envelope.specs.Halving.{extent_radii, found_radii}
-use Rattle.envelope.proofs.Steps.{radii-more}
+use Prim.Native.Nat.{◌-◌, ◌≤◌, ◌<◌}
+use mathlib.Core.Path.{◌≡◌}
+use Rattle.envelope.specs.Envelope.{radii_to}
+use Rattle.envelope.specs.Halving.{found_radii}
 use Rattle.envelope.proofs.segments.extent_in.Given as goal
 
 abbrev pub invariant-loop-i : goal.invariant-loop-i

@@ -1,5 +1,4 @@
 -- `envelope::segments::higher` meets its contract. Assumes nothing.
-use borrow.Author.Rules.{rules}
 use Rattle.floats.specs.Pick.{picks}
 use Rattle.envelope.specs.Envelope.{higher}
 use Rattle.envelope.specs.Halving.{radius_of}

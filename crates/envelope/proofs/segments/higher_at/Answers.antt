@@ -1,21 +1,16 @@
 -- `envelope::segments::higher_at` meets its contract. Assumes nothing.
 use borrow.Author.Rules.{rules}
 use mathlib.Core.Path.{sym, ap, ap₂, ◌∙◌}
-use lib.Dec.{T}
-use lib.Ieee.{binary64, fits}
 use Rattle.envelope.specs.declared.segments.Point.{Point}
-use Rattle.envelope.specs.Envelope.{point_at, higher, segment_at}
+use Rattle.envelope.specs.Envelope.{higher, segment_at}
 use Rattle.envelope.specs.Halving.{radius_of}
 use Rattle.envelope.proofs.Aside.{none-higher}
 use Rattle.envelope.proofs.segments.higher_at.Goals as goal
-use Rattle.envelope.proofs.segments.higher_at.Goals.{Start}
 
-u-held : (c : Start) → T (fits binary64 c.args.u)
-u-held c = search rules
-
+-- `envelope::segments::higher_at` meets its contract. Assumes nothing.
 pub returns-then-is_aside : goal.returns-then-is_aside
 returns-then-is_aside c = let a = c.args in
-    sym (none-higher a.points.now c.shared_slice_known-1.given a.i a.u (u-held c.before.before.before.before.before) (sym c.is_aside.ensures ∙ c.if-is_aside.true) (radius_of a.found))
+    sym (none-higher a.points.now c.shared_slice_known-1.given a.i a.u (search rules) (sym c.is_aside.ensures ∙ c.if-is_aside.true) (radius_of a.found))
 
 pub returns : goal.returns
 returns c = let a = c.args in

@@ -1,13 +1,8 @@
 -- `envelope::segments::highest_in` meets its contract. Assumes nothing.
-use borrow.Author.Rules.{rules}
-use Prim.Native.Nat.{◌+◌, ◌-◌, ◌≤◌, ◌<◌}
-use mathlib.Core.Path.{◌≡◌, ap, sym, ◌∙◌}
-use mathlib.Core.Option.{Option}
-use lib.Ieee.{Float}
-use native.Mathlib.Omega.{arith}
-use Rattle.envelope.specs.Envelope.{point_at, higher, segment_at, highest_to}
+use Prim.Native.Nat.{◌-◌, ◌≤◌, ◌<◌}
+use mathlib.Core.Path.{◌≡◌}
+use Rattle.envelope.specs.Envelope.{highest_to}
 use Rattle.envelope.specs.Halving.{radius_of}
-use Rattle.envelope.proofs.Steps.{highest-more}
 use Rattle.envelope.proofs.segments.highest_in.Given as goal
 
 abbrev pub invariant-loop-i : goal.invariant-loop-i

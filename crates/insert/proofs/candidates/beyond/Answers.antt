@@ -1,5 +1,4 @@
 -- `insert::candidates::beyond` meets its contract. Assumes nothing.
-use borrow.Author.Rules.{rules}
 use Rattle.floats.specs.Pick.{picks}
 use Rattle.envelope.specs.Halving.{radius_of}
 use Rattle.insert.specs.Insert.{beyond}

@@ -1,13 +1,8 @@
 -- `insert::candidates::over_all` meets its contract. Assumes nothing.
-use borrow.Author.Rules.{rules}
-use mathlib.Core.Path.{◌≡◌, sym, ap, ap₂, ◌∙◌}
+use mathlib.Core.Path.{◌≡◌}
 use Rattle.envelope.specs.Halving.{radius_of}
-use Prim.Native.Nat.{◌-◌, ◌/◌, ◌≤◌}
-use native.Mathlib.Omega.{arith}
-use lib.ListN.{length}
-use Rattle.envelope.specs.Envelope.{u_at}
+use Prim.Native.Nat.{◌-◌, ◌≤◌}
 use Rattle.insert.specs.Insert.{polygon_to}
-use Rattle.insert.proofs.Steps.{polygon-more}
 use Rattle.insert.proofs.candidates.over_all.Given as goal
 
 abbrev pub invariant-loop-i : goal.invariant-loop-i

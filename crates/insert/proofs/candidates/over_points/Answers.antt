@@ -1,8 +1,9 @@
 -- `insert::candidates::over_points` meets its contract. Assumes nothing.
 use borrow.Author.Rules.{rules}
-use mathlib.Core.Path.{◌≡◌, sym, ap, ap₂, ◌∙◌}
+use mathlib.Core.Path.{◌≡◌, ap, ◌∙◌}
+use mir.Syntax.{w8}
 use mir.Facts.{to_z-of_z}
-use Prim.Native.Nat.{◌+◌, ◌-◌, ◌*◌, ◌≤◌, ◌<◌}
+use Prim.Native.Nat.{◌-◌}
 use native.Mathlib.Omega.{arith}
 use Rattle.envelope.specs.declared.Span.{Span}
 use Rattle.envelope.specs.Halving.{radius_of}
@@ -42,4 +43,4 @@ returns c = let a = c.args in
     let p = c.span_over-s.result in
     let e : l.i - p.start ≡ p.end - p.start = omega arith in
     l.invariant.2 ∙ (ap (points_to a.w a.points.now a.polygon.now a.a p.start) e
-    ∙ ap (λ (x : Span). points_to a.w a.points.now a.polygon.now a.a x.start (x.end - x.start)) (c.span_over-s.ensures.ruled c.requires.looks.good (to_z-of_z (record { sfits = c.struct_told-1.given.0.1 }) ∙ c.requires.looks.order)))
+    ∙ ap (λ (x : Span). points_to a.w a.points.now a.polygon.now a.a x.start (x.end - x.start)) (c.span_over-s.ensures.ruled c.requires.looks.good (to_z-of_z {w = w8} (record { sfits = c.struct_told-1.given.0.1 }) ∙ c.requires.looks.order)))

@@ -1,6 +1,5 @@
 -- `insert::candidates::touch_at` meets its contract. Assumes nothing.
-use borrow.Author.Rules.{rules}
-use mathlib.Core.Path.{◌≡◌, sym, ap, ap₂, ◌∙◌}
+use mathlib.Core.Path.{sym, ap, ap₂, ◌∙◌}
 use Rattle.envelope.specs.Halving.{radius_of}
 use mathlib.Core.Option.{Option}
 use lib.Ieee.{Float}

@@ -1,6 +1,5 @@
 -- `insert::candidates::with_candidate` meets its contract. Assumes nothing.
-use borrow.Author.Rules.{rules}
-use mathlib.Core.Path.{◌≡◌, sym, ap, ap₂, ◌∙◌}
+use mathlib.Core.Path.{sym, ap, ◌∙◌}
 use Rattle.floats.specs.Pick.{pick_true, pick-false}
 use Rattle.envelope.specs.Halving.{radius_of}
 use Rattle.envelope.specs.Envelope.{higher}

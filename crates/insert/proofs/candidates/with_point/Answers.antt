@@ -1,6 +1,5 @@
 -- `insert::candidates::with_point` meets its contract. Assumes nothing.
-use borrow.Author.Rules.{rules}
-use mathlib.Core.Path.{◌≡◌, sym, ap, ap₂, ◌∙◌}
+use mathlib.Core.Path.{ap, ◌∙◌}
 use mathlib.Core.Option.{Option}
 use lib.Ieee.{Float}
 use Rattle.floats.specs.Numbers.{◌+₆₄◌}

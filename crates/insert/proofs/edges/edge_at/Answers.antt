@@ -1,5 +1,4 @@
 -- `insert::edges::edge_at` meets its contract. Assumes nothing.
-use borrow.Author.Rules.{rules}
 use Rattle.envelope.specs.Envelope.{u_at, v_at}
 use Rattle.envelope.specs.Halving.{radius_of}
 use Rattle.insert.proofs.Steps.{edge_beside, edge-upright, edge-across}

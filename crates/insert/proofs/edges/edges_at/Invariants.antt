@@ -1,12 +1,8 @@
 -- `insert::edges::edges_at` meets its contract. Assumes nothing.
-use borrow.Author.Rules.{rules}
-use mathlib.Core.Path.{◌≡◌, refl}
-use Prim.Native.Nat.{◌+◌, ◌-◌, ◌/◌, ◌≤◌, ◌<◌}
-use native.Mathlib.Omega.{arith}
-use lib.ListN.{length}
+use mathlib.Core.Path.{◌≡◌}
+use Prim.Native.Nat.{◌-◌, ◌≤◌}
 use Rattle.envelope.specs.Halving.{radius_of}
-use Rattle.insert.specs.Insert.{edges_to, edges_of}
-use Rattle.insert.proofs.Steps.{edges_more, edges-closed}
+use Rattle.insert.specs.Insert.{edges_to}
 use Rattle.insert.proofs.edges.edges_at.Given as goal
 
 abbrev pub invariant-loop-i : goal.invariant-loop-i

@@ -2,7 +2,6 @@
 use native.Mathlib.Omega.{arith}
 use mathlib.Core.Path.{sym}
 use lib.Seq.{length-take-le, take_all}
-use borrow.Author.Rules.{rules}
 use Rattle.insert.proofs.samples.first.Goals as goal
 
 pub returns-then-held-k : goal.returns-then-held-k

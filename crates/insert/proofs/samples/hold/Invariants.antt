@@ -1,14 +1,8 @@
 -- `insert::samples::hold` meets its contract. The loop's invariant: the samples of the points passed are held. Assumes nothing.
-use borrow.Author.Rules.{rules}
-use mathlib.Core.Path.{◌≡◌, refl, sym, ap, ◌∙◌}
-use Prim.Native.Nat.{◌-◌, ◌<◌, ◌≤◌}
-use native.Mathlib.Omega.{arith}
-use lib.ListN.{length, length-set}
-use Rattle.envelope.specs.Envelope.{u_at}
-use Rattle.envelope.specs.Halving.{radius_of}
-use mathlib.Core.Option.{some}
-use Rattle.insert.specs.Insert.{sample_at, HeldTo}
-use Rattle.insert.proofs.Held.{held_none, held_more}
+use mathlib.Core.Path.{◌≡◌}
+use Prim.Native.Nat.{◌-◌}
+use lib.ListN.{length}
+use Rattle.insert.specs.Insert.{HeldTo}
 use Rattle.insert.proofs.samples.hold.Given as goal
 
 abbrev pub invariant-loop-k : goal.invariant-loop-k

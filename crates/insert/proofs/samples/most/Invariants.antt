@@ -1,14 +1,7 @@
 -- `insert::samples::most` meets its contract. Assumes nothing.
-use borrow.Author.Rules.{rules}
-use mathlib.Core.Path.{◌≡◌, sym, ap, ◌∙◌}
-use Prim.Native.Nat.{◌-◌, ◌+◌, ◌/◌, ◌≤◌, ◌<◌}
-use native.Mathlib.Omega.{arith}
-use lib.ListN.{length}
-use borrow.Author.Tests.{eq-eqb, ne_eqb}
-use Rattle.floats.specs.Pick.{pick_true, pick-false}
-use Rattle.envelope.specs.Envelope.{u_at}
-use Rattle.insert.specs.Insert.{chosen, most_to, most_of}
-use Rattle.insert.proofs.Steps.{most-more}
+use mathlib.Core.Path.{◌≡◌}
+use Prim.Native.Nat.{◌-◌, ◌≤◌, ◌<◌}
+use Rattle.insert.specs.Insert.{most_to}
 use Rattle.insert.proofs.samples.most.Given as goal
 
 abbrev pub invariant-loop-i : goal.invariant-loop-i

@@ -1,5 +1,4 @@
 -- `insert::samples::moved` meets its contract. Assumes nothing.
-use borrow.Author.Rules.{rules}
 use Rattle.floats.specs.Pick.{picks}
 use Rattle.insert.proofs.samples.moved.Goals as goal
 

@@ -1,6 +1,5 @@
 -- `insert::samples::offset` meets its contract. Assumes nothing.
-use borrow.Author.Rules.{rules}
-use mathlib.Core.Path.{◌≡◌, sym, ap, ap₂, ◌∙◌}
+use mathlib.Core.Path.{sym, ap, ◌∙◌}
 use Rattle.envelope.specs.Halving.{radius_of}
 use mathlib.Core.Option.{some}
 use Rattle.insert.specs.Insert.{moved_of, offset_of}

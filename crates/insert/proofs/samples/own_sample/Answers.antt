@@ -1,6 +1,5 @@
 -- `insert::samples::own_sample` meets its contract. Assumes nothing.
-use borrow.Author.Rules.{rules}
-use mathlib.Core.Path.{◌≡◌, sym, ap, ◌∙◌}
+use mathlib.Core.Path.{sym, ap, ◌∙◌}
 use Rattle.envelope.specs.Halving.{radius_of}
 use Rattle.insert.specs.Insert.{sample_at}
 use Rattle.insert.proofs.samples.own_sample.Goals as goal

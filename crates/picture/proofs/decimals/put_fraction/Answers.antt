@@ -1,7 +1,6 @@
 -- `picture::decimals::put_fraction` meets its contract. Assumes nothing.
 use native.Mathlib.Omega.{arith}
 use Rattle.picture.proofs.Texts.{fraction-none, fraction-some}
-use borrow.Author.Rules.{rules}
 use Rattle.picture.proofs.decimals.put_fraction.Goals as goal
 
 pub returns-then-f-eq0 : goal.returns-then-f-eq0

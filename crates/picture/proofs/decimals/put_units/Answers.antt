@@ -1,6 +1,5 @@
 -- `picture::decimals::put_units` meets its contract. Assumes nothing.
 use Rattle.picture.proofs.Texts.{decimal-end, units-put}
-use borrow.Author.Rules.{rules}
 use Rattle.picture.proofs.decimals.put_units.Goals as goal
 
 pub put_fraction-requires : goal.put_fraction-requires

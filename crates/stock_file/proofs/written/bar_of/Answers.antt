@@ -2,7 +2,6 @@
 use mathlib.Core.Path.{ap}
 use Rattle.stock.specs.declared.TurnStockSpec.{TurnStockSpec}
 use Rattle.stock_lines.specs.declared.Bar.{Bar}
-use borrow.Author.Rules.{rules}
 use Rattle.stock_file.proofs.written.bar_of.Goals as goal
 
 abbrev kept : TurnStockSpec → Bar

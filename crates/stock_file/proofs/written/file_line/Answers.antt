@@ -1,6 +1,6 @@
 -- `stock_file::written::file_line` meets its contract. Assumes nothing.
 use native.Mathlib.Omega.{arith}
-use mathlib.Core.Path.{◌≡◌, refl, sym, ap, ◌∙◌, subst}
+use mathlib.Core.Path.{sym, ap, ◌∙◌, subst}
 use Prim.Native.Nat.{ℕ, ◌<◌, ◌≤◌}
 use Rattle.refusals.specs.declared.Refusal.TheVariants.{CellsDoNotFit, StoredRings}
 use Rattle.stock.specs.Spec.{counted_paper}
@@ -9,7 +9,6 @@ use Rattle.stock_lines.specs.declared.Bar.{Bar}
 use Rattle.stock_lines.specs.Form.{written_form}
 use Rattle.stock_file.specs.Write.{opening, line_at}
 use Rattle.stock_file.proofs.Lined.{reline, line_refused, line-told, for-refused, for-length, for-count, for-line}
-use borrow.Author.Rules.{rules}
 use Rattle.stock_file.proofs.written.file_line.Goals as goal
 
 pub overflow_mul-n : goal.overflow_mul-n

@@ -6,7 +6,6 @@ use Rattle.stock.specs.Spec.{counted_paper}
 use Rattle.stock.proofs.Count.{stock-length}
 use Rattle.stock_file.specs.Write.{line_count}
 use Rattle.stock_file.proofs.Lined.{rings-few}
-use borrow.Author.Rules.{rules}
 use Rattle.stock_file.proofs.written.line_count.Goals as goal
 
 pub overflow_add-result : goal.overflow_add-result

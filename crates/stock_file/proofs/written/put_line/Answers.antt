@@ -2,7 +2,6 @@
 use Rattle.stock_lines.specs.Form.{written_form}
 use Rattle.stock_file.specs.Write.{opening}
 use Rattle.stock_file.proofs.Lined.{reline, no_line, first-line, cell-line, ring-line, last_line, past-line}
-use borrow.Author.Rules.{rules}
 use Rattle.stock_file.proofs.written.put_line.Goals as goal
 
 pub returns-then-k-eq0 : goal.returns-then-k-eq0

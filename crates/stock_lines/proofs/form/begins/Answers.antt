@@ -1,5 +1,5 @@
 -- `stock_lines::form::begins` meets its contract. Assumes nothing.
-use Rattle.std.proofs.Common.{◌≡◌, sym, refl, ap, ◌∙◌, arith, length-take-le, rules}
+use Rattle.std.proofs.Common.{sym, ◌∙◌, arith, length-take-le}
 use Rattle.stock_lines.proofs.Steps.{begins-not, begins-same}
 use Rattle.stock_lines.proofs.form.begins.Goals as goal
 

@@ -1,6 +1,5 @@
 -- `stock_lines::form::first_from` meets its contract. Assumes nothing.
 use Rattle.stock_lines.proofs.Firsts.{from-no-edition, from-no-bar, from-both}
-use Rattle.std.proofs.Common.{rules}
 use Rattle.stock_lines.proofs.form.first_from.Goals as goal
 
 pub returns-in_default : goal.returns-in_default

@@ -1,5 +1,5 @@
 -- `stock_lines::form::five_from` meets its contract. Assumes nothing.
-use Rattle.std.proofs.Common.{◌≡◌, ℕ, ◌+◌, ◌*◌, ◌<◌, ◌≤◌, List, [], ◌∷◌, ◌++◌, sym, refl, ap, ◌∙◌, arith, rules}
+use Rattle.std.proofs.Common.{ℕ, ◌+◌, List, sym, ap, ◌∙◌, arith}
 use Rattle.stock_lines.specs.Form.{five_of}
 use Rattle.stock_lines.proofs.Steps.{stops, goes, gives, ends}
 use Rattle.stock_lines.proofs.form.five_from.Goals as goal

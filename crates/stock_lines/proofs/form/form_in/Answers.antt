@@ -1,6 +1,5 @@
 -- `stock_lines::form::form_in` meets its contract. Assumes nothing.
 use Rattle.stock_lines.proofs.Firsts.{form-short, form-two, form-three, form-other}
-use Rattle.std.proofs.Common.{rules}
 use Rattle.stock_lines.proofs.form.form_in.Goals as goal
 
 pub returns-then-line-lt7 : goal.returns-then-line-lt7

@@ -1,6 +1,5 @@
 -- `stock_lines::form::form_of` meets its contract. Assumes nothing.
 use Rattle.stock_lines.proofs.Steps.{form-few, form-many}
-use Rattle.std.proofs.Common.{rules}
 use Rattle.stock_lines.proofs.form.form_of.Goals as goal
 
 pub returns-then-number-ge3 : goal.returns-then-number-ge3

@@ -1,5 +1,5 @@
 -- `stock_lines::form::is_end_line` meets its contract. Assumes nothing.
-use Rattle.std.proofs.Common.{refl, ap, ◌∙◌, rules}
+use Rattle.std.proofs.Common.{refl, ap, ◌∙◌}
 use Rattle.text.specs.Same.{same_bytes}
 use Rattle.stock_lines.proofs.Steps.{line-front, line-fits, line-length}
 use Rattle.stock_lines.proofs.form.is_end_line.Goals as goal

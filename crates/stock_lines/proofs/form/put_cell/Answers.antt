@@ -1,5 +1,5 @@
 -- `stock_lines::form::put_cell` meets its contract. Assumes nothing.
-use Rattle.std.proofs.Common.{ap, arith, rules}
+use Rattle.std.proofs.Common.{ap, arith}
 use Rattle.text.specs.Digits.{digits}
 use Rattle.text.proofs.Sets.{reput}
 use Rattle.stock_lines.specs.declared.form.Form.{Form}

@@ -1,5 +1,5 @@
 -- `stock_lines::form::put_end` meets its contract. Assumes nothing.
-use Rattle.std.proofs.Common.{arith, rules}
+use Rattle.std.proofs.Common.{arith}
 use Rattle.stock_lines.proofs.Steps.{end_short, then-put}
 use Rattle.stock_lines.proofs.form.put_end.Goals as goal
 

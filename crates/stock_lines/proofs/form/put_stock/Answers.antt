@@ -1,5 +1,5 @@
 -- `stock_lines::form::put_stock` meets its contract. Assumes nothing.
-use Rattle.std.proofs.Common.{arith, rules}
+use Rattle.std.proofs.Common.{arith}
 use Rattle.stock_lines.proofs.Steps.{stock-long, then-put}
 use Rattle.stock_lines.proofs.form.put_stock.Goals as goal
 

@@ -1,5 +1,5 @@
 -- `stock_lines::form::read_bar` meets its contract. Assumes nothing.
-use Rattle.std.proofs.Common.{◌≡◌, ℕ, true, false, List, length, drop, sym, refl, ap, ◌∙◌, arith, rules}
+use Rattle.std.proofs.Common.{◌≡◌, ℕ, true, false, List, length, drop, sym, refl, ap, ◌∙◌, arith}
 use Rattle.stock_lines.specs.Form.{fields_of, begins_with, five_of, stock_prefix}
 use Rattle.stock_lines.proofs.Steps.{stock-long, begins-long, line-begins, line-begins-not, line-front, line-fits, line-length}
 use Rattle.stock_lines.proofs.form.read_bar.Goals as goal

@@ -1,5 +1,5 @@
 -- `stock_lines::form::read_cell_line` meets its contract. Assumes nothing.
-use Rattle.std.proofs.Common.{ℕ, List, length, refl, ap, ◌∙◌, arith, rules}
+use Rattle.std.proofs.Common.{ℕ, List, length, refl, ap, ◌∙◌, arith}
 use Rattle.stock_lines.specs.Form.{four_of, line_of}
 use Rattle.stock_lines.proofs.Steps.{cell-short, line-front, line-fits, line-length}
 use Rattle.stock_lines.proofs.form.read_cell_line.Goals as goal

@@ -1,5 +1,5 @@
 -- `stock_lines::form::read_edition` meets its contract. Assumes nothing.
-use Rattle.std.proofs.Common.{sym, ap, ◌∙◌, rules}
+use Rattle.std.proofs.Common.{sym, ap, ◌∙◌}
 use Rattle.stock_lines.specs.declared.form.Form.{Form}
 use Rattle.stock_lines.proofs.Firsts.{edition-there, edition-none, edition-behind}
 use Rattle.stock_lines.proofs.form.read_edition.Goals as goal

@@ -1,5 +1,5 @@
 -- `stock_lines::form::read_field` meets its contract. Assumes nothing.
-use Rattle.std.proofs.Common.{ap, ◌∙◌, rules}
+use Rattle.std.proofs.Common.{ap, ◌∙◌}
 use Rattle.text.specs.Hex.{eight_of}
 use Rattle.stock_lines.proofs.Firsts.{rest-is, field-nothing, field-tab, field-other}
 use Rattle.stock_lines.proofs.form.read_field.Goals as goal

@@ -1,5 +1,5 @@
 -- `stock_lines::form::read_first_line` meets its contract. Assumes nothing.
-use Rattle.std.proofs.Common.{sym, ap, ◌∙◌, arith, length-take-le, rules}
+use Rattle.std.proofs.Common.{sym, ap, ◌∙◌, arith, length-take-le}
 use Rattle.stock_lines.specs.First.{edition_of}
 use Rattle.stock_lines.proofs.Firsts.{rest-is, first_short, first-parts}
 use Rattle.stock_lines.proofs.form.read_first_line.Goals as goal

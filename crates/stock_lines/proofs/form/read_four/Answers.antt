@@ -1,7 +1,7 @@
 -- `stock_lines::form::read_four` meets its contract. Assumes nothing.
 use Rattle.stock_lines.specs.Form.{four_of}
 use Rattle.stock_lines.proofs.Steps.{begins-long, line-begins, line-begins-not}
-use Rattle.std.proofs.Common.{◌≡◌, sym, refl, ap, ◌∙◌, arith, rules}
+use Rattle.std.proofs.Common.{sym, refl, ap, ◌∙◌}
 use Rattle.stock_lines.proofs.form.read_four.Goals as goal
 
 pub four_from-requires : goal.four_from-requires

@@ -1,6 +1,5 @@
 -- `stock_lines::form::written_form` meets its contract. Assumes nothing.
 use Rattle.stock_lines.proofs.Steps.{written-few, written-many}
-use Rattle.std.proofs.Common.{rules}
 use Rattle.stock_lines.proofs.form.written_form.Goals as goal
 
 pub returns-then-n-le-FEW_CELLS : goal.returns-then-n-le-FEW_CELLS

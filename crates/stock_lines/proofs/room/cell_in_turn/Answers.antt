@@ -1,5 +1,5 @@
 -- `stock_lines::room::cell_in_turn` meets its contract. Assumes nothing.
-use Rattle.std.proofs.Common.{◌<◌, ◌≤◌, ◌∙◌, subst, rules}
+use Rattle.std.proofs.Common.{◌<◌, ◌≤◌, ◌∙◌, subst}
 use Rattle.stock_lines.specs.declared.form.Form.{Form}
 use Rattle.stock_lines.proofs.Rooms.{cell-turn, cell-over, cell-after-ring}
 use Rattle.stock_lines.proofs.room.cell_in_turn.Goals as goal

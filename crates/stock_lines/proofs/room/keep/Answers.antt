@@ -1,6 +1,6 @@
 -- `stock_lines::room::keep` meets its contract. Assumes nothing.
 use Rattle.stock_lines.proofs.Rooms.{kept-writes, kept-short, kept-past}
-use Rattle.std.proofs.Common.{◌≡◌, sym, refl, ap, ◌∙◌, arith, length-set, rules}
+use Rattle.std.proofs.Common.{arith, length-set}
 use Rattle.stock_lines.proofs.room.keep.Goals as goal
 
 pub bounds-list-at-then-k-list : goal.bounds-list-at-then-k-list

@@ -1,5 +1,5 @@
 -- `stock_lines::room::store_cell` meets its contract. Assumes nothing.
-use Rattle.std.proofs.Common.{ℕ, ap, ◌∙◌, rules}
+use Rattle.std.proofs.Common.{ap, ◌∙◌}
 use Rattle.stock_lines.specs.declared.form.Form.{Form}
 use Rattle.stock_lines.specs.declared.form.Four.{Four}
 use Rattle.stock_lines.specs.Form.{form_of}
@@ -7,9 +7,9 @@ use Rattle.stock_lines.specs.Room.{taken, stored}
 use Rattle.stock_lines.proofs.room.store_cell.Goals as goal
 
 pub returns : goal.returns
-returns c = let a = c.args in (
-  c.store.ensures.0 ∙ ap taken c.cell_in_turn.ensures,
-  c.store.ensures.1
+returns c = let a = c.args in record {
+  value = c.store.ensures.value ∙ ap taken c.cell_in_turn.ensures;
+  cells_after = c.store.ensures.list_after
       ∙ ap (λ (x : Form). stored x.most a.cells.now a.n c.cell_in_turn.result) c.form_of-f.ensures
-      ∙ ap (λ (x : Four). stored (form_of a.form).most a.cells.now a.n x) c.cell_in_turn.ensures,
-)
+      ∙ ap (λ (x : Four). stored (form_of a.form).most a.cells.now a.n x) c.cell_in_turn.ensures;
+}

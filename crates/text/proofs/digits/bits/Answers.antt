@@ -1,6 +1,5 @@
 -- `text::digits::bits` meets its contract. Assumes nothing.
 use Rattle.text.proofs.Nan.{itself, other}
-use Rattle.std.proofs.Common.{rules}
 use Rattle.text.proofs.digits.bits.Goals as goal
 
 pub float_to_bits-result : goal.float_to_bits-result

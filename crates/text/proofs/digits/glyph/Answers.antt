@@ -1,5 +1,5 @@
 -- `text::digits::glyph` meets its contract. Assumes nothing.
-use Rattle.std.proofs.Common.{arith, rules}
+use Rattle.std.proofs.Common.{arith}
 use Rattle.text.proofs.Spelling.{glyph-low, glyph-high}
 use Rattle.text.proofs.digits.glyph.Goals as goal
 

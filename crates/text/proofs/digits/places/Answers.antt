@@ -1,6 +1,5 @@
 -- `text::digits::places` meets its contract. Assumes nothing.
-use Rattle.std.proofs.Common.{◌≡◌, ◌+◌, ◌-◌, ◌≤◌, arith, rules}
-use Rattle.text.specs.Digits.{more}
+use Rattle.std.proofs.Common.{◌-◌, arith, rules}
 use Rattle.text.proofs.Spelling.{more-none, more-end, places-step}
 use Rattle.text.proofs.digits.places.Goals as goal
 

@@ -1,7 +1,6 @@
 -- `text::digits::places` meets its contract. Assumes nothing.
-use Rattle.std.proofs.Common.{◌≡◌, ◌+◌, ◌-◌, ◌≤◌, arith, rules}
+use Rattle.std.proofs.Common.{◌≡◌, ◌+◌, ◌-◌, ◌≤◌}
 use Rattle.text.specs.Digits.{more}
-use Rattle.text.proofs.Spelling.{more-none, more-end, places-step}
 use Rattle.text.proofs.digits.places.Given as goal
 
 abbrev pub invariant-loop-k : goal.invariant-loop-k

@@ -1,8 +1,6 @@
 -- `text::digits::put` meets its contract. Assumes nothing.
-use Rattle.std.proofs.Common.{◌≡◌, ◌+◌, ◌-◌, ◌≤◌, length, drop, sym, refl, ◌∙◌, arith, rules, leb-true}
-use lib.Seq.{sets}
+use Rattle.std.proofs.Common.{sym, refl, ◌∙◌, arith, rules, leb-true}
 use borrow.Author.Tests.{not-true, not-false}
-use Rattle.text.specs.Wrote.{line_room}
 use Rattle.text.proofs.Sets.{put_step, put-end, put_whole, put-none}
 use Rattle.text.proofs.digits.put.Goals as goal
 

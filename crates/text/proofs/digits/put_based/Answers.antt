@@ -1,5 +1,5 @@
 -- `text::digits::put_based` meets its contract. Assumes nothing.
-use Rattle.std.proofs.Common.{sym, ◌∙◌, arith, rules}
+use Rattle.std.proofs.Common.{sym, ◌∙◌, arith}
 use Rattle.text.proofs.Sets.{room-found, put_whole, put-none}
 use Rattle.text.proofs.Spelling.{digits-length}
 use Rattle.text.proofs.digits.put_based.Goals as goal

@@ -1,5 +1,5 @@
 -- `text::digits::put_decimal` meets its contract. Assumes nothing.
-use Rattle.std.proofs.Common.{ℕ, suc, ap, ◌∙◌, add-one, rules}
+use Rattle.std.proofs.Common.{ℕ, suc, ap, ◌∙◌, add-one}
 use Rattle.text.specs.Digits.{digits, decimal_of}
 use Rattle.text.proofs.Sets.{reput}
 use Rattle.text.proofs.digits.put_decimal.Goals as goal

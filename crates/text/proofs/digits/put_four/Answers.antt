@@ -1,5 +1,5 @@
 -- `text::digits::put_four` meets its contract. Assumes nothing.
-use Rattle.std.proofs.Common.{sym, ◌∙◌, rules}
+use Rattle.std.proofs.Common.{sym, ◌∙◌}
 use borrow.Author.Tests.{not-true, not-false}
 use Rattle.text.proofs.Sets.{put-none}
 use Rattle.text.proofs.Spelling.{four-long}

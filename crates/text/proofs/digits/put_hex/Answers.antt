@@ -1,5 +1,5 @@
 -- `text::digits::put_hex` meets its contract. Assumes nothing.
-use Rattle.std.proofs.Common.{sym, ap, ◌∙◌, arith, rules}
+use Rattle.std.proofs.Common.{sym, ap, ◌∙◌, arith}
 use borrow.Author.Tests.{not-true, not-false}
 use Rattle.text.specs.Digits.{digits, hex_of}
 use Rattle.text.proofs.Sets.{room-found, retext, byte-then, put_whole, put-none}

@@ -1,5 +1,5 @@
 -- `text::digits::ring_line` meets its contract. Assumes nothing.
-use Rattle.std.proofs.Common.{refl, arith, rules}
+use Rattle.std.proofs.Common.{refl, arith}
 use Rattle.text.specs.Lines.{ring_line}
 use Rattle.text.proofs.Sets.{and_then, put-wrote}
 use Rattle.text.proofs.Spelling.{four-long}

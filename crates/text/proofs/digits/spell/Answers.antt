@@ -1,7 +1,5 @@
 -- `text::digits::spell` meets its contract. Assumes nothing.
-use Rattle.std.proofs.Common.{◌≡◌, ◌-◌, ◌<◌, ◌≤◌, sym, refl, ◌∙◌, mod-lt, arith, rules}
-use lib.Seq.{sets}
-use Rattle.text.specs.Digits.{digits}
+use Rattle.std.proofs.Common.{◌<◌, sym, refl, ◌∙◌, mod-lt, arith, rules}
 use Rattle.text.proofs.Spelling.{digits-length, spell-step, spell-end}
 use Rattle.text.proofs.digits.spell.Goals as goal
 

@@ -1,8 +1,7 @@
 -- `text::digits::spell` meets its contract. Assumes nothing.
-use Rattle.std.proofs.Common.{◌≡◌, ◌-◌, ◌<◌, ◌≤◌, sym, refl, ◌∙◌, mod-lt, arith, rules}
+use Rattle.std.proofs.Common.{◌≡◌, ◌≤◌}
 use lib.Seq.{sets}
 use Rattle.text.specs.Digits.{digits}
-use Rattle.text.proofs.Spelling.{digits-length, spell-step, spell-end}
 use Rattle.text.proofs.digits.spell.Given as goal
 
 abbrev pub invariant-loop-i : goal.invariant-loop-i

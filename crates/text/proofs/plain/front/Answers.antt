@@ -1,5 +1,5 @@
 -- `text::plain::front` meets its contract. Assumes nothing.
-use Rattle.std.proofs.Common.{sym, arith, length-take-le, take_all, rules}
+use Rattle.std.proofs.Common.{sym, arith, length-take-le, take_all}
 use Rattle.text.proofs.plain.front.Goals as goal
 
 pub returns-then-bytes-n : goal.returns-then-bytes-n

@@ -1,5 +1,5 @@
 -- `text::plain::nine_digits` meets its contract. Assumes nothing.
-use Rattle.std.proofs.Common.{◌≡◌, ◌+◌, ◌-◌, ◌*◌, ◌^◌, ◌<◌, ◌≤◌, sym, ◌∙◌, arith, rules}
+use Rattle.std.proofs.Common.{◌<◌, sym, ◌∙◌, arith, rules}
 use Rattle.text.proofs.Nine.{digit-on, nine-most, digit-least, nine-fits, ten-times, power-on, nine-turns, rounded-up, rounded-down}
 use Rattle.text.proofs.plain.nine_digits.Goals as goal
 

@@ -1,5 +1,5 @@
 -- `text::plain::put_count` meets its contract. Assumes nothing.
-use Rattle.std.proofs.Common.{sym, rules}
+use Rattle.std.proofs.Common.{sym}
 use Rattle.text.proofs.Sets.{put-room}
 use Rattle.text.proofs.plain.put_count.Goals as goal
 

@@ -1,5 +1,5 @@
 -- `text::plain::put_decimals` meets its contract. Assumes nothing.
-use Rattle.std.proofs.Common.{◌≡◌, ◌+◌, ◌-◌, ◌≤◌, length, rules}
+use Rattle.std.proofs.Common.{◌≡◌, ◌+◌, ◌-◌, ◌≤◌, length}
 use Rattle.text.proofs.plain.put_decimals.Given as goal
 
 abbrev pub invariant-loop-d : goal.invariant-loop-d

@@ -1,5 +1,5 @@
 -- `text::plain::put_text` meets its contract. Assumes nothing.
-use Rattle.std.proofs.Common.{◌≡◌, ◌+◌, ◌-◌, ◌≤◌, length, rules}
+use Rattle.std.proofs.Common.{◌≡◌, ◌+◌, ◌-◌, ◌≤◌, length}
 use Rattle.text.proofs.plain.put_text.Given as goal
 
 abbrev pub invariant-loop-j : goal.invariant-loop-j

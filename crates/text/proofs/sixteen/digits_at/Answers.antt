@@ -1,5 +1,5 @@
 -- `text::sixteen::digits_at` meets its contract. The loop's invariant: what the digits passed say. Assumes nothing.
-use Rattle.std.proofs.Common.{◌≡◌, ◌-◌, ◌<◌, ◌≤◌, drop, refl, arith, rules}
+use Rattle.std.proofs.Common.{drop, refl, arith, rules}
 use Rattle.text.specs.Hex.{hexes_to, value_to}
 use Rattle.text.proofs.Reading.{hexes-more, value-more, value_room, digits-read, digits-none}
 use Rattle.text.proofs.sixteen.digits_at.Goals as goal

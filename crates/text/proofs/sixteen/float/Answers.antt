@@ -1,5 +1,5 @@
 -- `text::sixteen::float` meets its contract. Assumes nothing.
-use Rattle.std.proofs.Common.{Bool, not, T, sym, ◌∙◌, subst, rules, le-ltb}
+use Rattle.std.proofs.Common.{Bool, not, T, sym, ◌∙◌, subst, le-ltb}
 use lib.Ieee.{binary64}
 use lib.Ieee.Bits.{nan_bits_above}
 use Rattle.text.proofs.Reading.{nan-bits, is-nan, no_number}

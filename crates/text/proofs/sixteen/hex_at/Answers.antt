@@ -1,5 +1,5 @@
 -- `text::sixteen::hex_at` meets its contract. Assumes nothing.
-use Rattle.std.proofs.Common.{sym, ap, ◌∙◌, rules}
+use Rattle.std.proofs.Common.{sym, ap, ◌∙◌}
 use lib.Ieee.{of_bits, binary64}
 use Rattle.text.specs.declared.sixteen.Hex.TheVariants.{Of}
 use Rattle.text.proofs.Reading.{number_spelled, number-none, hex-none, hex-minus, hex-of}

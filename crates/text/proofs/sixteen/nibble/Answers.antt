@@ -1,5 +1,5 @@
 -- `text::sixteen::nibble` meets its contract. Assumes nothing.
-use Rattle.std.proofs.Common.{◌∙◌, arith, rules}
+use Rattle.std.proofs.Common.{◌∙◌, arith}
 use Rattle.text.proofs.Reading.{nibble-is-low, nibble-is-high, nibble-first, nibble-between, nibble-last}
 use Rattle.text.proofs.sixteen.nibble.Goals as goal
 

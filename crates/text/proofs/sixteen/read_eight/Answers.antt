@@ -1,5 +1,5 @@
 -- `text::sixteen::read_eight` meets its contract. Assumes nothing.
-use Rattle.std.proofs.Common.{sym, ◌∙◌, arith, rules}
+use Rattle.std.proofs.Common.{sym, ◌∙◌, arith}
 use Rattle.text.proofs.Reading.{number_spelled, number-none, eight-other, eight-none, eight-of, eight-small}
 use Rattle.text.proofs.sixteen.read_eight.Goals as goal
 

@@ -1,5 +1,5 @@
 -- `text::sixteen::read_hex` meets its contract. Assumes nothing.
-use Rattle.std.proofs.Common.{◌∙◌, arith, rules}
+use Rattle.std.proofs.Common.{◌∙◌, arith}
 use Rattle.text.proofs.Reading.{tab-field, no-tab, field-short}
 use Rattle.text.proofs.sixteen.read_hex.Goals as goal
 

@@ -9,5 +9,5 @@ use Rattle.turning.proofs.file_c.turning_stock_line.Goals as goal
 
 pub returns : goal.returns
 returns c = let a = c.args in
-    let same = c.stock_of-stock.ensures ∙ ap (λ (s : TurnStockSpec). stock_from s a.edition a.rings-count 0) c.spec_of-spec.ensures in
+    let same = c.stock_of-stock.ensures ∙ ap (λ (s : TurnStockSpec). stock_from s a.edition a.rings_count 0) c.spec_of-spec.ensures in
     gives-file-line _ _ _ _ _ _ _ c.give_length.ensures (same-file-line _ _ (λ x. line_for x a.cells.now a.rings.now a.k) _ _ _ same c.file_line-answer.ensures)

@@ -8,4 +8,4 @@ use Rattle.turning.proofs.file_c.turning_stock_lines.Goals as goal
 
 pub returns : goal.returns
 returns c = let a = c.args in
-    gives _ _ _ _ _ (c.line_count-answer.ensures ∙ ap (λ (x : TurnStockSpec). line_count x a.cells.now a.rings.now a.rings-count) c.spec_of-spec.ensures) c.give_lines.ensures
+    gives _ _ _ _ _ (c.line_count-answer.ensures ∙ ap (λ (x : TurnStockSpec). line_count x a.cells.now a.rings.now a.rings_count) c.spec_of-spec.ensures) c.give_lines.ensures

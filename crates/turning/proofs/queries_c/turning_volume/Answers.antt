@@ -8,4 +8,4 @@ use Rattle.turning.proofs.queries_c.turning_volume.Goals as goal
 
 pub returns : goal.returns
 returns c = let a = c.args in
-    gives-two _ _ _ _ _ _ _ _ _ (c.volume-answer.ensures ∙ ap (λ (x : TurnStockSpec). volume_of x a.cells.now a.rings.now a.rings-count) c.spec_of-spec.ensures) c.give_volumes.ensures
+    gives-two _ _ _ _ _ _ _ _ _ (c.volume-answer.ensures ∙ ap (λ (x : TurnStockSpec). volume_of x a.cells.now a.rings.now a.rings_count) c.spec_of-spec.ensures) c.give_volumes.ensures
