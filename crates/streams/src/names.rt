@@ -23,16 +23,14 @@ pub fn fail_at(rt: &impl Eprint, name: &[u8], error: io::Error) {
 // How many arguments there are, the program's own name among them.
 pub fn argument_count(rt: &impl Env) -> usize {
     let mut room = [0u8; 1];
-    let mut i: usize = 0;
-    while i < usize::MAX {
+    for i in 0..usize::MAX {
         match rt.arg(i, &mut room) {
             Err(FillError::NotPresent) => return i,
             Err(FillError::TooLong) => {}
             Ok(_) => {}
         }
-        i += 1;
     }
-    i
+    usize::MAX
 }
 
 // Puts argument i at the front of the buffer, and answers its length; 0 where there is none, or where

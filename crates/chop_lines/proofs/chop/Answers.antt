@@ -7,10 +7,10 @@ use Rattle.chop_lines.proofs.Putting.{all-put}
 use Rattle.chop_lines.proofs.chop.Goals as goal
 
 pub read_profile-read-requires : goal.read_profile-read-requires
-read_profile-read-requires c = record { numbers = search rules; line = search rules }
+read_profile-read-requires g c = record { numbers = search rules; line = search rules }
 
 pub returns : goal.returns
-returns c = let r = c.read_profile-read in
+returns g c = let r = c.read_profile-read in
     record {
       bytes = r.ensures.bytes;
       put = all-put (ap text_of (ap (λ (ps : List Float). state r.result.scan ps) c.first.ensures ∙ r.ensures.same)) c.put_text.ensures;

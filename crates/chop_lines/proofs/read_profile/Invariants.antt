@@ -6,7 +6,7 @@ use Rattle.chop_lines.proofs.Taking.{after-fresh, after_more, done}
 use Rattle.chop_lines.proofs.read_profile.Given as goal
 
 abbrev pub invariant-loop-got : goal.invariant-loop-got
-invariant-loop-got l = ScanRoom l.numbers l.line × (l.len ≤ 127) × After (hand fresh []) (in_hand l.scan l.numbers l.points l.line l.len)
+invariant-loop-got g l = ScanRoom l.numbers l.line × (l.len ≤ 127) × After (hand fresh []) (in_hand l.scan l.numbers l.points l.line l.len)
 
 abbrev pub decreases-loop-got : goal.decreases-loop-got
-decreases-loop-got l = l.turns
+decreases-loop-got g l = l.turns

@@ -3,5 +3,5 @@ use Rattle.std.proofs.Common.{◌∙◌, rules}
 use Rattle.chop_lines.proofs.take_some.Goals as goal
 
 pub returns : goal.returns
-returns c = let t = c.take_bytes-taken.ensures in
+returns g c = let t = c.take_bytes-taken.ensures in
     record { after = record { bytes = c.front.result.now; same = t.0 }; within = t.1 }

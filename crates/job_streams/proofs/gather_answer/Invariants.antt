@@ -9,7 +9,7 @@ use borrow.Author.Rules.{rules}
 use Rattle.job_streams.proofs.gather_answer.Given as goal
 
 abbrev pub invariant-loop-k : goal.invariant-loop-k
-invariant-loop-k l = (l.k ≤ most_lines) × (0 < l.k → length (output_of (state l.run l.cells l.rings)) ≤ most_lines) × AllPut (take l.k (output_of (state l.run l.cells l.rings))) l.out l.gathered
+invariant-loop-k g l = (l.k ≤ most_lines) × (0 < l.k → length (output_of (state l.run l.cells l.rings)) ≤ most_lines) × AllPut (take l.k (output_of (state l.run l.cells l.rings))) l.out l.gathered
 
 abbrev pub decreases-loop-k : goal.decreases-loop-k
-decreases-loop-k l = most_lines - l.k
+decreases-loop-k g l = most_lines - l.k

@@ -6,13 +6,13 @@ use borrow.Author.Rules.{rules}
 use Rattle.job_streams.proofs.read_job.Goals as goal
 
 pub loop-run-init : goal.loop-run-init
-loop-run-init c = after_none _
+loop-run-init g c = after_none _
 
 pub returns-then-not-may_be_more : goal.returns-then-not-may_be_more
-returns-then-not-may_be_more c = done _ c.loop-run.invariant c.take_some-t.ensures c.take_some-t.result.got c.end_by.ensures
+returns-then-not-may_be_more g c = done _ c.loop-run.invariant c.take_some-t.ensures c.take_some-t.result.got c.end_by.ensures
 
 pub returns-then-turns-eq0 : goal.returns-then-turns-eq0
-returns-then-turns-eq0 c = done _ c.loop-run.invariant c.take_some-t.ensures c.take_some-t.result.got c.end_by-then-turns-eq0.ensures
+returns-then-turns-eq0 g c = done _ c.loop-run.invariant c.take_some-t.ensures c.take_some-t.result.got c.end_by-then-turns-eq0.ensures
 
 pub loop-run-preserved : goal.loop-run-preserved
-loop-run-preserved c = after_more c.loop-run.invariant c.take_some-t.ensures.after
+loop-run-preserved g c = after_more c.loop-run.invariant c.take_some-t.ensures.after

@@ -6,7 +6,7 @@ use borrow.Author.Rules.{rules}
 use Rattle.job_streams.proofs.read_job.Given as goal
 
 abbrev pub invariant-loop-run : goal.invariant-loop-run
-invariant-loop-run l = After (hold (state l.initial.run l.initial.cells l.initial.rings) l.initial.line 0) (hold (state l.run l.cells l.rings) l.line l.len)
+invariant-loop-run g l = After (hold (state l.initial.run l.initial.cells l.initial.rings) l.initial.line 0) (hold (state l.run l.cells l.rings) l.line l.len)
 
 abbrev pub decreases-loop-run : goal.decreases-loop-run
-decreases-loop-run l = l.turns
+decreases-loop-run g l = l.turns

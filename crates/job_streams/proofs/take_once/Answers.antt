@@ -3,7 +3,7 @@ use borrow.Author.Rules.{rules}
 use Rattle.job_streams.proofs.take_once.Goals as goal
 
 pub brought-requires : goal.brought-requires
-brought-requires c = c.read_some-got.ensures
+brought-requires g c = c.read_some-got.ensures
 
 pub returns : goal.returns
-returns c = let t = c.take_part-taken.ensures in record { room = t.room; after = record { bytes = c.brought.result.now; same = t.same } }
+returns g c = let t = c.take_part-taken.ensures in record { room = t.room; after = record { bytes = c.brought.result.now; same = t.same } }

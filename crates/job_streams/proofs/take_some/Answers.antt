@@ -6,4 +6,4 @@ use borrow.Author.Rules.{rules}
 use Rattle.job_streams.proofs.take_some.Goals as goal
 
 pub slice_bounds-take_once-end : goal.slice_bounds-take_once-end
-slice_bounds-take_once-end c = sym (length-take-le _ _ (omega arith))
+slice_bounds-take_once-end g c = sym (length-take-le _ _ (omega arith))

@@ -13,7 +13,7 @@ use borrow.Author.Rules.{rules}
 use Rattle.side_streams.proofs.gather_chunks.Given as goal
 
 abbrev pub invariant-loop-c : goal.invariant-loop-c
-invariant-loop-c l = (l.c ≤ l.chunks) × (length l.part ≡ 18688) × AllPut (lines_to (chunk_of (side l.cells1 l.rings1 l.count1) (side l.cells2 l.rings2 l.count2)) l.c) l.out l.gathered
+invariant-loop-c g l = (l.c ≤ l.chunks) × (length l.part ≡ 18688) × AllPut (lines_to (chunk_of (side l.cells1 l.rings1 l.count1) (side l.cells2 l.rings2 l.count2)) l.c) l.out l.gathered
 
 abbrev pub decreases-loop-c : goal.decreases-loop-c
-decreases-loop-c l = l.chunks - l.c
+decreases-loop-c g l = l.chunks - l.c

@@ -6,10 +6,10 @@ use borrow.Author.Rules.{rules}
 use Rattle.side_streams.proofs.gather_files.Goals as goal
 
 pub returns-in-Stock : goal.returns-in-Stock
-returns-in-Stock c = first-stock (search rules) (search rules) c.read_named-kept.ensures _ _ c.in-Stock.is _ _ c.gather_second.ensures
+returns-in-Stock g c = first-stock (search rules) (search rules) c.read_named-kept.ensures _ _ c.in-Stock.is _ _ c.gather_second.ensures
 
 pub returns-in-Refused : goal.returns-in-Refused
-returns-in-Refused c = first-refused (search rules) (search rules) c.read_named-kept.ensures _ (ap kept_paper c.in-Refused.is) _ _ c.gather_file.ensures
+returns-in-Refused g c = first-refused (search rules) (search rules) c.read_named-kept.ensures _ (ap kept_paper c.in-Refused.is) _ _ c.gather_file.ensures
 
 pub returns-in-RefusedAt : goal.returns-in-RefusedAt
-returns-in-RefusedAt c = first-refused (search rules) (search rules) c.read_named-kept.ensures _ (ap kept_paper c.in-RefusedAt.is) _ _ c.gather_file-in-RefusedAt.ensures
+returns-in-RefusedAt g c = first-refused (search rules) (search rules) c.read_named-kept.ensures _ (ap kept_paper c.in-RefusedAt.is) _ _ c.gather_file-in-RefusedAt.ensures

@@ -6,7 +6,7 @@ use borrow.Author.Rules.{rules}
 use Rattle.side_streams.proofs.gather_pair.Goals as goal
 
 pub returns-in-Chunks : goal.returns-in-Chunks
-returns-in-Chunks c = pair-chunks _ _ _ _ _ _ _ (sym (ap compared_paper c.in-Chunks.is) ∙ c.compare-compared.ensures) c.gather_chunks.ensures
+returns-in-Chunks g c = pair-chunks _ _ _ _ _ _ _ (sym (ap compared_paper c.in-Chunks.is) ∙ c.compare-compared.ensures) c.gather_chunks.ensures
 
 pub returns-in-Refused : goal.returns-in-Refused
-returns-in-Refused c = pair-refused _ _ _ _ _ (ap compared_paper c.in-Refused.is) c.compare-compared.ensures c.gather_refused.ensures
+returns-in-Refused g c = pair-refused _ _ _ _ _ (ap compared_paper c.in-Refused.is) c.compare-compared.ensures c.gather_refused.ensures

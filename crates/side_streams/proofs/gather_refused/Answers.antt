@@ -6,7 +6,7 @@ use borrow.Author.Rules.{rules}
 use Rattle.side_streams.proofs.gather_refused.Goals as goal
 
 pub slice_bounds-front-end : goal.slice_bounds-front-end
-slice_bounds-front-end c = sym (room c.pair_refused-n.ensures.wrote)
+slice_bounds-front-end g c = sym (room c.pair_refused-n.ensures.wrote)
 
 pub returns : goal.returns
-returns c = line-put (search rules) c.pair_refused-n.ensures c.front.ensures c.fresh.ensures.0 c.put.ensures
+returns g c = line-put (search rules) c.pair_refused-n.ensures c.front.ensures c.fresh.ensures.0 c.put.ensures

@@ -4,4 +4,4 @@ use borrow.Author.Rules.{rules}
 use Rattle.side_streams.proofs.read_named.Goals as goal
 
 pub returns-then-fd-lt0 : goal.returns-then-fd-lt0
-returns-then-fd-lt0 c = no-file _ _
+returns-then-fd-lt0 g c = no-file _ _

@@ -10,15 +10,15 @@ use borrow.Author.Rules.{rules}
 use Rattle.stock_streams.proofs.gather_lines.Goals as goal
 
 pub loop-k-init : goal.loop-k-init
-loop-k-init c = (search rules, put-none _ _ _ c.fresh-out.ensures.0)
+loop-k-init g c = (search rules, put-none _ _ _ c.fresh-out.ensures.0)
 
 pub loop-k-preserved : goal.loop-k-preserved
-loop-k-preserved c = let l = c.loop-k in
+loop-k-preserved g c = let l = c.loop-k in
     let a = c.args in
     (search rules, put-more (λ i. text_in (line_for a.stock a.cells.now a.rings.now i)) l.k l.invariant.1 c.put_line-out.ensures)
 
 pub returns : goal.returns
-returns c = let l = c.loop-k in
+returns g c = let l = c.loop-k in
     let a = c.args in
     let e : l.k ≡ a.n = omega (arith, l.invariant.0, c.loop-k-test.false) in
     subst (λ (i : ℕ). AllPut (lines_to (λ j. text_in (line_for a.stock a.cells.now a.rings.now j)) i) l.out l.gathered) e l.invariant.1

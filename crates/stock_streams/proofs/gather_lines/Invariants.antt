@@ -10,7 +10,7 @@ use borrow.Author.Rules.{rules}
 use Rattle.stock_streams.proofs.gather_lines.Given as goal
 
 abbrev pub invariant-loop-k : goal.invariant-loop-k
-invariant-loop-k l = (l.k ≤ l.n) × AllPut (lines_to (λ i. text_in (line_for l.stock l.cells l.rings i)) l.k) l.out l.gathered
+invariant-loop-k g l = (l.k ≤ l.n) × AllPut (lines_to (λ i. text_in (line_for l.stock l.cells l.rings i)) l.k) l.out l.gathered
 
 abbrev pub decreases-loop-k : goal.decreases-loop-k
-decreases-loop-k l = l.n - l.k
+decreases-loop-k g l = l.n - l.k

@@ -6,8 +6,8 @@ use borrow.Author.Rules.{rules}
 use Rattle.stock_streams.proofs.gather_stock.Goals as goal
 
 pub returns-in-Count : goal.returns-in-Count
-returns-in-Count c = let a = c.args in
+returns-in-Count g c = let a = c.args in
     stock-put a.stock a.cells.now a.rings.now _ _ _ (sym c.line_count-lines.ensures ∙ ap lines_paper c.in-Count.is) c.gather_lines.ensures
 
 pub returns-in-Refused : goal.returns-in-Refused
-returns-in-Refused c = stock-refused _ _ _ _ _ refl
+returns-in-Refused g c = stock-refused _ _ _ _ _ refl

@@ -6,12 +6,12 @@ use borrow.Author.Rules.{rules}
 use Rattle.stock_streams.proofs.put_line.Goals as goal
 
 pub slice_bounds-front-end : goal.slice_bounds-front-end
-slice_bounds-front-end c = sym (over-length c.file_line-spelled.ensures)
+slice_bounds-front-end g c = sym (over-length c.file_line-spelled.ensures)
 
 pub returns-in-Bytes : goal.returns-in-Bytes
-returns-in-Bytes c = let a = c.args in
+returns-in-Bytes g c = let a = c.args in
     put-told a.stock a.cells.now a.rings.now a.k (search rules) c.file_line-spelled.ensures c.in-Bytes.is c.front.ensures c.put.ensures
 
 pub returns-in-Refused : goal.returns-in-Refused
-returns-in-Refused c = let a = c.args in
+returns-in-Refused g c = let a = c.args in
     put-nothing (line_for a.stock a.cells.now a.rings.now a.k) _ _ c.file_line-spelled.ensures c.in-Refused.is

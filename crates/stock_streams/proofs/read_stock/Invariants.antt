@@ -6,7 +6,7 @@ use borrow.Author.Rules.{rules}
 use Rattle.stock_streams.proofs.read_stock.Given as goal
 
 abbrev pub invariant-loop-line : goal.invariant-loop-line
-invariant-loop-line l = (length l.cells ≡ length l.initial.cells) × (length l.rings ≡ length l.initial.rings) × SoFar l.initial.cells l.initial.rings l.reading l.len l.cells l.rings l.line
+invariant-loop-line g l = (length l.cells ≡ length l.initial.cells) × (length l.rings ≡ length l.initial.rings) × SoFar l.initial.cells l.initial.rings l.reading l.len l.cells l.rings l.line
 
 abbrev pub decreases-loop-line : goal.decreases-loop-line
-decreases-loop-line l = l.turns
+decreases-loop-line g l = l.turns

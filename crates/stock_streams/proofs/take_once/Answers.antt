@@ -3,5 +3,5 @@ use borrow.Author.Rules.{rules}
 use Rattle.stock_streams.proofs.take_once.Goals as goal
 
 pub returns : goal.returns
-returns c = let o = c.take_part-taken.ensures in
+returns g c = let o = c.take_part-taken.ensures in
     record { bytes = c.front.result.now; takes = record { room = o.room; reads = o.reads; holds = o.holds; keeps = o.keeps } }

@@ -6,9 +6,9 @@ use borrow.Author.Rules.{rules}
 use Rattle.stock_streams.proofs.take_some.Goals as goal
 
 pub slice_bounds-take_once-end : goal.slice_bounds-take_once-end
-slice_bounds-take_once-end c = sym (length-take-le _ _ (omega arith))
+slice_bounds-take_once-end g c = sym (length-take-le _ _ (omega arith))
 
 pub returns : goal.returns
-returns c = let o = c.take_once.ensures in
+returns g c = let o = c.take_once.ensures in
     let t = o.takes in
     record { bytes = o.bytes; takes = record { room = t.room; reads = t.reads; holds = t.holds; keeps = t.keeps } }

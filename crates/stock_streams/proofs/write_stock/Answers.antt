@@ -4,4 +4,4 @@ use borrow.Author.Rules.{rules}
 use Rattle.stock_streams.proofs.write_stock.Goals as goal
 
 pub returns : goal.returns
-returns c = λ e. c.gather_stock-out.ensures.asked (went-well _ _ c.flush.ensures e)
+returns g c = λ e. c.gather_stock-out.ensures.asked (went-well _ _ c.flush.ensures e)

@@ -1,8 +1,4 @@
 -- `streams::copy_in` meets its contract. Assumes nothing.
-use mathlib.Core.Path.{◌≡◌}
-use mathlib.Core.List.{◌++◌}
-use Prim.Native.Nat.{◌+◌, ◌-◌, ◌≤◌}
-use lib.ListN.{length, take}
 use borrow.Author.Rules.{rules}
 use Rattle.streams.proofs.Copies.{copied_none, copied_more, copied_all}
 use Rattle.streams.proofs.copy_in.Goals as goal

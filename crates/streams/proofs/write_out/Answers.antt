@@ -1,12 +1,10 @@
 -- `streams::write_out` meets its contract. Assumes nothing.
-use Prim.Native.Nat.{◌≤◌}
-use lib.ListN.{length}
 use borrow.Author.Rules.{rules}
 use Rattle.streams.proofs.Moved.{taken}
 use Rattle.streams.proofs.write_out.Goals as goal
 
 pub overflow_add-done : goal.overflow_add-done
-overflow_add-done c = search (rules, taken _ c.in-Bytes.is c.write_some.ensures)
+overflow_add-done g c = search (rules, taken _ c.in-Bytes.is c.write_some.ensures)
 
 pub loop-done-preserved-in-Bytes : goal.loop-done-preserved-in-Bytes
-loop-done-preserved-in-Bytes c = search (rules, taken _ c.in-Bytes.is c.write_some.ensures)
+loop-done-preserved-in-Bytes g c = search (rules, taken _ c.in-Bytes.is c.write_some.ensures)

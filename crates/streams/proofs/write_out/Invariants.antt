@@ -1,12 +1,10 @@
 -- `streams::write_out` meets its contract. Assumes nothing.
 use Prim.Native.Nat.{◌≤◌}
 use lib.ListN.{length}
-use borrow.Author.Rules.{rules}
-use Rattle.streams.proofs.Moved.{taken}
 use Rattle.streams.proofs.write_out.Given as goal
 
 abbrev pub invariant-loop-done : goal.invariant-loop-done
-invariant-loop-done l = l.done ≤ length l.bytes
+invariant-loop-done g l = l.done ≤ length l.bytes
 
 abbrev pub decreases-loop-done : goal.decreases-loop-done
-decreases-loop-done l = l.turns
+decreases-loop-done g l = l.turns

@@ -6,4 +6,4 @@ use Rattle.chop_lines.proofs.spell.put_chord.Goals as goal
 
 pub returns : goal.returns
 unfolding chord_text
-returns c = puts-more c.put_front-next.ensures c.put_ends.ensures
+returns g c = puts-more c.put_front-next.ensures c.put_ends.ensures

@@ -6,7 +6,7 @@ use Rattle.chop_lines.proofs.Putting.{put-none, put_on, all-put, texts-more}
 use Rattle.chop_lines.proofs.spell.put_chords.Given as goal
 
 abbrev pub invariant-loop-k : goal.invariant-loop-k
-invariant-loop-k l = (l.k ≤ l.n) × AllPut (chord_texts l.side l.rn l.chords l.k) l.out l.gathered
+invariant-loop-k g l = (l.k ≤ l.n) × AllPut (chord_texts l.side l.rn l.chords l.k) l.out l.gathered
 
 abbrev pub decreases-loop-k : goal.decreases-loop-k
-decreases-loop-k l = l.n - l.k
+decreases-loop-k g l = l.n - l.k
