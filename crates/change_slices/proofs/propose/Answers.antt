@@ -1,5 +1,5 @@
 -- `change_slices::propose` meets its contract. Assumes nothing.
-use Rattle.std.proofs.Common.{◌≡◌, ℕ, ◌*◌, List, length, replicate, subst, rules}
+use Rattle.std.proofs.Common.{◌≡◌, ℕ, ◌*◌, List, length, replicate, subst}
 use lib.ListN.{length-replicate}
 use lib.Ieee.{Float}
 use Rattle.refusals.specs.Limits.{cell_limit}
@@ -23,18 +23,6 @@ read_listed : (st : Stamp) (spec : TurnStockSpec) (cs : List Float) (t : Tool) (
     → k ≡ count_in r → Reads is xs k j l l' → Written st (preview_tool spec cs t ys (length l)) r l l'
 read_listed st spec cs t ys is₀ is xs₀ xs r k j l l' long wide w e d =
     records-hold st _ _ r is xs j l l' (lists-enough-for spec cs t ys (length is₀) (length xs₀) long wide (length l)) w (subst (λ (i : ℕ). Reads is xs i j l l') e d)
-
-pub slice_bounds-list-end : goal.slice_bounds-list-end
-slice_bounds-list-end c = search rules
-
-pub slice_bounds-list-end-2 : goal.slice_bounds-list-end-2
-slice_bounds-list-end-2 c = search rules
-
-pub slice_bounds-read_changes-end : goal.slice_bounds-read_changes-end
-slice_bounds-read_changes-end c = search rules
-
-pub slice_bounds-read_changes-end-2 : goal.slice_bounds-read_changes-end-2
-slice_bounds-read_changes-end-2 c = search rules
 
 pub returns : goal.returns
 returns c = let a = c.args in

@@ -1,5 +1,5 @@
 -- `change_slices::read_changes` meets its contract. Assumes nothing.
-use Rattle.std.proofs.Common.{◌≡◌, ◌<◌, ◌≤◌, ◌∙◌, ap, List, length, set, arith, rules}
+use Rattle.std.proofs.Common.{◌<◌, ◌∙◌, ap, List, length, set, arith, rules}
 use Rattle.refusals.specs.Lent.{over}
 use Rattle.stock.specs.declared.TurnChange.{TurnChange}
 use Rattle.changes.specs.Change.{room_of, changes_from}

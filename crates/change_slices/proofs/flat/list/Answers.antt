@@ -1,5 +1,4 @@
 -- `change_slices::flat::list` meets its contract. Assumes nothing.
-use borrow.Author.Rules.{rules}
 use Rattle.change_slices.proofs.Rooms.{narrows}
 use Rattle.change_slices.proofs.flat.list.Goals as goal
 

@@ -1,6 +1,5 @@
 -- `change_slices::flat::narrow` meets its contract. Assumes nothing.
 use mathlib.Core.Path.{sym, ap, ◌∙◌}
-use borrow.Author.Rules.{rules}
 use borrow.Author.Tests.{lt-ltb, le-ltb}
 use Rattle.floats.specs.Pick.{pick_true, pick-false}
 use Rattle.change_slices.specs.Proposal.{narrow_answer}
