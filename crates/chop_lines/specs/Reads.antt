@@ -1,4 +1,4 @@
--- A profile read from a descriptor; need not be believed: what is read is `scan_of` of some bytes (`ChopsSome`). Assumes nothing.
+-- A profile read from a reader; need not be believed: what is read is `scan_of` of some bytes (`ChopsSome`). Assumes nothing.
 use Rattle.std.specs.Prelude.{◌≡◌, ℕ, ◌≤◌, Bool, true, false, List, Float}
 use Rattle.refusals.specs.Lent.{Lent}
 use Rattle.lines.specs.Hands.{Hand}

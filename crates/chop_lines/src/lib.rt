@@ -172,7 +172,7 @@ fn put_text(
     }
 }
 
-// Reads a profile from a descriptor, and gathers what it becomes for another, to which it writes what
+// Reads a profile from a reader, and gathers what it becomes for a writer, to which it writes what
 // finds no room.
 pub fn chop(
     rt: &(impl Eprint + Clock),

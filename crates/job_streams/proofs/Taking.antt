@@ -18,7 +18,6 @@ use borrow.Author.Tests.{eqb-false}
 use Rattle.job_run.proofs.Lines.{finish-stopped}
 use Rattle.job_run.proofs.WholeFile.{end_of, end_cut_of, however-cut, cut-finish}
 use Rattle.job_streams.specs.declared.End.{End}
-use Rattle.job_streams.specs.declared.End.TheVariants as ends
 use Rattle.job_streams.specs.declared.Ended.{Ended}
 use Rattle.job_streams.specs.Read.{brought_by, After, ReadsOn, end_at, whole_end, cut_at, cut_end, end_by, JobOfSome}
 

@@ -1,4 +1,4 @@
--- A job read from a descriptor. No contract can say which bytes come: a promise here says that there are some of which the run is the job. Assumes nothing.
+-- A job read from a reader. No contract can say which bytes come: a promise here says that there are some of which the run is the job. Assumes nothing.
 use Rattle.std.specs.Prelude.{◌≡◌, Bool, true, false, ℕ, eqb, take, Float}
 use mathlib.Core.List.{List, [], foldl}
 use Rattle.refusals.specs.Lent.{Lent}

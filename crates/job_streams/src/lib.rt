@@ -1,4 +1,4 @@
-// A job read from a descriptor, and its answer written to one: all that the job program does.
+// A job read from a reader, and its answer written to a writer: all that the job program does.
 //
 // Bytes are taken as they come, to the end of the input, also after a refused line, so that whoever
 // writes them is not stopped. A read that fails cuts the input off inside its next line: it is refused

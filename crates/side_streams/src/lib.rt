@@ -1,9 +1,9 @@
-// Two stock files by name, compared, and what differs written to a descriptor.
+// Two stock files by name, compared, and what differs written to a writer.
 //
 // The second file is opened once the first told a stock. A file that cannot be opened is one whose
 // first line is missing, and one whose read fails is one whose next line is. What is handed on to be
 // written, byte for byte and in order, is `files_text` of crate `side_by_side`, as far as writes succeed;
-// no contract can speak of descriptors.
+// no contract can speak of files.
 #![tactic(auto)]
 
 ghost use Rattle.std.specs.Prelude.{◌≡◌, ◌*◌, take};

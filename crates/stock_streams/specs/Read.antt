@@ -1,4 +1,4 @@
--- A stock file read from a descriptor. No contract can say which bytes come: a promise here says that there are some of which it is told what they tell. Assumes nothing.
+-- A stock file read from a reader. No contract can say which bytes come: a promise here says that there are some of which it is told what they tell. Assumes nothing.
 use Rattle.std.specs.Prelude.{◌≡◌, Bool, true, false, List, ℕ, Float}
 use Rattle.refusals.specs.Lent.{Lent}
 use Rattle.streams.specs.declared.Got.{Got}

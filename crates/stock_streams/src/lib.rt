@@ -1,4 +1,4 @@
-// A stock file read from a descriptor, and written to one.
+// A stock file read from a reader, and written to a writer.
 //
 // Bytes are taken as they come, to the end of the input, also after a refused line. A read that fails
 // cuts the file off inside its next line, also behind `end`: it is refused there, and never told as if

@@ -1,4 +1,4 @@
--- What moves between a descriptor and lent bytes, as far as a contract can say it. Assumes nothing.
+-- What moves between a reader or a writer and lent bytes, as far as a contract can say it. Assumes nothing.
 use Rattle.std.specs.Prelude.{ℕ, ◌≤◌, ◌≡◌, true, false, List, ◌++◌, length, take}
 use Rattle.io.specs.Counts.{IsPrefixLen}
 use Rattle.streams.specs.declared.Got.{Got}

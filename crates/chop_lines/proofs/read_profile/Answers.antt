@@ -14,13 +14,13 @@ take_some-t-requires g c = let i = c.loop-got.invariant in (i.0, i.1)
 pub returns-then-not-may_be_more : goal.returns-then-not-may_be_more
 returns-then-not-may_be_more g c = let i = c.loop-got.invariant in
     let o = c.take_some-t.ensures in
-    done c.take_some-t.result.got c.take_some-t.new.1.1.0 c.take_some-t.result.points c.take_some-t.result.len c.take_some-t.new.1.1.1.1.0
+    done c.take_some-t.result.got c.take_some-t.new.numbers c.take_some-t.result.points c.take_some-t.result.len c.take_some-t.new.line
     (after_more i.2 o.after) o.within (search rules) (c.finish.ensures ∙ ap (finish_of _) c.held_by.ensures)
 
 pub returns-then-turns-eq0 : goal.returns-then-turns-eq0
 returns-then-turns-eq0 g c = let i = c.loop-got.invariant in
     let o = c.take_some-t.ensures in
-    done c.take_some-t.result.got c.take_some-t.new.1.1.0 c.take_some-t.result.points c.take_some-t.result.len c.take_some-t.new.1.1.1.1.0
+    done c.take_some-t.result.got c.take_some-t.new.numbers c.take_some-t.result.points c.take_some-t.result.len c.take_some-t.new.line
     (after_more i.2 o.after) o.within (search rules) (c.finish-then-turns-eq0.ensures ∙ ap (finish_of _) c.held_by-then-turns-eq0.ensures)
 
 pub loop-got-preserved : goal.loop-got-preserved

@@ -1,6 +1,5 @@
 -- `job_streams::at_end` meets its contract. Assumes nothing.
 use Rattle.job_streams.proofs.Taking.{whole-end}
-use borrow.Author.Rules.{rules}
 use Rattle.job_streams.proofs.at_end.Goals as goal
 
 pub returns : goal.returns

@@ -1,6 +1,5 @@
 -- `job_streams::cut_off` meets its contract. Assumes nothing.
 use Rattle.job_streams.proofs.Taking.{cut-end}
-use borrow.Author.Rules.{rules}
 use Rattle.job_streams.proofs.cut_off.Goals as goal
 
 pub returns : goal.returns

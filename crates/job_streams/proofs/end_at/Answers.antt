@@ -2,7 +2,6 @@
 use mathlib.Core.Path.{sym}
 use borrow.Author.Tests.{eq-eqb, ne_eqb}
 use Rattle.floats.specs.Pick.{pick_true, pick-false}
-use borrow.Author.Rules.{rules}
 use Rattle.job_streams.proofs.end_at.Goals as goal
 
 pub returns-then-len-eq0 : goal.returns-then-len-eq0

@@ -1,6 +1,5 @@
 -- `job_streams::end_by` meets its contract. Assumes nothing.
 use Rattle.job_streams.proofs.Taking.{end_is}
-use borrow.Author.Rules.{rules}
 use Rattle.job_streams.proofs.end_by.Goals as goal
 
 pub returns-in-End : goal.returns-in-End

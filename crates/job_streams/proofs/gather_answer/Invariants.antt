@@ -1,11 +1,8 @@
 -- `job_streams::gather_answer` meets its contract. Assumes nothing.
 use Prim.Native.Nat.{◌-◌, ◌≤◌, ◌<◌}
-use native.Mathlib.Omega.{arith}
 use lib.ListN.{length, take}
 use Rattle.job_run.specs.Run.{state, output_of, most_lines}
 use Rattle.job_streams.specs.Write.{AllPut}
-use Rattle.job_streams.proofs.Putting.{put-none, put-more, put_all}
-use borrow.Author.Rules.{rules}
 use Rattle.job_streams.proofs.gather_answer.Given as goal
 
 abbrev pub invariant-loop-k : goal.invariant-loop-k

@@ -1,8 +1,5 @@
 -- `job_streams::read_job` meets its contract. Assumes nothing.
-use Rattle.job_run.specs.Run.{state, hold}
-use Rattle.job_streams.specs.Read.{After}
 use Rattle.job_streams.proofs.Taking.{after_none, after_more, done}
-use borrow.Author.Rules.{rules}
 use Rattle.job_streams.proofs.read_job.Goals as goal
 
 pub loop-run-init : goal.loop-run-init

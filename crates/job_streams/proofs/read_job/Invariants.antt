@@ -1,8 +1,6 @@
 -- `job_streams::read_job` meets its contract. Assumes nothing.
 use Rattle.job_run.specs.Run.{state, hold}
 use Rattle.job_streams.specs.Read.{After}
-use Rattle.job_streams.proofs.Taking.{after_none, after_more, done}
-use borrow.Author.Rules.{rules}
 use Rattle.job_streams.proofs.read_job.Given as goal
 
 abbrev pub invariant-loop-run : goal.invariant-loop-run

@@ -1,5 +1,4 @@
 -- `job_streams::take_once` meets its contract. Assumes nothing.
-use borrow.Author.Rules.{rules}
 use Rattle.job_streams.proofs.take_once.Goals as goal
 
 pub brought-requires : goal.brought-requires

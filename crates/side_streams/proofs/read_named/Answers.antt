@@ -3,5 +3,5 @@ use Rattle.side_streams.proofs.Told.{no-file}
 use borrow.Author.Rules.{rules}
 use Rattle.side_streams.proofs.read_named.Goals as goal
 
-pub returns-then-fd-lt0 : goal.returns-then-fd-lt0
-returns-then-fd-lt0 g c = no-file _ _
+pub returns-in-Err : goal.returns-in-Err
+returns-in-Err g c = no-file _ _

@@ -3,11 +3,6 @@ use Rattle.std.proofs.Common.{◌≡◌, ◌-◌, ◌^◌, ◌<◌, ◌≤◌, l
 use Rattle.chop_lines.specs.Scan.{ScanRoom, in_hand, bytes_to}
 use Rattle.chop_lines.proofs.Taking.{bytes-step, bytes-end}
 use Rattle.chop_lines.proofs.scan.take_bytes.Goals as goal
-use Rattle.chop_lines.proofs.scan.take_bytes.Goals.{Start}
-
--- a slice's length is a usize
-few : (c : Start) → length c.args.bytes.now < 2 ^ 64
-few c = omega arith
 
 pub loop-i-init : goal.loop-i-init
 loop-i-init c = (search rules, c.requires.1, search rules, search rules, refl)
@@ -16,9 +11,6 @@ pub take_byte-t-requires : goal.take_byte-t-requires
 take_byte-t-requires c = let l = c.loop-i.invariant in
     let p = c.requires.0 in
     (record { numbers = l.2 ∙ p.numbers; line = l.3 ∙ p.line }, l.1)
-
-pub overflow_add-i : goal.overflow_add-i
-overflow_add-i c = omega (arith, few c.before.before.before.before.before.before.before.before.before.before.before.before.before.before, c.loop-i-test.true)
 
 pub loop-i-preserved : goal.loop-i-preserved
 loop-i-preserved c = (search rules, c.take_byte-t.ensures.1, search rules, search rules, c.loop-i.invariant.4 ∙ bytes-step _ _ _ _ c.loop-i-test.true c.take_byte-t.ensures.0)

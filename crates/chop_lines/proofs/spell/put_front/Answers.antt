@@ -9,8 +9,8 @@ slice_bounds-line-end g c = omega (arith, room c.front_text-end.ensures.wrote)
 
 pub slice_bounds-put-end : goal.slice_bounds-put-end
 slice_bounds-put-end g c = let o = c.front_text-end in
-    let h : o.result ≤ length o.new.0 = omega (arith, room o.ensures.wrote) in
-    sym (length-take-le o.result o.new.0 h)
+    let h : o.result ≤ length o.new.out = omega (arith, room o.ensures.wrote) in
+    sym (length-take-le o.result o.new.out h)
 
 pub returns : goal.returns
 returns g c = puts-text (search rules) c.front_text-end.ensures.wrote c.put.ensures

@@ -9,8 +9,8 @@ slice_bounds-own-end g c = omega (arith, room c.refused_line-end.ensures.wrote)
 
 pub slice_bounds-put-end : goal.slice_bounds-put-end
 slice_bounds-put-end g c = let o = c.refused_line-end in
-    let h : o.result ≤ length o.new.0 = omega (arith, room o.ensures.wrote) in
-    sym (length-take-le o.result o.new.0 h)
+    let h : o.result ≤ length o.new.out = omega (arith, room o.ensures.wrote) in
+    sym (length-take-le o.result o.new.out h)
 
 pub returns : goal.returns
 returns g c = put_on (put-none _ _ c.fresh.ensures.0) (puts-text (search rules) c.refused_line-end.ensures.wrote c.put.ensures)
