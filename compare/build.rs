@@ -14,7 +14,7 @@ fn main() {
     println!("cargo::rerun-if-changed={}", archive.display());
     if !archive.is_file() {
         println!(
-            "cargo::error=no {}: run `rt staticlib turning` at the repository's root",
+            "cargo::error=no {}: run `scripts/archive` at the repository's root",
             archive.display()
         );
         return;

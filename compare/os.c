@@ -1,9 +1,9 @@
-/* What the toolchain's library os has in C, for a processor that the toolchain compiles no programs for: `compare/native program`
- * links it. A `&mut [u8]` passes as a pointer and a length. */
+/* What the toolchain's libraries os and libc have in C, for a processor that the toolchain compiles no programs for:
+ * `compare/native program` links it. A `&mut [u8]` passes as a pointer and a length. */
 #include <errno.h>
-#include <fcntl.h>
 #include <stddef.h>
 #include <stdint.h>
+#include <stdlib.h>
 #include <string.h>
 
 static int count;
@@ -28,12 +28,18 @@ int rattle_errno(void) { return errno; }
 
 void rattle_set_errno(int error) { errno = error; }
 
-int rattle_open_to_read(const char *path) { return open(path, O_RDONLY | O_CLOEXEC); }
+/* What memory comes to: whether there is some, and where; else a byte that nobody owns. */
+struct tried { unsigned char ok; uint8_t *p; };
 
-int rattle_open_new(const char *path, unsigned mode) { return open(path, O_WRONLY | O_CREAT | O_EXCL | O_CLOEXEC, mode); }
+static uint8_t none;
 
-int rattle_open_to_overwrite(const char *path, unsigned mode) { return open(path, O_WRONLY | O_CREAT | O_TRUNC | O_CLOEXEC, mode); }
+static struct tried tried(uint8_t *p) { return p ? (struct tried){1, p} : (struct tried){0, &none}; }
 
-int rattle_open_to_append(const char *path) { return open(path, O_WRONLY | O_APPEND | O_CLOEXEC); }
+struct tried rattle_alloc(size_t n, size_t align) { return tried(malloc(n ? n : align)); }
 
-int rattle_open_to_update(const char *path) { return open(path, O_RDWR | O_CLOEXEC); }
+struct tried rattle_realloc(uint8_t *p, size_t kept, size_t n, size_t align) {
+    (void)kept;
+    return tried(realloc(p, n ? n : align));
+}
+
+void rattle_dealloc(uint8_t *p) { free(p); }

@@ -1,7 +1,7 @@
 //! Links libturning.a.
 //!
 //! `TURNING_LIB` names the archive, or the folder that it is in; a relative name counts from the repository's root. Without it the
-//! archive is the one that `rt staticlib turning` writes, or on a processor other than x86-64 the one of
+//! archive is the one that `scripts/archive` writes, or on a processor other than x86-64 the one of
 //! `compare/native library target/libturning-native.a`. The archive is asked for its `turning_header()` before anything is built
 //! over it, so that calls are never made with arguments of another header.
 use std::env;
@@ -29,7 +29,7 @@ fn link() -> Result<(), String> {
             "there is no archive {}: make it with `{}` at the repository's root, or name another in TURNING_LIB",
             archive.display(),
             if wants("x86_64") {
-                "rt staticlib turning"
+                "scripts/archive"
             } else {
                 "compare/native library target/libturning-native.a"
             }

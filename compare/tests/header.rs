@@ -1,4 +1,4 @@
-//! include/turning.h says what the code of crate `turning` says, and so does src/library.rs: of each call what it returns, and
+//! include/turning.h says what the code of crate `turning_c` says, and so does src/library.rs: of each call what it returns, and
 //! each parameter's name and type, in order. Every call is compared and timed, and needs no more stack than the header says.
 use compare::bench;
 use compare::generate::{FAMILIES, Rng, family};
@@ -107,7 +107,7 @@ fn array_length(name: &str) -> usize {
     }
     let mark = format!("const {name}: usize = ");
     let mut found = vec![];
-    for krate in ["turning", "job_run", "job_words", "text"] {
+    for krate in ["turning_c", "job_run", "job_words", "text"] {
         for text in sources(krate) {
             let values = text.split(&mark).skip(1);
             found.extend(values.map(|v| v.split(';').next().unwrap().to_string()));
@@ -157,10 +157,10 @@ fn of_code(text: &str) -> Vec<String> {
     }
 }
 
-/// The exported functions of crate `turning`.
+/// The exported functions of crate `turning_c`.
 fn code() -> Calls {
     let mut calls = Calls::new();
-    for text in sources("turning") {
+    for text in sources("turning_c") {
         for part in text.split("pub extern \"C\" fn ").skip(1) {
             let (_, name, list, after) = lists(part)[0];
             let parameters = list.split(',').map(words).filter(|p| !p.is_empty());

@@ -304,7 +304,7 @@ impl Source for Pairs {
 /// Runs so many pairs and prints what was seen; how many differ.
 pub fn compare(count: usize, seed: u64) -> u64 {
     let program =
-        named_program().expect("PAIRS names a program, or `rt check test_side_by_side` made one");
+        named_program().expect("PAIRS names a program, or `compare/run` made one");
     let mut pairs = Pairs::new(program, seed);
     let mut counts = Counts::default();
     (0..count).for_each(|_| pairs.next(&mut counts));

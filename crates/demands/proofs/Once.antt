@@ -32,7 +32,7 @@
 --   envelope  order_of (same-ordered), within_span (same-spanned), within_refusal (same-looked), radius_at (same-radius-at), radius_range (same-radius-range)
 --   insert    excess, penetration (same-touch), eroded (same-radius-at)
 --   queries   volume, envelope_at (Outcomes.volume-once, Outcomes.envelope-once of queries), shown (Outcomes.same_seen of queries)
---   stock_file finish (Outcomes.same-kept of stock_file), line_count (Outcomes.same-lines of stock_file)
+--   stock_file finish (Outcomes.same_kept of stock_file), line_count (Outcomes.same_lines of stock_file)
 --   side_by_side compare (Outcomes.same-compared of side_by_side)
 --   blocks    kept_cells (same-counted), range (Outcomes.same_seen of queries)
 --

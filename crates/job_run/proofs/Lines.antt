@@ -17,7 +17,7 @@ use Rattle.job_words.specs.Kind.{most_cells}
 use Rattle.job_answer.specs.Answer.{cell_line_at, ring_line_at, lines_to, answer_of}
 use Rattle.job_answer.proofs.Nth.{lines-length}
 use Rattle.job_run.specs.declared.Run.{Run}
-use Rattle.job_run.specs.Run.{State, state, next, refused_with, refusing, answered, on_line, on_long, hold, byte_on, is_empty, finish_of, output_of, max_rings, most_lines}
+use Rattle.job_run.specs.Run.{State, state, next, refused_with, refusing, answered, on_line, hold, byte_on, is_empty, finish_of, output_of, max_rings, most_lines}
 
 -- ---- a line
 

@@ -8,7 +8,7 @@ use Rattle.floats.specs.Pick.{pick_true}
 use Rattle.stock.specs.declared.TurnSide.{TurnSide}
 use Rattle.cuts.specs.declared.Cut.TheVariants.{Line}
 use Rattle.job_words.specs.declared.Line.TheVariants.{Bar, Cutting}
-use Rattle.job_words.specs.Kind.{most_cells, is_mm, mm_of, at, all_numbers, numbers, bar_of, nose_on}
+use Rattle.job_words.specs.Kind.{most_cells, mm_of, at, all_numbers, numbers, bar_of, nose_on}
 
 pub numbers-other : (fs : List (List ℕ)) (k n m : ℕ) → m ≡ length fs → (m ≡ k + n → ⊥) → numbers fs k n ≡ false
 unfolding numbers

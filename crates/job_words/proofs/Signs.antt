@@ -1,11 +1,8 @@
 -- A number's sign and its size. Assumes nothing.
-use Rattle.std.proofs.Common.{◌≡◌, ℕ, zero, suc, ◌+◌, ◌-◌, ◌<◌, ◌≤◌, Bool, true, false, leb, List, [], ◌∷◌, length, get_or, take, drop, ℤ, pos, ◌-ℤ◌, neg_ℤ, sym, refl, ap, ◌∙◌, subst, arith, length-drop, take_all, w64, SFits, to_z, of_z, eq-eqb, ne_eqb, leb-true}
+use Rattle.std.proofs.Common.{◌≡◌, ℕ, zero, suc, ◌-◌, ◌<◌, ◌≤◌, List, [], ◌∷◌, length, get_or, take, drop, ℤ, pos, ◌-ℤ◌, neg_ℤ, sym, refl, ap, ◌∙◌, subst, arith, length-drop, take_all, w64, SFits, to_z, of_z, eq-eqb, ne_eqb}
 use lib.IntN.{+ℤ_idl}
 use mir.ValLaws.{to_z_pos, to_z-of_z}
-use Rattle.text.specs.declared.Whole.{Whole}
-use Rattle.text.specs.declared.Whole.TheVariants.{Of, No}
 use Rattle.job_words.specs.declared.number.Number.TheVariants.{NoNumber}
-use Rattle.floats.specs.Pick.{pick}
 use Rattle.text.proofs.Chosen.{yes, no}
 use Rattle.job_words.specs.Number.{field_number, positive, negative}
 use Rattle.text.specs.Whole.{whole_of}

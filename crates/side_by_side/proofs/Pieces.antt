@@ -1,15 +1,14 @@
 -- What `left_of` promises, as a chunk and the decision take it. Assumes nothing.
-use Prim.Native.Nat.{ℕ, ◌+◌, ◌*◌, ◌≤◌}
+use Prim.Native.Nat.{ℕ, ◌≤◌}
 use native.Mathlib.Omega.{arith}
-use mathlib.Core.Path.{◌≡◌, refl, sym, ap, ◌∙◌, subst}
+use mathlib.Core.Path.{◌≡◌, refl, sym, ap, ◌∙◌}
 use mathlib.Core.Bool.{Bool, true, false}
-use mathlib.Core.List.{List, [], ◌∷◌, ◌++◌}
+use mathlib.Core.List.{List, []}
 use lib.ListN.{length}
 use lib.Ieee.{Float}
 use Rattle.refusals.specs.declared.Refusal.{Refusal}
-use Rattle.refusals.specs.Number.{reason_of}
 use Rattle.refusals.specs.Limits.{piece_limit}
-use Rattle.refusals.specs.Paper.{Paper, Reason, answers, refuses, only, demand-true, demand-false}
+use Rattle.refusals.specs.Paper.{Reason, answers, refuses, only, demand-true, demand-false}
 use Rattle.stock.proofs.Count.{same_answer, no_answer}
 use Rattle.rings.specs.declared.Ring.{Ring}
 use Rattle.rings.specs.declared.Left.{Left}

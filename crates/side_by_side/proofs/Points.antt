@@ -1,10 +1,9 @@
 -- What the written rings cover, and when none is written. Assumes nothing.
-use Prim.Native.Nat.{ℕ, ◌+◌, ◌≤◌, ◌<◌}
+use Prim.Native.Nat.{ℕ, ◌+◌, ◌≤◌}
 use native.Mathlib.Omega.{arith}
-use mathlib.Core.Path.{◌≡◌, refl, sym, ap, ap₂, ◌∙◌, subst}
+use mathlib.Core.Path.{◌≡◌, refl, sym, ap, ap₂, ◌∙◌}
 use mathlib.Core.Bool.{Bool, true, false, not, ◌&&◌, cond}
 use mathlib.Core.List.{List, [], ◌∷◌, ◌++◌}
-use lib.Dec.{T, ltb}
 use lib.ListN.{length, length-append}
 use lib.Ieee.{Float, le, lt}
 use lib.Ieee.Fits.{and_i}
@@ -14,10 +13,9 @@ use Rattle.refusals.specs.Limits.{piece_limit}
 use Rattle.floats.specs.Each.{Each}
 use Rattle.floats.proofs.Bounding.{le_same, lt-number-l}
 use Rattle.rings.specs.declared.Ring.{Ring}
-use Rattle.rings.specs.Ring.{covers, covered, filled, kept, in_hand, left}
+use Rattle.rings.specs.Ring.{covers, covered, kept, in_hand, left}
 use Rattle.rings.specs.Points.{tick, count, Disjoint}
 use Rattle.rings.proofs.Cover.{Full, full-z, full-r, count-append, covered-count, left-covers, left-disjoint, added_full}
-use Rattle.rings.specs.Remove.{leaves}
 use Rattle.lines.specs.File.{joined}
 use Rattle.side_by_side.specs.Compared.{ring_texts, pieces_text, left_texts, left_all, each_in_hand}
 use Rattle.side_by_side.proofs.Texts.{line_of, ring_long, rings-texts}

@@ -1,14 +1,12 @@
 -- What is written of two stocks: its parts, when there is nothing, and with the stocks exchanged. Assumes nothing.
-use Prim.Native.Nat.{ℕ, ◌/◌, ◌<◌, max}
+use Prim.Native.Nat.{ℕ, ◌<◌}
 use native.Mathlib.Omega.{arith}
-use mathlib.Core.Path.{◌≡◌, refl, sym, ap, ap₂, ◌∙◌, subst}
+use mathlib.Core.Path.{◌≡◌, refl, sym, ap, ap₂, ◌∙◌}
 use mathlib.Core.Bool.{Bool, true, false, ◌&&◌}
-use mathlib.Core.List.{List, [], ◌∷◌, ◌++◌}
-use lib.ListN.{length}
+use mathlib.Core.List.{List, [], ◌++◌}
 use lib.Ieee.{Float}
 use Rattle.floats.specs.Each.{Each}
 use Rattle.stock.specs.Cell.{cell_at, same_cell}
-use Rattle.rings.specs.declared.Ring.{Ring}
 use Rattle.rings.specs.Ring.{covered}
 use Rattle.rings.specs.Points.{Disjoint}
 use Rattle.rings.proofs.Cover.{Full}

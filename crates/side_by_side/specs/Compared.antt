@@ -1,5 +1,5 @@
 -- What differs between two stocks, as lines of a stock file: both cells of each unequal bin, then what the second's rings leave of each of the first's, then what the first's leave of each of the second's. Assumes nothing.
-use Rattle.std.specs.Prelude.{◌≡◌, ℕ, zero, suc, ◌/◌, max, Bool, true, ◌&&◌, List, [], ◌∷◌, ◌++◌, length, get_or, Float}
+use Rattle.std.specs.Prelude.{ℕ, zero, suc, ◌/◌, max, Bool, true, ◌&&◌, List, [], ◌∷◌, ◌++◌, length, get_or, Float}
 use Rattle.std.specs.Float.Ieee.{eq}
 use Rattle.refusals.specs.Limits.{piece_limit}
 use Rattle.refusals.specs.Number.{reason_of}

@@ -62,8 +62,7 @@ fn give_generation(answer: Applied, generation: &mut u64, position: &mut usize) 
     }
 }
 
-#[unsafe(no_mangle)]
-pub extern "C" fn turning_thread_cut(
+pub fn turning_thread_cut(
     z_min: f64,
     z_max: f64,
     outer: f64,
@@ -92,8 +91,7 @@ pub extern "C" fn turning_thread_cut(
     give_changes(answer, count, list_edition, list_generation)
 }
 
-#[unsafe(no_mangle)]
-pub extern "C" fn turning_thread_cut_inner(
+pub fn turning_thread_cut_inner(
     z_min: f64,
     z_max: f64,
     outer: f64,
@@ -122,8 +120,7 @@ pub extern "C" fn turning_thread_cut_inner(
     give_changes(answer, count, list_edition, list_generation)
 }
 
-#[unsafe(no_mangle)]
-pub extern "C" fn turning_drill(
+pub fn turning_drill(
     z_min: f64,
     z_max: f64,
     outer: f64,
@@ -152,8 +149,7 @@ pub extern "C" fn turning_drill(
     give_changes(answer, count, list_edition, list_generation)
 }
 
-#[unsafe(no_mangle)]
-pub extern "C" fn turning_apply(
+pub fn turning_apply(
     z_min: f64,
     z_max: f64,
     outer: f64,
@@ -183,8 +179,7 @@ pub extern "C" fn turning_apply(
     give_generation(answer, generation, position)
 }
 
-#[unsafe(no_mangle)]
-pub extern "C" fn turning_changes_to(
+pub fn turning_changes_to(
     z_min: f64,
     z_max: f64,
     outer: f64,

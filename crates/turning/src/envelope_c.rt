@@ -6,8 +6,7 @@ ghost use Rattle.turning.specs.Boundary.{Hands, HandsTwo, HandsFound, HandsFound
 
 use envelope::{Ordered, RadiusAt, RadiusRange, Spanned};
 
-#[unsafe(no_mangle)]
-pub extern "C" fn turning_envelope_order(points: &[f64], order: &mut i32) -> u32
+pub fn turning_envelope_order(points: &[f64], order: &mut i32) -> u32
     ensures { Hands (ordered_of points.now) result order }
 {
     give_order(envelope::order_of(points), order)
@@ -46,14 +45,7 @@ fn give_part(answer: Spanned, first: &mut usize, count: &mut usize) -> u32
     }
 }
 
-#[unsafe(no_mangle)]
-pub extern "C" fn turning_within(
-    points: &[f64],
-    lo: f64,
-    hi: f64,
-    first: &mut usize,
-    count: &mut usize,
-) -> u32
+pub fn turning_within(points: &[f64], lo: f64, hi: f64, first: &mut usize, count: &mut usize) -> u32
     ensures { HandsTwo (λ (s : Span). s.start) (λ (s : Span). s.end - s.start)
         (within_of points.now lo hi) result first count }
 {
@@ -78,13 +70,7 @@ pub fn give_radius(answer: RadiusAt, found: &mut u32, radius: &mut f64) -> u32
     }
 }
 
-#[unsafe(no_mangle)]
-pub extern "C" fn turning_radius_at(
-    points: &[f64],
-    u: f64,
-    found: &mut u32,
-    radius: &mut f64,
-) -> u32
+pub fn turning_radius_at(points: &[f64], u: f64, found: &mut u32, radius: &mut f64) -> u32
     ensures { HandsFound (radius_at_of points.now u) result found radius }
 {
     give_radius(envelope::radius_at(points, u), found, radius)
@@ -110,8 +96,7 @@ fn give_range(answer: RadiusRange, found: &mut u32, lowest: &mut f64, highest: &
     }
 }
 
-#[unsafe(no_mangle)]
-pub extern "C" fn turning_radius_range(
+pub fn turning_radius_range(
     points: &[f64],
     lo: f64,
     hi: f64,

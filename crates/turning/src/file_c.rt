@@ -37,8 +37,7 @@ fn give_lines(answer: Lines, lines: &mut usize) -> u32
     }
 }
 
-#[unsafe(no_mangle)]
-pub extern "C" fn turning_stock_lines(
+pub fn turning_stock_lines(
     z_min: f64,
     z_max: f64,
     outer: f64,
@@ -71,8 +70,7 @@ fn give_length(answer: Spelled, len: &mut usize) -> u32
     }
 }
 
-#[unsafe(no_mangle)]
-pub extern "C" fn turning_stock_line(
+pub fn turning_stock_line(
     z_min: f64,
     z_max: f64,
     outer: f64,
@@ -165,8 +163,7 @@ fn keep(reading: Reading, held: usize, words: &mut [u64; WORDS], bar: &mut [f64;
 }
 
 // Where a line was refused before, nothing is written.
-#[unsafe(no_mangle)]
-pub extern "C" fn turning_read_part(
+pub fn turning_read_part(
     state: &mut [u64; WORDS],
     bar: &mut [f64; BAR],
     cells: &mut [f64],
@@ -212,8 +209,7 @@ fn give_kept(
     }
 }
 
-#[unsafe(no_mangle)]
-pub extern "C" fn turning_read_end(
+pub fn turning_read_end(
     state: &[u64; WORDS],
     bar: &[f64; BAR],
     max_cells: usize,

@@ -2,8 +2,7 @@
 ghost use Rattle.std.specs.Prelude.{◌≡◌};
 
 // TURNING_HEADER of include/turning.h.
-#[unsafe(no_mangle)]
-pub extern "C" fn turning_header() -> u32
+pub fn turning_header() -> u32
     ensures { result ≡ 7 }
 {
     7

@@ -24,8 +24,7 @@ fn give_touch(answer: Touch, found: &mut u32, by: &mut f64) -> u32
     }
 }
 
-#[unsafe(no_mangle)]
-pub extern "C" fn turning_excess(
+pub fn turning_excess(
     points: &[f64],
     polygon: &[f64],
     tolerance: f64,
@@ -37,8 +36,7 @@ pub extern "C" fn turning_excess(
     give_touch(insert::excess(points, polygon, tolerance), found, by)
 }
 
-#[unsafe(no_mangle)]
-pub extern "C" fn turning_penetration(
+pub fn turning_penetration(
     points: &[f64],
     polygon: &[f64],
     tolerance: f64,
@@ -50,8 +48,7 @@ pub extern "C" fn turning_penetration(
     give_touch(insert::penetration(points, polygon, tolerance), found, by)
 }
 
-#[unsafe(no_mangle)]
-pub extern "C" fn turning_eroded(
+pub fn turning_eroded(
     points: &[f64],
     u: f64,
     tolerance: f64,

@@ -63,8 +63,7 @@ fn keep(run: Run, held: usize, words: &mut [u64; WORDS], bar: &mut [f64; BAR])
     bar[4] = spec.cell_mm;
 }
 
-#[unsafe(no_mangle)]
-pub extern "C" fn turning_job_take(
+pub fn turning_job_take(
     state: &mut [u64; WORDS],
     bar: &mut [f64; BAR],
     cells: &mut [f64; CELL_NUMBERS],
@@ -100,8 +99,7 @@ fn short(refused: u64) -> u32
     4294967295
 }
 
-#[unsafe(no_mangle)]
-pub extern "C" fn turning_job_finish(state: &[u64; WORDS], line: &mut u64) -> u32
+pub fn turning_job_finish(state: &[u64; WORDS], line: &mut u64) -> u32
     ensures { HandsEnd (end_from state.now) result line }
 {
     let end = end_of(state);
@@ -112,8 +110,7 @@ pub extern "C" fn turning_job_finish(state: &[u64; WORDS], line: &mut u64) -> u3
     short(end.refused)
 }
 
-#[unsafe(no_mangle)]
-pub extern "C" fn turning_job_output(
+pub fn turning_job_output(
     state: &[u64; WORDS],
     cells: &[f64; CELL_NUMBERS],
     rings: &[f64; RING_NUMBERS],

@@ -20,15 +20,13 @@ fn give(answer: Rooted, out: &mut f64) -> u32
     }
 }
 
-#[unsafe(no_mangle)]
-pub extern "C" fn turning_root(x: f64, root: &mut f64) -> u32
+pub fn turning_root(x: f64, root: &mut f64) -> u32
     ensures { Hands (root_of x) result root }
 {
     give(numbers::root(x), root)
 }
 
-#[unsafe(no_mangle)]
-pub extern "C" fn turning_length(x: f64, y: f64, length: &mut f64) -> u32
+pub fn turning_length(x: f64, y: f64, length: &mut f64) -> u32
     ensures { Hands (length_of x y) result length }
 {
     give(numbers::length(x, y), length)

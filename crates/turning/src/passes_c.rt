@@ -46,8 +46,7 @@ fn give_checked(
     }
 }
 
-#[unsafe(no_mangle)]
-pub extern "C" fn turning_check_passes(
+pub fn turning_check_passes(
     z_min: f64,
     z_max: f64,
     outer: f64,
@@ -106,8 +105,7 @@ fn give_passes(answer: Proposal, count: &mut usize) -> u32
     }
 }
 
-#[unsafe(no_mangle)]
-pub extern "C" fn turning_propose_passes(
+pub fn turning_propose_passes(
     z_min: f64,
     z_max: f64,
     outer: f64,

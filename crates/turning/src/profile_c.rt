@@ -18,8 +18,7 @@ fn give_chords(answer: Chopped, count: &mut usize) -> u32
     }
 }
 
-#[unsafe(no_mangle)]
-pub extern "C" fn turning_segments(
+pub fn turning_segments(
     points: &[f64],
     tolerance: f64,
     segments: &mut [f64],

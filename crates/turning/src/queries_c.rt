@@ -25,8 +25,7 @@ fn give_volumes(answer: Measured, least: &mut f64, greatest: &mut f64) -> u32
     }
 }
 
-#[unsafe(no_mangle)]
-pub extern "C" fn turning_volume(
+pub fn turning_volume(
     z_min: f64,
     z_max: f64,
     outer: f64,
@@ -68,8 +67,7 @@ fn give_seen(answer: Seen, found: &mut u32, bore_lower: &mut f64, outer_upper: &
     }
 }
 
-#[unsafe(no_mangle)]
-pub extern "C" fn turning_envelope_at(
+pub fn turning_envelope_at(
     z_min: f64,
     z_max: f64,
     outer: f64,
@@ -91,8 +89,7 @@ pub extern "C" fn turning_envelope_at(
     give_seen(answer, found, bore_lower, outer_upper)
 }
 
-#[unsafe(no_mangle)]
-pub extern "C" fn turning_range(
+pub fn turning_range(
     z_min: f64,
     z_max: f64,
     outer: f64,

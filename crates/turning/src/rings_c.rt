@@ -38,8 +38,7 @@ fn give_removed(
     }
 }
 
-#[unsafe(no_mangle)]
-pub extern "C" fn turning_remove_ring(
+pub fn turning_remove_ring(
     z_min: f64,
     z_max: f64,
     outer: f64,
@@ -90,8 +89,7 @@ fn give_moved(answer: Moved, count: &mut usize, generation: &mut u64, position: 
     }
 }
 
-#[unsafe(no_mangle)]
-pub extern "C" fn turning_apply_move(
+pub fn turning_apply_move(
     z_min: f64,
     z_max: f64,
     outer: f64,
@@ -155,8 +153,7 @@ fn give_rebuilt(
     }
 }
 
-#[unsafe(no_mangle)]
-pub extern "C" fn turning_from_parts(
+pub fn turning_from_parts(
     z_min: f64,
     z_max: f64,
     outer: f64,

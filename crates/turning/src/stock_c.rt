@@ -100,8 +100,7 @@ fn give_new(answer: Made, generation: &mut u64) -> u32
     }
 }
 
-#[unsafe(no_mangle)]
-pub extern "C" fn turning_validate(
+pub fn turning_validate(
     z_min: f64,
     z_max: f64,
     outer: f64,
@@ -116,8 +115,7 @@ pub extern "C" fn turning_validate(
     give_count(stock::validate(spec), n)
 }
 
-#[unsafe(no_mangle)]
-pub extern "C" fn turning_bin(
+pub fn turning_bin(
     z_min: f64,
     z_max: f64,
     outer: f64,
@@ -153,8 +151,7 @@ fn room_for(spec: TurnStockSpec, cells_len: usize, blocks_len: usize) -> Counted
     }
 }
 
-#[unsafe(no_mangle)]
-pub extern "C" fn turning_new(
+pub fn turning_new(
     z_min: f64,
     z_max: f64,
     outer: f64,
@@ -180,8 +177,7 @@ pub extern "C" fn turning_new(
     }
 }
 
-#[unsafe(no_mangle)]
-pub extern "C" fn turning_renew(
+pub fn turning_renew(
     z_min: f64,
     z_max: f64,
     outer: f64,

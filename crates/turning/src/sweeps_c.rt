@@ -96,8 +96,7 @@ fn polygon_by(
     Previewed::Refused(no_side(stock.spec, cells))
 }
 
-#[unsafe(no_mangle)]
-pub extern "C" fn turning_preview(
+pub fn turning_preview(
     z_min: f64,
     z_max: f64,
     outer: f64,
@@ -126,8 +125,7 @@ pub extern "C" fn turning_preview(
     cuts_c::give_changes(answer, count, list_edition, list_generation)
 }
 
-#[unsafe(no_mangle)]
-pub extern "C" fn turning_preview_polygon(
+pub fn turning_preview_polygon(
     z_min: f64,
     z_max: f64,
     outer: f64,

@@ -1,6 +1,6 @@
 -- `job_run::finish` meets its contract. Assumes nothing.
 use Rattle.job_run.proofs.Lines.{finish-stopped, finish-cut, finish-empty, finish-done}
-use Rattle.std.proofs.Common.{sym, ◌∙◌, rules}
+use Rattle.std.proofs.Common.{sym, ◌∙◌}
 use Rattle.job_run.proofs.finish.Goals as goal
 
 pub returns-then-run-ne0 : goal.returns-then-run-ne0

@@ -1,5 +1,5 @@
 -- `job_run::front` meets its contract. Assumes nothing.
-use Rattle.std.proofs.Common.{◌*◌, sym, arith, length-take-le, take_all, rules}
+use Rattle.std.proofs.Common.{◌*◌, sym, arith, length-take-le, take_all}
 use Rattle.job_run.proofs.front.Goals as goal
 
 pub returns-then-xs-n : goal.returns-then-xs-n

@@ -1,5 +1,5 @@
 -- `job_run::held` meets its contract. Assumes nothing.
-use Rattle.std.proofs.Common.{sym, arith, length-take-le, take_all, rules}
+use Rattle.std.proofs.Common.{sym, arith, length-take-le, take_all}
 use Rattle.job_run.proofs.held.Goals as goal
 
 pub returns-then-line-len : goal.returns-then-line-len

@@ -1,5 +1,4 @@
 -- `job_run::on_line` meets its contract. Assumes nothing.
-use Rattle.std.proofs.Common.{rules}
 use Rattle.job_run.proofs.Lines.{line-went, line_refused}
 use Rattle.job_run.proofs.on_line.Goals as goal
 

@@ -1,5 +1,5 @@
 -- `job_run::put_byte` meets its contract. Assumes nothing.
-use Rattle.std.proofs.Common.{sym, arith, rules}
+use Rattle.std.proofs.Common.{sym, arith}
 use lib.Seq.{set_out}
 use Rattle.job_run.proofs.put_byte.Goals as goal
 

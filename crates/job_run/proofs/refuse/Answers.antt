@@ -1,6 +1,5 @@
 -- `job_run::refuse` meets its contract. Assumes nothing.
 use Rattle.job_run.proofs.Lines.{refused-is}
-use Rattle.std.proofs.Common.{rules}
 use Rattle.job_run.proofs.refuse.Goals as goal
 
 pub returns : goal.returns

@@ -1,5 +1,5 @@
 -- `job_run::take_byte` meets its contract. Assumes nothing.
-use Rattle.std.proofs.Common.{ap, ◌∙◌, arith, rules}
+use Rattle.std.proofs.Common.{ap, ◌∙◌, arith}
 use Rattle.job_run.specs.Run.{state, on_line}
 use Rattle.job_run.proofs.Lines.{byte-stopped, byte-ends, byte-held, byte-over}
 use Rattle.job_run.proofs.take_byte.Goals as goal

@@ -1,8 +1,6 @@
 -- `job_run::take_bytes` meets its contract. Assumes nothing.
 use Rattle.job_run.proofs.Bytes.{bytes-step, bytes-end}
-use Rattle.job_run.specs.Run.{state, hold, byte_on}
-use Rattle.std.proofs.Common.{◌≡◌, ◌-◌, ◌^◌, ◌<◌, ◌≤◌, length, drop, sym, refl, ◌∙◌, arith, rules}
-use mathlib.Core.List.{foldl}
+use Rattle.std.proofs.Common.{sym, refl, ◌∙◌, rules}
 use Rattle.job_run.proofs.take_bytes.Goals as goal
 
 pub loop-i-init : goal.loop-i-init

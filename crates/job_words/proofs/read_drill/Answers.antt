@@ -1,5 +1,5 @@
 -- `job_words::read_drill` meets its contract. Assumes nothing.
-use Rattle.std.proofs.Common.{arith, rules}
+use Rattle.std.proofs.Common.{arith}
 use Rattle.floats.specs.Pick.{picks}
 use Rattle.job_words.specs.Kind.{drill_of}
 use Rattle.job_words.proofs.read_drill.Goals as goal

@@ -1,5 +1,5 @@
 -- `job_words::read_line` meets its contract: the tests in the code's order. Assumes nothing.
-use Rattle.std.proofs.Common.{◌≡◌, ℕ, Bool, List, sym, ap, ◌∙◌, rules}
+use Rattle.std.proofs.Common.{◌≡◌, ℕ, Bool, List, sym, ap, ◌∙◌}
 use Rattle.floats.specs.Pick.{pick_true, pick-false}
 use Rattle.text.specs.Same.{same_bytes}
 use Rattle.job_words.specs.Kind.{kind_of, line_of, word_arc, word_bar, word_line, word_thread, word_thread_inner, word_drill, word_ring}

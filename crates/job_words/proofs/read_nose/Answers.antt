@@ -1,5 +1,4 @@
 -- `job_words::read_nose` meets its contract. Assumes nothing.
-use Rattle.std.proofs.Common.{rules}
 use Rattle.floats.specs.Pick.{picks}
 use Rattle.job_words.specs.Kind.{nose_of}
 use Rattle.job_words.proofs.read_nose.Goals as goal

@@ -1,5 +1,5 @@
 -- `job_words::read_nose_on` meets its contract. Assumes nothing.
-use Rattle.std.proofs.Common.{sym, ◌∙◌, rules}
+use Rattle.std.proofs.Common.{sym, ◌∙◌}
 use Rattle.job_words.proofs.All.{nose-is}
 use Rattle.floats.specs.Pick.{picks}
 use Rattle.job_words.specs.Kind.{nose_on}

@@ -1,9 +1,7 @@
 -- `job_words::read_numbers` meets its contract. Assumes nothing.
-use Rattle.std.proofs.Common.{◌≡◌, ℕ, ◌+◌, ◌-◌, ◌<◌, ◌≤◌, Bool, true, false, length, get_or, drop, sym, ap, ◌∙◌, arith, rules}
+use Rattle.std.proofs.Common.{◌≡◌, ℕ, ◌+◌, ◌-◌, ◌<◌, ◌≤◌, length, get_or, drop}
 use lib.Ieee.{nan}
-use Rattle.job_words.specs.Number.{field_number}
 use Rattle.job_words.specs.Kind.{fields_of, at, all_numbers, numbers}
-use Rattle.job_words.proofs.All.{numbers-other, numbers-start, all-no, all-step, all_end, each_more}
 use Rattle.job_words.proofs.read_numbers.Given as goal
 
 abbrev pub invariant-loop-i : goal.invariant-loop-i

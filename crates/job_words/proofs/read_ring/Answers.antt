@@ -1,5 +1,5 @@
 -- `job_words::read_ring` meets its contract. Assumes nothing.
-use Rattle.std.proofs.Common.{arith, rules}
+use Rattle.std.proofs.Common.{arith}
 use Rattle.floats.specs.Pick.{picks}
 use Rattle.job_words.specs.Kind.{ring_of}
 use Rattle.job_words.proofs.read_ring.Goals as goal

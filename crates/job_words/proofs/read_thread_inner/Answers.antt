@@ -1,5 +1,5 @@
 -- `job_words::read_thread_inner` meets its contract. Assumes nothing.
-use Rattle.std.proofs.Common.{arith, rules}
+use Rattle.std.proofs.Common.{arith}
 use Rattle.floats.specs.Pick.{picks}
 use Rattle.job_words.specs.Kind.{thread_inner_of}
 use Rattle.job_words.proofs.read_thread_inner.Goals as goal

@@ -1,7 +1,6 @@
 -- `side_by_side::both_in_hand` meets its contract. Assumes nothing.
 use mathlib.Core.Path.{ap₂}
 use mathlib.Core.Bool.{◌&&◌}
-use borrow.Author.Rules.{rules}
 use Rattle.side_by_side.proofs.both_in_hand.Goals as goal
 
 pub returns : goal.returns

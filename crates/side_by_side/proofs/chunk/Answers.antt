@@ -4,7 +4,6 @@ use Prim.Native.Nat.{◌-◌, ◌≤◌}
 use mathlib.Core.Path.{refl}
 use Rattle.text.proofs.Sets.{retext}
 use Rattle.side_by_side.proofs.Texts.{by-bin, by_first, by-second, by-none}
-use borrow.Author.Rules.{rules}
 use Rattle.side_by_side.proofs.chunk.Goals as goal
 
 pub returns-then-c-n : goal.returns-then-c-n

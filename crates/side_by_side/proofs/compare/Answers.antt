@@ -1,10 +1,8 @@
 -- `side_by_side::compare` meets its contract. Assumes nothing.
-use native.Mathlib.Omega.{arith}
 use mathlib.Core.Path.{sym, ◌∙◌}
 use borrow.Author.Tests.{not-true, not-false}
 use Rattle.side_by_side.proofs.Texts.{by_count}
 use Rattle.side_by_side.proofs.Decided.{unequal, over-room, counted}
-use borrow.Author.Rules.{rules}
 use Rattle.side_by_side.proofs.compare.Goals as goal
 
 pub returns-then-not-same_bar : goal.returns-then-not-same_bar

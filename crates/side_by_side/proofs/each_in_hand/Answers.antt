@@ -1,12 +1,11 @@
 -- `side_by_side::each_in_hand` meets its contract. Assumes nothing.
 use native.Mathlib.Omega.{arith}
 use mathlib.Core.Path.{◌≡◌, ap, ◌∙◌}
-use Prim.Native.Nat.{ℕ, ◌≤◌, ◌-◌}
+use Prim.Native.Nat.{ℕ}
 use Rattle.rings.specs.Store.{rings_of}
 use Rattle.rings.specs.Remove.{lent_rings}
 use Rattle.side_by_side.specs.Compared.{each_in_hand}
 use Rattle.side_by_side.proofs.Texts.{each_start, each_next}
-use borrow.Author.Rules.{rules}
 use Rattle.side_by_side.proofs.each_in_hand.Goals as goal
 
 pub loop-i-init : goal.loop-i-init

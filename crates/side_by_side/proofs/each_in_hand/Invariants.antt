@@ -1,12 +1,9 @@
 -- `side_by_side::each_in_hand` meets its contract. Assumes nothing.
-use native.Mathlib.Omega.{arith}
-use mathlib.Core.Path.{◌≡◌, ap, ◌∙◌}
-use Prim.Native.Nat.{ℕ, ◌≤◌, ◌-◌}
+use mathlib.Core.Path.{◌≡◌}
+use Prim.Native.Nat.{◌≤◌, ◌-◌}
 use Rattle.rings.specs.Store.{rings_of}
 use Rattle.rings.specs.Remove.{lent_rings}
 use Rattle.side_by_side.specs.Compared.{each_in_hand}
-use Rattle.side_by_side.proofs.Texts.{each_start, each_next}
-use borrow.Author.Rules.{rules}
 use Rattle.side_by_side.proofs.each_in_hand.Given as goal
 
 abbrev pub invariant-loop-i : goal.invariant-loop-i

@@ -1,7 +1,6 @@
 -- `side_by_side::in_hand` meets its contract. Assumes nothing.
 use mathlib.Core.Path.{sym}
 use Rattle.side_by_side.proofs.Pieces.{pieces-in-hand, refused-in-hand}
-use borrow.Author.Rules.{rules}
 use Rattle.side_by_side.proofs.in_hand.Goals as goal
 
 pub returns-in-Pieces : goal.returns-in-Pieces

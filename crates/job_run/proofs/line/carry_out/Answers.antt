@@ -1,5 +1,4 @@
 -- `job_run::line::carry_out` meets its contract. Assumes nothing.
-use Rattle.std.proofs.Common.{rules}
 use Rattle.refusals.specs.declared.Refusal.TheVariants.{LineMalformed}
 use Rattle.job_run.proofs.Carrying.{refused, unlisted, same_outcome, line-long, line_first, line-later, changes-long, changes-first, changes-later}
 use Rattle.job_run.proofs.line.carry_out.Goals as goal

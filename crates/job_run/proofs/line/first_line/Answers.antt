@@ -2,7 +2,7 @@
 use Rattle.job_words.specs.declared.Line.{Line}
 use Rattle.refusals.specs.declared.Refusal.TheVariants.{LineMalformed}
 use Rattle.job_run.specs.Job.{first_line}
-use Rattle.std.proofs.Common.{ap, rules}
+use Rattle.std.proofs.Common.{ap}
 use Rattle.job_run.proofs.Carrying.{first-bar, refused}
 use Rattle.job_run.proofs.line.first_line.Goals as goal
 

@@ -1,5 +1,5 @@
 -- `job_run::line::later_line` meets its contract. Assumes nothing.
-use Rattle.std.proofs.Common.{length, ap, rules}
+use Rattle.std.proofs.Common.{length, ap}
 use Rattle.job_words.specs.declared.Line.{Line}
 use Rattle.refusals.specs.declared.Refusal.TheVariants.{Arc, LineMalformed}
 use Rattle.changes.specs.Change.{room_of}

@@ -1,5 +1,4 @@
 -- `job_run::line::make_cut` meets its contract. Assumes nothing.
-use Rattle.std.proofs.Common.{rules}
 use Rattle.job_run.proofs.Made.{made_none, made_all, made-lists}
 use Rattle.job_run.proofs.line.make_cut.Goals as goal
 

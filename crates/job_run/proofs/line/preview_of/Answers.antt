@@ -1,5 +1,4 @@
 -- `job_run::line::preview_of` meets its contract. Assumes nothing.
-use Rattle.std.proofs.Common.{rules}
 use Rattle.job_run.proofs.Made.{same-cut}
 use Rattle.job_run.proofs.line.preview_of.Goals as goal
 

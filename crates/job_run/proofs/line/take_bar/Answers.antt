@@ -1,5 +1,5 @@
 -- `job_run::line::take_bar` meets its contract. Assumes nothing.
-use Rattle.std.proofs.Common.{sym, arith, length-take-le, rules}
+use Rattle.std.proofs.Common.{sym, arith, length-take-le}
 use Rattle.job_run.proofs.Carrying.{bar-refused, bar-short, bar-unrefused, bar-made}
 use Rattle.job_run.proofs.line.take_bar.Goals as goal
 

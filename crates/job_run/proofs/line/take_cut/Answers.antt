@@ -1,5 +1,5 @@
 -- `job_run::line::take_cut` meets its contract. Assumes nothing.
-use Rattle.std.proofs.Common.{sym, refl, ap, arith, length-take-le, rules}
+use Rattle.std.proofs.Common.{sym, refl, ap, arith, length-take-le}
 use Rattle.refusals.specs.Number.{reason_of, reason_at}
 use Rattle.changes.specs.Commit.{applied_paper}
 use Rattle.job_run.proofs.Carrying.{cut-refused, cut-went, lists_of}

@@ -1,5 +1,5 @@
 -- `job_run::line::take_ring` meets its contract. Assumes nothing.
-use Rattle.std.proofs.Common.{refl, ap, rules}
+use Rattle.std.proofs.Common.{refl, ap}
 use Rattle.refusals.specs.Number.{reason_of, reason_at}
 use Rattle.rings.specs.Remove.{removed_paper}
 use Rattle.job_run.proofs.Carrying.{ring-refused, ring-went}

@@ -1,5 +1,5 @@
 -- `job_words::number::over_zero` meets its contract. Assumes nothing.
-use Rattle.std.proofs.Common.{ap, rules}
+use Rattle.std.proofs.Common.{ap}
 use lib.Ieee.{Float, binary64, div, of_bits}
 use Rattle.job_words.proofs.number.over_zero.Goals as goal
 

@@ -1,7 +1,7 @@
 -- `job_words::number::read_number` meets its contract. Assumes nothing.
 use Rattle.job_words.proofs.Signs.{rest-is, number-empty, number-minus, number-plus}
 use Rattle.job_words.specs.declared.number.Number.TheVariants.{Mm}
-use Rattle.std.proofs.Common.{sym, ap, ◌∙◌, rules}
+use Rattle.std.proofs.Common.{sym, ap, ◌∙◌}
 use Rattle.job_words.specs.Number.{positive, negative}
 use Rattle.text.specs.Whole.{whole_of}
 use Rattle.text.proofs.Wholes.{whole-size}

@@ -1,5 +1,5 @@
 -- `job_words::number::under_zero` meets its contract. Assumes nothing.
-use Rattle.std.proofs.Common.{ap, ◌∙◌, rules}
+use Rattle.std.proofs.Common.{ap, ◌∙◌}
 use lib.Ieee.{Float, binary64, div, of_bits, of_int}
 use Rattle.job_words.proofs.Signs.{minus-fits, minus_is}
 use Rattle.job_words.proofs.number.under_zero.Goals as goal

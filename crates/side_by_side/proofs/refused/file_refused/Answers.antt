@@ -2,7 +2,6 @@
 use native.Mathlib.Omega.{arith}
 use mathlib.Core.Path.{refl, ◌∙◌}
 use Rattle.side_by_side.proofs.Refusing.{as-file, file-number, file-place}
-use borrow.Author.Rules.{rules}
 use Rattle.side_by_side.proofs.refused.file_refused.Goals as goal
 
 pub returns-in-Stock : goal.returns-in-Stock

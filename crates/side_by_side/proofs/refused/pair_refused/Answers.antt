@@ -2,7 +2,6 @@
 use native.Mathlib.Omega.{arith}
 use mathlib.Core.Path.{refl, ◌∙◌}
 use Rattle.side_by_side.proofs.Refusing.{as-pair, pair-number}
-use borrow.Author.Rules.{rules}
 use Rattle.side_by_side.proofs.refused.pair_refused.Goals as goal
 
 pub returns-in-Chunks : goal.returns-in-Chunks

@@ -1,7 +1,6 @@
 -- `side_by_side::refused::refused_three` meets its contract. Assumes nothing.
 use mathlib.Core.Path.{refl}
 use native.Mathlib.Omega.{arith}
-use borrow.Author.Rules.{rules}
 use Rattle.text.proofs.Sets.{and_then, put-wrote}
 use Rattle.text.proofs.Spelling.{decimal-short}
 use Rattle.side_by_side.specs.Refused.{tabbed, refused_with}

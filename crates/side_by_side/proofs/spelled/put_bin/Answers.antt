@@ -1,8 +1,5 @@
 -- `side_by_side::spelled::put_bin` meets its contract. Assumes nothing.
-use native.Mathlib.Omega.{arith}
-use mathlib.Core.Path.{refl}
 use Rattle.side_by_side.proofs.Cells.{bin-put, bin-equal, bin-first}
-use borrow.Author.Rules.{rules}
 use Rattle.side_by_side.proofs.spelled.put_bin.Goals as goal
 
 pub returns-then-same_cell : goal.returns-then-same_cell

@@ -1,9 +1,6 @@
 -- `side_by_side::spelled::put_bytes` meets its contract. Assumes nothing.
-use Prim.Native.Nat.{◌≤◌, ◌+◌, ◌-◌}
 use native.Mathlib.Omega.{arith}
-use mathlib.Core.Path.{◌≡◌, refl, sym, ◌∙◌}
-use lib.ListN.{length, drop}
-use lib.Seq.{sets}
+use mathlib.Core.Path.{refl, sym, ◌∙◌}
 use Rattle.text.proofs.Sets.{put_step, put-end}
 use borrow.Author.Rules.{rules}
 use Rattle.side_by_side.proofs.spelled.put_bytes.Goals as goal

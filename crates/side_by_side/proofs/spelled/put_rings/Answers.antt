@@ -1,9 +1,7 @@
 -- `side_by_side::spelled::put_rings` meets its contract. Assumes nothing.
 use native.Mathlib.Omega.{arith}
 use mathlib.Core.Path.{◌≡◌}
-use Prim.Native.Nat.{◌≤◌, ◌-◌}
-use Rattle.side_by_side.proofs.Texts.{RingsPut, rings-none, rings-more, rings-done}
-use borrow.Author.Rules.{rules}
+use Rattle.side_by_side.proofs.Texts.{rings-none, rings-more, rings-done}
 use Rattle.side_by_side.proofs.spelled.put_rings.Goals as goal
 
 pub loop-i-init : goal.loop-i-init

@@ -1,9 +1,6 @@
 -- `side_by_side::spelled::put_rings` meets its contract. Assumes nothing.
-use native.Mathlib.Omega.{arith}
-use mathlib.Core.Path.{◌≡◌}
 use Prim.Native.Nat.{◌≤◌, ◌-◌}
-use Rattle.side_by_side.proofs.Texts.{RingsPut, rings-none, rings-more, rings-done}
-use borrow.Author.Rules.{rules}
+use Rattle.side_by_side.proofs.Texts.{RingsPut}
 use Rattle.side_by_side.proofs.spelled.put_rings.Given as goal
 
 abbrev pub invariant-loop-i : goal.invariant-loop-i

@@ -1,0 +1,10 @@
+// The number of the header that the calls are declared in.
+ghost use Rattle.std.specs.Prelude.{◌≡◌};
+
+// TURNING_HEADER of include/turning.h.
+#[unsafe(no_mangle)]
+pub extern "C" fn turning_header() -> u32
+    ensures { result ≡ 7 }
+{
+    turning::turning_header()
+}
