@@ -1,17 +1,17 @@
 -- The lines of the chords put one behind the other, and what a profile becomes. Assumes nothing.
-use Rattle.std.proofs.Common.{◌≡◌, ℕ, zero, suc, ◌+◌, ◌*◌, ◌/◌, ◌<◌, ◌≤◌, Bool, true, false, eqb, leb, List, [], ◌∷◌, ◌++◌, length, get_or, take, drop, sym, refl, ap, ◌∙◌, subst, ap₂, append_assoc, add-one, arith, length-append, eq-eqb, ne_eqb, le-leb, leb-true}
+use Rattle.std.proofs.Common.{◌≡◌, ℕ, zero, suc, ◌+◌, ◌*◌, ◌/◌, ◌<◌, ◌≤◌, Bool, true, false, leb, List, [], ◌∷◌, ◌++◌, length, take, drop, sym, refl, ap, ◌∙◌, subst, ap₂, append_assoc, add-one, arith, eq-eqb, ne_eqb, le-leb, leb-true}
 use mathlib.Core.Option.{Option, none, some}
 use lib.ListN.{get_or-append}
 use lib.Seq.{sets-eq, take-append_seam}
 use lib.Ieee.{Float, nan}
-use Rattle.floats.specs.Pick.{pick, pick_true, pick-false}
+use Rattle.floats.specs.Pick.{pick_true, pick-false}
 use Rattle.text.proofs.Chosen.{yes, no}
 use Rattle.text.specs.Wrote.{Wrote}
 use Rattle.text.specs.Digits.{decimal_of}
 use Rattle.text.proofs.Spelling.{decimal-short}
 use Rattle.refusals.specs.declared.Refusal.{Refusal}
 use Rattle.refusals.specs.Number.{number_of, reason_of}
-use Rattle.refusals.specs.Paper.{Paper, Reason, answers, refuses, only, demand, demand-true}
+use Rattle.refusals.specs.Paper.{Paper, Reason, answers, refuses, demand-true}
 use Rattle.refusals.specs.Lent.{over}
 use Rattle.stock.specs.declared.TurnSide.{TurnSide}
 use Rattle.stock.specs.declared.TurnSide.TheVariants.{Outer, Inner}
@@ -26,7 +26,7 @@ use Rattle.streams.specs.declared.Out.{Out}
 use Rattle.streams.specs.Moves.{Gathers, Puts}
 use Rattle.job_answer.specs.Lines.{refused_line}
 use Rattle.chop_lines.specs.Scan.{State}
-use Rattle.chop_lines.specs.Spelled.{micrometres, has_minus, micro_field, up_by, line_words, number_at, chord_text, chord_texts}
+use Rattle.chop_lines.specs.Spelled.{micrometres, has_minus, micro_field, line_words, number_at, chord_text, chord_texts}
 use Rattle.chop_lines.specs.Chopped.{most_chords, text_by, text_of, AllPut}
 
 -- ---- a number

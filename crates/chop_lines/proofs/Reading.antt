@@ -1,7 +1,7 @@
 -- What a line of a profile says, and what it does to a scan. Assumes nothing.
-use Rattle.std.proofs.Common.{◌≡◌, ℕ, zero, suc, ◌+◌, ◌*◌, ◌<◌, ◌≤◌, Bool, true, false, eqb, ltb, List, [], ◌∷◌, ◌++◌, length, get_or, take, drop, set, sym, refl, ap, ◌∙◌, append_assoc, arith, length-set, length-take-le, take_all, take-suc-set, le-ltb, lt-ltb, eq-eqb, ne_eqb}
+use Rattle.std.proofs.Common.{◌≡◌, ℕ, suc, ◌+◌, ◌*◌, ◌<◌, ◌≤◌, List, [], ◌∷◌, ◌++◌, length, get_or, take, drop, set, sym, refl, ap, ◌∙◌, append_assoc, arith, length-set, length-take-le, take_all, take-suc-set, le-ltb, lt-ltb, eq-eqb, ne_eqb}
 use lib.Ieee.{Float}
-use Rattle.floats.specs.Pick.{pick, pick_true, pick-false}
+use Rattle.floats.specs.Pick.{pick_true, pick-false}
 use Rattle.text.proofs.Chosen.{yes, no}
 use Rattle.text.specs.Whole.{whole_of}
 use Rattle.stock.specs.declared.TurnSide.{TurnSide}
@@ -9,7 +9,7 @@ use Rattle.job_words.specs.declared.number.Number.{Number}
 use Rattle.job_words.specs.declared.number.Number.TheVariants.{Mm, NoNumber}
 use Rattle.job_words.specs.Number.{field_number}
 use Rattle.chop_lines.specs.declared.number.Bulge.{Bulge}
-use Rattle.chop_lines.specs.declared.number.Bulge.TheVariants.{Is, NoBulge}
+use Rattle.chop_lines.specs.declared.number.Bulge.TheVariants.{NoBulge}
 use Rattle.chop_lines.specs.declared.words.Words.{Words}
 use Rattle.chop_lines.specs.declared.words.Words.TheVariants.{Head, Corner, Bad}
 use Rattle.chop_lines.specs.declared.scan.Scan.{Scan}

@@ -1,10 +1,10 @@
 -- The lines of a stock's file put one behind the other. Assumes nothing.
-use Prim.Native.Nat.{ℕ, zero, suc, ◌+◌, ◌-◌, ◌≤◌, ◌<◌}
+use Prim.Native.Nat.{ℕ, zero, suc, ◌+◌, ◌-◌, ◌≤◌}
 use native.Mathlib.Numerals.{add-one}
 use native.Mathlib.Omega.{arith}
 use mathlib.Core.Path.{◌≡◌, refl, sym, ap, ap₂, ◌∙◌, subst}
 use mathlib.Core.Bool.{Bool, true, false, true≢false}
-use mathlib.Core.List.{List, [], ◌∷◌, ◌++◌, append_assoc, append-nil}
+use mathlib.Core.List.{List, [], ◌++◌, append_assoc, append-nil}
 use lib.Dec.{ltb, eqb, leb}
 use lib.ListN.{length, take, length-append}
 use lib.Seq.{length-sets}
@@ -32,7 +32,7 @@ use Rattle.stock_file.specs.declared.written.Spelled.{Spelled}
 use Rattle.stock_file.specs.declared.written.Spelled.TheVariants as spelled
 use Rattle.stock_file.specs.Write.{Opening, opening_of, line_behind, line_at, lines_to, file_of, line_count, line_for, line_paper, line_over, WroteFileLine}
 use Rattle.stock_file.proofs.Lined.{for-line}
-use Rattle.stock_streams.specs.Write.{text_in, AllPut, Asked, PutsStock}
+use Rattle.stock_streams.specs.Write.{text_in, AllPut, PutsStock}
 
 -- ---- a line has 128 bytes at most
 

@@ -14,7 +14,7 @@ use Rattle.streams.specs.declared.Got.{Got}
 use Rattle.streams.specs.declared.Got.TheVariants as got
 use Rattle.lines.specs.File as file
 use Rattle.lines.specs.Hands.{Hand, hand, byte_on, takes}
-use Rattle.lines.proofs.Parts.{parts, nothing}
+use Rattle.lines.proofs.Parts.{parts}
 use Rattle.lines.proofs.OneFile.{whole-file}
 use Rattle.stock_lines.specs.declared.Reading.{Reading}
 use Rattle.stock_lines.specs.Reading.{State, state, refusing, on_line}

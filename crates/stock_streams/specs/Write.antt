@@ -1,5 +1,5 @@
 -- A stock's file put together to be written. No contract can say what a write takes: it is said what is handed to it, and in which order. Assumes nothing.
-use Rattle.std.specs.Prelude.{◌≡◌, true, false, List, [], ℕ, ◌+◌, take, Float}
+use Rattle.std.specs.Prelude.{◌≡◌, false, List, [], ℕ, ◌+◌, take, Float}
 use Rattle.refusals.specs.Paper.{Paper, answers, refuses}
 use Rattle.stock.specs.declared.TurnStock.{TurnStock}
 use Rattle.streams.specs.declared.Out.{Out}

@@ -1,5 +1,5 @@
 -- `chop_lines::first` meets its contract. Assumes nothing.
-use Rattle.std.proofs.Common.{◌*◌, sym, arith, length-take-le, take_all, rules}
+use Rattle.std.proofs.Common.{◌*◌, sym, arith, length-take-le, take_all}
 use Rattle.chop_lines.proofs.first.Goals as goal
 
 pub returns-then-numbers-n : goal.returns-then-numbers-n

@@ -1,7 +1,6 @@
 -- `chop_lines::put_text` meets its contract. Assumes nothing.
-use Rattle.std.proofs.Common.{◌≡◌, ℕ, List, refl, ap, subst, arith, rules}
+use Rattle.std.proofs.Common.{arith}
 use Rattle.chop_lines.specs.Scan.{state}
-use Rattle.chop_lines.specs.Chopped.{AllPut}
 use Rattle.chop_lines.proofs.Putting.{all-put, text-scan, text-refused, text-chords, chords-fit}
 use Rattle.chop_lines.proofs.put_text.Goals as goal
 

@@ -1,7 +1,6 @@
 -- `chop_lines::read_profile` meets its contract. Assumes nothing.
-use Rattle.std.proofs.Common.{ℕ, ◌≤◌, [], ap, ◌∙◌, arith, rules}
-use Rattle.lines.specs.Hands.{hand}
-use Rattle.chop_lines.specs.Scan.{fresh, ScanRoom, in_hand, finish_of}
+use Rattle.std.proofs.Common.{ap, ◌∙◌, rules}
+use Rattle.chop_lines.specs.Scan.{finish_of}
 use Rattle.chop_lines.proofs.Taking.{after-fresh, after_more, done}
 use Rattle.chop_lines.proofs.read_profile.Goals as goal
 

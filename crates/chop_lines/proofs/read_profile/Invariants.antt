@@ -1,8 +1,8 @@
 -- `chop_lines::read_profile` meets its contract. Assumes nothing.
-use Rattle.std.proofs.Common.{ℕ, ◌≤◌, [], ap, ◌∙◌, arith, rules}
+use Rattle.std.proofs.Common.{◌≤◌, []}
 use Rattle.lines.specs.Hands.{hand}
-use Rattle.chop_lines.specs.Scan.{fresh, ScanRoom, in_hand, finish_of}
-use Rattle.chop_lines.proofs.Taking.{after-fresh, after_more, done}
+use Rattle.chop_lines.specs.Reads.{After}
+use Rattle.chop_lines.specs.Scan.{fresh, ScanRoom, in_hand}
 use Rattle.chop_lines.proofs.read_profile.Given as goal
 
 abbrev pub invariant-loop-got : goal.invariant-loop-got

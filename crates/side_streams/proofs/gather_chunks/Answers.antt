@@ -1,8 +1,7 @@
 -- `side_streams::gather_chunks` meets its contract. Assumes nothing.
-use Prim.Native.Nat.{ℕ, ◌-◌, ◌≤◌}
+use Prim.Native.Nat.{ℕ}
 use native.Mathlib.Omega.{arith}
 use mathlib.Core.Path.{◌≡◌, sym, ◌∙◌, subst}
-use lib.ListN.{length}
 use Rattle.text.proofs.Sets.{room}
 use Rattle.stock_file.specs.Write.{lines_to}
 use Rattle.stock_streams.specs.Write.{AllPut}

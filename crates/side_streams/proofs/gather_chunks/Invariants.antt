@@ -1,15 +1,10 @@
 -- `side_streams::gather_chunks` meets its contract. Assumes nothing.
-use Prim.Native.Nat.{ℕ, ◌-◌, ◌≤◌}
-use native.Mathlib.Omega.{arith}
-use mathlib.Core.Path.{◌≡◌, sym, ◌∙◌, subst}
+use Prim.Native.Nat.{◌-◌, ◌≤◌}
+use mathlib.Core.Path.{◌≡◌}
 use lib.ListN.{length}
-use Rattle.text.proofs.Sets.{room}
 use Rattle.stock_file.specs.Write.{lines_to}
 use Rattle.stock_streams.specs.Write.{AllPut}
-use Rattle.stock_streams.proofs.Putting.{put-none}
 use Rattle.side_by_side.specs.Compared.{side, chunk_of}
-use Rattle.side_streams.proofs.Gathered.{chunk-put}
-use borrow.Author.Rules.{rules}
 use Rattle.side_streams.proofs.gather_chunks.Given as goal
 
 abbrev pub invariant-loop-c : goal.invariant-loop-c

@@ -2,7 +2,6 @@
 use mathlib.Core.Path.{sym, ap, ◌∙◌}
 use Rattle.side_by_side.specs.Compared.{compared_paper}
 use Rattle.side_streams.proofs.Told.{pair-chunks, pair-refused}
-use borrow.Author.Rules.{rules}
 use Rattle.side_streams.proofs.gather_pair.Goals as goal
 
 pub returns-in-Chunks : goal.returns-in-Chunks

@@ -1,6 +1,5 @@
 -- `side_streams::read_named` meets its contract. Assumes nothing.
 use Rattle.side_streams.proofs.Told.{no-file}
-use borrow.Author.Rules.{rules}
 use Rattle.side_streams.proofs.read_named.Goals as goal
 
 pub returns-in-Err : goal.returns-in-Err

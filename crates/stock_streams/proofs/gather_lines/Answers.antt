@@ -1,7 +1,6 @@
 -- `stock_streams::gather_lines` meets its contract. Assumes nothing.
-use Prim.Native.Nat.{ℕ, ◌-◌, ◌≤◌}
+use Prim.Native.Nat.{ℕ}
 use native.Mathlib.Omega.{arith}
-use native.Mathlib.Nat.{le_antisymm}
 use mathlib.Core.Path.{◌≡◌, subst}
 use Rattle.stock_file.specs.Write.{line_for, lines_to}
 use Rattle.stock_streams.specs.Write.{text_in, AllPut}

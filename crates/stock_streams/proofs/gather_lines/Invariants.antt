@@ -1,12 +1,7 @@
 -- `stock_streams::gather_lines` meets its contract. Assumes nothing.
-use Prim.Native.Nat.{ℕ, ◌-◌, ◌≤◌}
-use native.Mathlib.Omega.{arith}
-use native.Mathlib.Nat.{le_antisymm}
-use mathlib.Core.Path.{◌≡◌, subst}
+use Prim.Native.Nat.{◌-◌, ◌≤◌}
 use Rattle.stock_file.specs.Write.{line_for, lines_to}
 use Rattle.stock_streams.specs.Write.{text_in, AllPut}
-use Rattle.stock_streams.proofs.Putting.{put-none, put-more}
-use borrow.Author.Rules.{rules}
 use Rattle.stock_streams.proofs.gather_lines.Given as goal
 
 abbrev pub invariant-loop-k : goal.invariant-loop-k

@@ -2,7 +2,6 @@
 use mathlib.Core.Path.{refl, sym, ap, ◌∙◌}
 use Rattle.stock_file.specs.Write.{lines_paper}
 use Rattle.stock_streams.proofs.Putting.{stock-put, stock-refused}
-use borrow.Author.Rules.{rules}
 use Rattle.stock_streams.proofs.gather_stock.Goals as goal
 
 pub returns-in-Count : goal.returns-in-Count

@@ -1,7 +1,5 @@
 -- `stock_streams::read_stock` meets its contract. Assumes nothing.
-use mathlib.Core.Path.{◌≡◌}
-use lib.ListN.{length}
-use Rattle.stock_streams.proofs.Taking.{SoFar, none_yet, some_more, done}
+use Rattle.stock_streams.proofs.Taking.{none_yet, some_more, done}
 use borrow.Author.Rules.{rules}
 use Rattle.stock_streams.proofs.read_stock.Goals as goal
 

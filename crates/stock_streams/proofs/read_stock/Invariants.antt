@@ -1,8 +1,7 @@
 -- `stock_streams::read_stock` meets its contract. Assumes nothing.
 use mathlib.Core.Path.{◌≡◌}
 use lib.ListN.{length}
-use Rattle.stock_streams.proofs.Taking.{SoFar, none_yet, some_more, done}
-use borrow.Author.Rules.{rules}
+use Rattle.stock_streams.proofs.Taking.{SoFar}
 use Rattle.stock_streams.proofs.read_stock.Given as goal
 
 abbrev pub invariant-loop-line : goal.invariant-loop-line

@@ -1,5 +1,4 @@
 -- `stock_streams::take_once` meets its contract. Assumes nothing.
-use borrow.Author.Rules.{rules}
 use Rattle.stock_streams.proofs.take_once.Goals as goal
 
 pub returns : goal.returns

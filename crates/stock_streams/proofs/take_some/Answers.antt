@@ -2,7 +2,6 @@
 use mathlib.Core.Path.{sym}
 use native.Mathlib.Omega.{arith}
 use lib.Seq.{length-take-le}
-use borrow.Author.Rules.{rules}
 use Rattle.stock_streams.proofs.take_some.Goals as goal
 
 pub slice_bounds-take_once-end : goal.slice_bounds-take_once-end

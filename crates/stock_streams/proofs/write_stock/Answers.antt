@@ -1,6 +1,5 @@
 -- `stock_streams::write_stock` meets its contract. Assumes nothing.
 use Rattle.stock_streams.proofs.Putting.{went-well}
-use borrow.Author.Rules.{rules}
 use Rattle.stock_streams.proofs.write_stock.Goals as goal
 
 pub returns : goal.returns

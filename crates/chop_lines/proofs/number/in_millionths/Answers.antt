@@ -1,5 +1,5 @@
 -- `chop_lines::number::in_millionths` meets its contract. Assumes nothing.
-use Rattle.std.proofs.Common.{ap, rules}
+use Rattle.std.proofs.Common.{ap}
 use lib.Ieee.{Float, binary64, div, of_bits}
 use Rattle.chop_lines.proofs.number.in_millionths.Goals as goal
 

@@ -1,5 +1,5 @@
 -- `chop_lines::number::micrometres_of` meets its contract. Assumes nothing.
-use Rattle.std.proofs.Common.{ap, ◌∙◌, rules}
+use Rattle.std.proofs.Common.{ap, ◌∙◌}
 use lib.Ieee.{Float}
 use Rattle.floats.specs.Numbers.{◌+₆₄◌, ◌*₆₄◌}
 use Rattle.numbers.specs.Whole.{whole_part}

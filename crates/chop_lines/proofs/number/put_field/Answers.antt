@@ -1,5 +1,5 @@
 -- `chop_lines::number::put_field` meets its contract. Assumes nothing.
-use Rattle.std.proofs.Common.{refl, arith, rules}
+use Rattle.std.proofs.Common.{refl, arith}
 use Rattle.text.proofs.Sets.{and_then, put-wrote, retext}
 use Rattle.text.proofs.Spelling.{decimal-short}
 use Rattle.chop_lines.proofs.Putting.{field-minus, field_plain}

@@ -1,5 +1,5 @@
 -- `chop_lines::number::read_bulge` meets its contract. Assumes nothing.
-use Rattle.std.proofs.Common.{sym, ap, ◌∙◌, rules}
+use Rattle.std.proofs.Common.{sym, ap, ◌∙◌}
 use lib.Ieee.{Float, neg}
 use Rattle.chop_lines.specs.declared.number.Bulge.TheVariants.{Is}
 use Rattle.chop_lines.specs.Words.{plain, turned}

@@ -1,5 +1,5 @@
 -- `chop_lines::number::sag_up` meets its contract. Assumes nothing.
-use Rattle.std.proofs.Common.{sym, ap, ◌∙◌, arith, rules}
+use Rattle.std.proofs.Common.{sym, ap, ◌∙◌, arith}
 use Rattle.numbers.specs.Whole.{whole_paper}
 use Rattle.chop_lines.specs.Spelled.{up_by}
 use Rattle.chop_lines.proofs.Putting.{up-within}

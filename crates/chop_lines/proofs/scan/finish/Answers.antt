@@ -1,5 +1,5 @@
 -- `chop_lines::scan::finish` meets its contract. Assumes nothing.
-use Rattle.std.proofs.Common.{◌∙◌, rules}
+use Rattle.std.proofs.Common.{◌∙◌}
 use Rattle.chop_lines.proofs.Taking.{finish-stopped, finish-cut, finish-empty, finish-done}
 use Rattle.chop_lines.proofs.scan.finish.Goals as goal
 

@@ -1,5 +1,5 @@
 -- `chop_lines::scan::keep` meets its contract. Assumes nothing.
-use Rattle.std.proofs.Common.{arith, length-set, rules}
+use Rattle.std.proofs.Common.{arith, length-set}
 use Rattle.chop_lines.proofs.Reading.{kept_more, kept_full}
 use Rattle.chop_lines.proofs.scan.keep.Goals as goal
 

@@ -1,6 +1,5 @@
 -- `chop_lines::scan::take_bytes` meets its contract. Assumes nothing.
-use Rattle.std.proofs.Common.{◌≡◌, ◌-◌, ◌^◌, ◌<◌, ◌≤◌, length, drop, sym, refl, ◌∙◌, arith, rules}
-use Rattle.chop_lines.specs.Scan.{ScanRoom, in_hand, bytes_to}
+use Rattle.std.proofs.Common.{sym, refl, ◌∙◌, rules}
 use Rattle.chop_lines.proofs.Taking.{bytes-step, bytes-end}
 use Rattle.chop_lines.proofs.scan.take_bytes.Goals as goal
 
@@ -13,7 +12,8 @@ take_byte-t-requires c = let l = c.loop-i.invariant in
     (record { numbers = l.2 ∙ p.numbers; line = l.3 ∙ p.line }, l.1)
 
 pub loop-i-preserved : goal.loop-i-preserved
-loop-i-preserved c = (search rules, c.take_byte-t.ensures.1, search rules, search rules, c.loop-i.invariant.4 ∙ bytes-step _ _ _ _ c.loop-i-test.true c.take_byte-t.ensures.0)
+loop-i-preserved c = (search rules, c.take_byte-t.ensures.len_bound, search rules, search rules, c.loop-i.invariant.4 ∙ bytes-step _ _ _ _ c.loop-i-test.true c.take_byte-t.ensures.len_value)
 
 pub returns : goal.returns
-returns c = let l = c.loop-i in (sym (l.invariant.4 ∙ bytes-end _ _ _ c.loop-i-test.false), l.invariant.1)
+returns c = let l = c.loop-i in
+    record { len_value = sym (l.invariant.4 ∙ bytes-end _ _ _ c.loop-i-test.false); len_bound = l.invariant.1 }

@@ -1,7 +1,6 @@
 -- `chop_lines::scan::take_bytes` meets its contract. Assumes nothing.
-use Rattle.std.proofs.Common.{◌≡◌, ◌-◌, ◌^◌, ◌<◌, ◌≤◌, length, drop, sym, refl, ◌∙◌, arith, rules}
-use Rattle.chop_lines.specs.Scan.{ScanRoom, in_hand, bytes_to}
-use Rattle.chop_lines.proofs.Taking.{bytes-step, bytes-end}
+use Rattle.std.proofs.Common.{◌≡◌, ◌-◌, ◌≤◌, length, drop}
+use Rattle.chop_lines.specs.Scan.{in_hand, bytes_to}
 use Rattle.chop_lines.proofs.scan.take_bytes.Given as goal
 
 abbrev pub invariant-loop-i : goal.invariant-loop-i

@@ -1,6 +1,6 @@
 -- `chop_lines::spell::ends_text` meets its contract. Assumes nothing.
-use Rattle.std.proofs.Common.{refl, arith, rules}
-use Rattle.text.proofs.Sets.{and_then, put-wrote, retext}
+use Rattle.std.proofs.Common.{refl, arith}
+use Rattle.text.proofs.Sets.{and_then, put-wrote}
 use Rattle.chop_lines.specs.Spelled.{ends_text}
 use Rattle.chop_lines.proofs.Putting.{micro-short}
 use Rattle.chop_lines.proofs.spell.ends_text.Goals as goal

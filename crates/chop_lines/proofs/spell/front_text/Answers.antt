@@ -1,5 +1,5 @@
 -- `chop_lines::spell::front_text` meets its contract. Assumes nothing.
-use Rattle.std.proofs.Common.{ℕ, List, [], ◌∷◌, ◌++◌, refl, ap, arith, rules}
+use Rattle.std.proofs.Common.{refl, ap, arith}
 use Rattle.text.specs.Digits.{decimal_of}
 use Rattle.text.proofs.Sets.{and_then, put-wrote, retext}
 use Rattle.text.proofs.Spelling.{decimal-short}

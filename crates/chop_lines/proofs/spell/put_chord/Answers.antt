@@ -1,7 +1,6 @@
 -- `chop_lines::spell::put_chord` meets its contract. Assumes nothing.
 use Rattle.chop_lines.specs.Spelled.{chord_text}
 use Rattle.chop_lines.proofs.Putting.{puts-more}
-use Rattle.std.proofs.Common.{rules}
 use Rattle.chop_lines.proofs.spell.put_chord.Goals as goal
 
 pub returns : goal.returns

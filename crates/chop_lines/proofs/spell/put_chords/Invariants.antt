@@ -1,8 +1,7 @@
 -- `chop_lines::spell::put_chords` meets its contract. Assumes nothing.
-use Rattle.std.proofs.Common.{◌≡◌, ℕ, ◌-◌, ◌≤◌, List, sym, ap, subst, arith, rules}
+use Rattle.std.proofs.Common.{◌-◌, ◌≤◌}
 use Rattle.chop_lines.specs.Spelled.{chord_texts}
 use Rattle.chop_lines.specs.Chopped.{AllPut}
-use Rattle.chop_lines.proofs.Putting.{put-none, put_on, all-put, texts-more}
 use Rattle.chop_lines.proofs.spell.put_chords.Given as goal
 
 abbrev pub invariant-loop-k : goal.invariant-loop-k

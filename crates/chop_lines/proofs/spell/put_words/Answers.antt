@@ -1,6 +1,6 @@
 -- `chop_lines::spell::put_words` meets its contract. Assumes nothing.
-use Rattle.std.proofs.Common.{sym, refl, ap, arith, rules}
-use Rattle.text.proofs.Sets.{and_then, put-wrote, retext}
+use Rattle.std.proofs.Common.{sym, refl, ap, arith}
+use Rattle.text.proofs.Sets.{put-wrote, retext}
 use Rattle.chop_lines.specs.Spelled.{line_words}
 use Rattle.chop_lines.proofs.spell.put_words.Goals as goal
 

@@ -1,7 +1,6 @@
 -- `chop_lines::words::read_corner` meets its contract. Assumes nothing.
 use Rattle.job_words.specs.Kind.{fields_of}
 use Rattle.chop_lines.proofs.Reading.{read_as, bulge-as, corner-no, corner-no-z, corner-is}
-use Rattle.std.proofs.Common.{rules}
 use Rattle.chop_lines.proofs.words.read_corner.Goals as goal
 
 pub returns-in_default : goal.returns-in_default

@@ -1,7 +1,6 @@
 -- `chop_lines::words::read_head_on` meets its contract. Assumes nothing.
 use Rattle.job_words.specs.Kind.{fields_of}
 use Rattle.chop_lines.proofs.Reading.{read_as, head-no, head-is}
-use Rattle.std.proofs.Common.{rules}
 use Rattle.chop_lines.proofs.words.read_head_on.Goals as goal
 
 pub returns-in_default : goal.returns-in_default

@@ -1,5 +1,5 @@
 -- `chop_lines::words::read_words` meets its contract. Assumes nothing.
-use Rattle.std.proofs.Common.{◌≡◌, ℕ, Bool, eqb, List, sym, ap, ◌∙◌, rules, eq-eqb, ne_eqb}
+use Rattle.std.proofs.Common.{◌≡◌, ℕ, Bool, eqb, List, sym, ap, ◌∙◌, eq-eqb, ne_eqb}
 use Rattle.floats.specs.Pick.{pick_true, pick-false}
 use Rattle.text.specs.Same.{same_bytes}
 use Rattle.chop_lines.specs.Words.{word_profile, word_point, words_by}

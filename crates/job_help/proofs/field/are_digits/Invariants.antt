@@ -1,5 +1,5 @@
 -- `job_help::field::are_digits` meets its contract. Assumes nothing.
-use Rattle.std.proofs.Common.{◌-◌, ◌≤◌, length, rules}
+use Rattle.std.proofs.Common.{◌-◌, ◌≤◌, length}
 use Rattle.job_help.proofs.field.are_digits.Given as goal
 
 abbrev pub invariant-loop-i : goal.invariant-loop-i
