@@ -1,7 +1,6 @@
 -- `stock_picture::read_named` meets its contract. Assumes nothing.
 use Rattle.side_streams.proofs.Told.{no-file}
-use Rattle.std.proofs.Common.{rules}
 use Rattle.stock_picture.proofs.read_named.Goals as goal
 
-pub returns-then-fd-lt0 : goal.returns-then-fd-lt0
-returns-then-fd-lt0 c = no-file _ _
+pub returns-in-Err : goal.returns-in-Err
+returns-in-Err c = no-file _ _

@@ -1,6 +1,5 @@
 -- `test_jobs::main` meets its contract. Assumes nothing.
-use borrow.Author.Rules.{rules}
-use Prim.Native.Nat.{◌-◌}
+use Rattle.std.proofs.Common.{◌-◌}
 use Rattle.test_jobs.proofs.main.Given as goal
 
 abbrev pub invariant-loop-i : goal.invariant-loop-i

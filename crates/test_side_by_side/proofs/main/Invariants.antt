@@ -1,5 +1,5 @@
 -- `test_side_by_side::main` meets its contract. Assumes nothing.
-use Rattle.std.proofs.Common.{◌-◌, rules}
+use Rattle.std.proofs.Common.{◌-◌}
 use Rattle.test_side_by_side.proofs.main.Given as goal
 
 abbrev pub invariant-loop-k : goal.invariant-loop-k

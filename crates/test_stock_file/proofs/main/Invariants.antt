@@ -1,5 +1,5 @@
 -- `test_stock_file::main` meets its contract. Assumes nothing.
-use Rattle.std.proofs.Common.{◌-◌, arith, rules}
+use Rattle.std.proofs.Common.{◌-◌}
 use Rattle.test_stock_file.proofs.main.Given as goal
 
 abbrev pub invariant-loop-i : goal.invariant-loop-i

@@ -1,5 +1,5 @@
 -- `test_stock_file::put_ways` meets its contract. Assumes nothing.
-use Rattle.std.proofs.Common.{◌≡◌, ◌-◌, length, arith, rules}
+use Rattle.std.proofs.Common.{◌≡◌, ◌-◌, length}
 use Rattle.test_stock_file.proofs.put_ways.Given as goal
 
 abbrev pub invariant-loop-way : goal.invariant-loop-way

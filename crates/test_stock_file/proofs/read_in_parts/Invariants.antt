@@ -1,5 +1,5 @@
 -- `test_stock_file::read_in_parts` meets its contract. Assumes nothing.
-use Rattle.std.proofs.Common.{◌≡◌, ◌-◌, length, arith, rules}
+use Rattle.std.proofs.Common.{◌≡◌, ◌-◌, length}
 use Rattle.test_stock_file.proofs.read_in_parts.Given as goal
 
 abbrev pub invariant-loop-i : goal.invariant-loop-i

@@ -1,5 +1,5 @@
 -- `test_stock_file::say_all_damaged` meets its contract. Assumes nothing.
-use Rattle.std.proofs.Common.{◌-◌, length, arith, rules}
+use Rattle.std.proofs.Common.{◌-◌, length}
 use Rattle.test_stock_file.proofs.say_all_damaged.Given as goal
 
 abbrev pub invariant-loop-at : goal.invariant-loop-at

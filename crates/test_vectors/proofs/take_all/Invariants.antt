@@ -1,5 +1,4 @@
 -- `test_vectors::take_all` meets its contract. Assumes nothing.
-use Rattle.std.proofs.Common.{rules}
 use Rattle.test_vectors.proofs.take_all.Given as goal
 
 abbrev pub invariant-loop-turns : goal.invariant-loop-turns

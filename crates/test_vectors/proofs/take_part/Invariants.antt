@@ -1,5 +1,5 @@
 -- `test_vectors::take_part` meets its contract. Assumes nothing.
-use Rattle.std.proofs.Common.{◌-◌, ◌≤◌, length, rules}
+use Rattle.std.proofs.Common.{◌-◌, ◌≤◌, length}
 use Rattle.test_vectors.proofs.take_part.Given as goal
 
 abbrev pub invariant-loop-i : goal.invariant-loop-i

@@ -1,5 +1,5 @@
 -- `stock_picture::axes::z_ticks` meets its contract. Assumes nothing.
-use Rattle.std.proofs.Common.{◌-◌, ◌≤◌, rules}
+use Rattle.std.proofs.Common.{◌-◌, ◌≤◌}
 use Rattle.stock_picture.proofs.axes.z_ticks.Given as goal
 
 abbrev pub invariant-loop-k : goal.invariant-loop-k

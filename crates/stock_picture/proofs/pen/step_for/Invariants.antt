@@ -1,5 +1,5 @@
 -- `stock_picture::pen::step_for` meets its contract. Assumes nothing.
-use Rattle.std.proofs.Common.{◌-◌, ◌≤◌, rules}
+use Rattle.std.proofs.Common.{◌-◌, ◌≤◌}
 use Rattle.stock_picture.proofs.pen.step_for.Given as goal
 
 abbrev pub invariant-loop-k : goal.invariant-loop-k

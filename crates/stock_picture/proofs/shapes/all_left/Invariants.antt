@@ -1,5 +1,5 @@
 -- `stock_picture::shapes::all_left` meets its contract. Assumes nothing.
-use Rattle.std.proofs.Common.{◌-◌, ◌≤◌, rules}
+use Rattle.std.proofs.Common.{◌-◌, ◌≤◌}
 use Rattle.stock_picture.proofs.shapes.all_left.Given as goal
 
 abbrev pub invariant-loop-i : goal.invariant-loop-i

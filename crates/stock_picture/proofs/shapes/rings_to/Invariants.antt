@@ -1,5 +1,5 @@
 -- `stock_picture::shapes::rings_to` meets its contract. Assumes nothing.
-use Rattle.std.proofs.Common.{◌-◌, ◌≤◌, rules}
+use Rattle.std.proofs.Common.{◌-◌, ◌≤◌}
 use Rattle.stock_picture.proofs.shapes.rings_to.Given as goal
 
 abbrev pub invariant-loop-i : goal.invariant-loop-i

@@ -1,5 +1,5 @@
 -- `test_side_by_side::many::write_chunk` meets its contract. Assumes nothing.
-use Rattle.std.proofs.Common.{sym, rules}
+use Rattle.std.proofs.Common.{sym}
 use Rattle.text.proofs.Sets.{room}
 use Rattle.test_side_by_side.proofs.many.write_chunk.Goals as goal
 

@@ -1,5 +1,5 @@
 -- `test_stock_file::long::read` meets its contract. Assumes nothing.
-use Rattle.std.proofs.Common.{◌≡◌, ◌-◌, length, arith, rules}
+use Rattle.std.proofs.Common.{◌≡◌, ◌-◌, length}
 use Rattle.test_stock_file.proofs.long.read.Given as goal
 
 abbrev pub invariant-loop-k : goal.invariant-loop-k

@@ -1,5 +1,5 @@
 -- `test_stock_file::long::sum_made` meets its contract. Assumes nothing.
-use Rattle.std.proofs.Common.{◌-◌, arith, rules}
+use Rattle.std.proofs.Common.{◌-◌}
 use Rattle.test_stock_file.proofs.long.sum_made.Given as goal
 
 abbrev pub invariant-loop-k : goal.invariant-loop-k

@@ -1,5 +1,5 @@
 -- `test_stock_file::shown::say_lines` meets its contract. Assumes nothing.
-use Rattle.std.proofs.Common.{◌-◌, arith, rules}
+use Rattle.std.proofs.Common.{◌-◌}
 use Rattle.test_stock_file.proofs.shown.say_lines.Given as goal
 
 abbrev pub invariant-loop-k : goal.invariant-loop-k

@@ -1,5 +1,5 @@
 -- `test_stock_file::shown::sum_numbers` meets its contract. Assumes nothing.
-use Rattle.std.proofs.Common.{◌-◌, length, arith, rules}
+use Rattle.std.proofs.Common.{◌-◌, length}
 use Rattle.test_stock_file.proofs.shown.sum_numbers.Given as goal
 
 abbrev pub invariant-loop-i : goal.invariant-loop-i

@@ -1,5 +1,5 @@
 -- `test_vectors::answers::are_zero` meets its contract. Assumes nothing.
-use Rattle.std.proofs.Common.{◌-◌, ◌≤◌, length, rules}
+use Rattle.std.proofs.Common.{◌-◌, ◌≤◌, length}
 use Rattle.test_vectors.proofs.answers.are_zero.Given as goal
 
 abbrev pub invariant-loop-j : goal.invariant-loop-j

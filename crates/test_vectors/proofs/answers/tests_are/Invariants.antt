@@ -1,5 +1,5 @@
 -- `test_vectors::answers::tests_are` meets its contract. Assumes nothing.
-use Rattle.std.proofs.Common.{◌-◌, ◌≤◌, length, rules}
+use Rattle.std.proofs.Common.{◌-◌, ◌≤◌, length}
 use Rattle.test_vectors.proofs.answers.tests_are.Given as goal
 
 abbrev pub invariant-loop-j : goal.invariant-loop-j

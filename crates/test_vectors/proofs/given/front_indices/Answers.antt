@@ -1,5 +1,5 @@
 -- `test_vectors::given::front_indices` meets its contract. Assumes nothing.
-use Rattle.std.proofs.Common.{sym, arith, length-take-le, rules}
+use Rattle.std.proofs.Common.{sym, arith, length-take-le}
 use Rattle.test_vectors.proofs.given.front_indices.Goals as goal
 
 pub slice_bounds-result-end : goal.slice_bounds-result-end

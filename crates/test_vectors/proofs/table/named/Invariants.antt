@@ -1,5 +1,5 @@
 -- `test_vectors::table::named` meets its contract. Assumes nothing.
-use Rattle.std.proofs.Common.{◌-◌, ◌≤◌, rules}
+use Rattle.std.proofs.Common.{◌-◌, ◌≤◌}
 use Rattle.test_vectors.proofs.table.named.Given as goal
 
 abbrev pub invariant-loop-j : goal.invariant-loop-j

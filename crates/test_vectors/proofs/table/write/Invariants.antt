@@ -1,5 +1,5 @@
 -- `test_vectors::table::write` meets its contract. Assumes nothing.
-use Rattle.std.proofs.Common.{◌-◌, ◌≤◌, rules}
+use Rattle.std.proofs.Common.{◌-◌, ◌≤◌}
 use Rattle.test_vectors.proofs.table.write.Given as goal
 
 abbrev pub invariant-loop-k : goal.invariant-loop-k
