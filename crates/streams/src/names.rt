@@ -3,12 +3,38 @@ ghost use Rattle.std.specs.Prelude.{◌≤◌, length};
 ghost use Rattle.io.specs.Counts.{IsPrefixLen};
 
 use std::env::FillError;
-use std::io::{ErrorKind, Read};
+use std::io::{ErrorKind, Read, Write};
 use std::rt::{Env, Files};
 use std::{fs, io};
 
+// Room for the words of an error.
+const WORDS: usize = 256;
+
+// The words of an error, without the system's number for it behind them.
+fn words_alone(words: &str) -> &str {
+    match words.rsplit_once(" (os error ") {
+        Some((front, _)) => front,
+        None => words,
+    }
+}
+
+// The words of an error put into a buffer; how many bytes are left.
+fn put_words(error: io::Error, mut room: &mut [u8]) -> usize {
+    let _ = write!(room, "{error}");
+    room.len()
+}
+
 // Tells on standard error what failed, and why.
 pub fn fail(rt: &impl Eprint, what: &str, error: io::Error) {
+    let mut room = [0u8; WORDS];
+    let left = put_words(error, &mut room);
+    if left <= WORDS {
+        if let Ok(words) = str::from_utf8(&room[..WORDS - left]) {
+            let alone = words_alone(words);
+            let _ = eprintln!(rt; "{what}: {alone}");
+            return;
+        }
+    }
     let _ = eprintln!(rt; "{what}: {error}");
 }
 

@@ -1,4 +1,4 @@
-// A wait of ten milliseconds, or until a signal comes.
+// A wait of ten milliseconds.
 use std::rt::Clock;
 use std::thread;
 use std::time::Duration;
