@@ -1,4 +1,4 @@
-// Replays recorded calls of the library through the C boundary, one a line, and writes for every
+// Replays recorded calls of the library by the functions of the C boundary, one a line, and writes for every
 // kind of call how many there were, and how many answered something else than recorded.
 //
 // A line has the call's name, its inputs, `=`, and the number that it answers, followed where that
