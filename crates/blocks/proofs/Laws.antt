@@ -1,9 +1,9 @@
 -- What a range answers: at one height what is seen there, exactly the most of its bins, no less over more bins, no more after a cut, and over all heights the fold of all blocks.
 -- Assumes nothing.
+use Rattle.std.specs.Prelude.{None, Some}
 use mathlib.Core.Path.{◌≡◌, refl, sym, ap, ◌∙◌}
 use mathlib.Core.Bool.{Bool, true, false, ◌&&◌}
 use mathlib.Core.List.{List}
-use mathlib.Core.Option.{none, some}
 use Prim.Native.Nat.{ℕ, ◌+◌, ◌-◌, ◌≤◌, ◌<◌, min, max}
 use native.Mathlib.Omega.{arith}
 use lib.Dec.{T}
@@ -51,7 +51,7 @@ pub between-point : (s : TurnStockSpec) (n : ℕ) (cs : List Float) (z : Float) 
 unfolding most_between seen_at
 between-point s n cs z = go (in_range s z) refl
   where
-    go : (t : Bool) → in_range s z ≡ t → pick (range_meets s z z) (most_over cs (range_bins s n z z).first ((range_bins s n z z).last - (range_bins s n z z).first + 1)) none ≡ pick (in_range s z) (most_over cs (first_at s n z) (last_at s n z - first_at s n z + 1)) none
+    go : (t : Bool) → in_range s z ≡ t → pick (range_meets s z z) (most_over cs (range_bins s n z z).first ((range_bins s n z z).last - (range_bins s n z z).first + 1)) None ≡ pick (in_range s z) (most_over cs (first_at s n z) (last_at s n z - first_at s n z + 1)) None
     go true e =
         let b = and_both (le s.z_min_mm z) (le z s.z_max_mm) e in
         let low = so b.0 in
@@ -76,28 +76,28 @@ bin_count r = r.last - r.first + 1
 
 module _ (s : TurnStockSpec) (n : ℕ) (cs : List Float) (lo hi : Float) where
   -- AN ANSWER is the most of the bins of the range: some of them with material has its bore, some has its outer radius, and each such bin lies within it
-  pub range-most : (b : Band) → most_between s n cs lo hi ≡ some b → (range_meets s lo hi ≡ true) × Most cs (range_bins s n lo hi).first (bin_count (range_bins s n lo hi)) b
+  pub range-most : (b : Band) → most_between s n cs lo hi ≡ Some b → (range_meets s lo hi ≡ true) × Most cs (range_bins s n lo hi).first (bin_count (range_bins s n lo hi)) b
   unfolding most_between
   range-most = asked-most (range_meets s lo hi) cs (range_bins s n lo hi).first (bin_count (range_bins s n lo hi))
 
   -- NOTHING is answered where the ends say so, or where none of the bins has material, and nowhere else
-  pub range_none : most_between s n cs lo hi ≡ none → range_meets s lo hi ≡ true → (i : ℕ) (c : Band) → Holds cs (range_bins s n lo hi).first (bin_count (range_bins s n lo hi)) i c → ⊥
+  pub range_none : most_between s n cs lo hi ≡ None → range_meets s lo hi ≡ true → (i : ℕ) (c : Band) → Holds cs (range_bins s n lo hi).first (bin_count (range_bins s n lo hi)) i c → ⊥
   unfolding most_between
   range_none = asked-none (range_meets s lo hi) cs (range_bins s n lo hi).first (bin_count (range_bins s n lo hi))
 
-  pub none-range : (range_meets s lo hi ≡ true → (i : ℕ) (c : Band) → Holds cs (range_bins s n lo hi).first (bin_count (range_bins s n lo hi)) i c → ⊥) → most_between s n cs lo hi ≡ none
+  pub none-range : (range_meets s lo hi ≡ true → (i : ℕ) (c : Band) → Holds cs (range_bins s n lo hi).first (bin_count (range_bins s n lo hi)) i c → ⊥) → most_between s n cs lo hi ≡ None
   unfolding most_between
   none-range = none-asked (range_meets s lo hi) cs (range_bins s n lo hi).first (bin_count (range_bins s n lo hi))
 
   -- ---- more bins, and less material
 
-  asked : (b : Band) → most_between s n cs lo hi ≡ some b → most_over cs (range_bins s n lo hi).first (bin_count (range_bins s n lo hi)) ≡ some b
+  asked : (b : Band) → most_between s n cs lo hi ≡ Some b → most_over cs (range_bins s n lo hi).first (bin_count (range_bins s n lo hi)) ≡ Some b
   unfolding most_between
   asked b e = sym (pick_true _ _ _ (range-most b e).0) ∙ e
 
   -- A RANGE whose bins lie among those of another answers nothing, or a band within the other's
   pub range-wider : (lo' hi' : Float) → range_meets s lo' hi' ≡ true → (range_bins s n lo' hi').first ≤ (range_bins s n lo hi).first → (range_bins s n lo hi).last ≤ (range_bins s n lo' hi').last
-      → (b : Band) → most_between s n cs lo hi ≡ some b → (b' : Band) × (most_between s n cs lo' hi' ≡ some b') × Nested b b'
+      → (b : Band) → most_between s n cs lo hi ≡ Some b → (b' : Band) × (most_between s n cs lo' hi' ≡ Some b') × Nested b b'
   unfolding most_between
   range-wider lo' hi' t f l b e =
       let r = range_bins s n lo hi in
@@ -108,7 +108,7 @@ module _ (s : TurnStockSpec) (n : ℕ) (cs : List Float) (lo hi : Float) where
       (w.0, pick_true _ _ _ t ∙ w.1, w.2)
 
   -- AFTER MATERIAL IS REMOVED the same range answers nothing, or a band within the one before
-  pub range-less : (cs' : List Float) → 0 < n → ((i : ℕ) → i < n → Less (cell_at cs' i) (cell_at cs i)) → (b : Band) → most_between s n cs lo hi ≡ some b → (b' : Band) × (most_between s n cs' lo hi ≡ some b') × Nested b b'
+  pub range-less : (cs' : List Float) → 0 < n → ((i : ℕ) → i < n → Less (cell_at cs' i) (cell_at cs i)) → (b : Band) → most_between s n cs lo hi ≡ Some b → (b' : Band) × (most_between s n cs' lo hi ≡ Some b') × Nested b b'
   unfolding most_between
   range-less cs' h f b e =
       let r = range_bins s n lo hi in

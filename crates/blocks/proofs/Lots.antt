@@ -5,7 +5,6 @@ use mathlib.Core.List.{List}
 use mathlib.Core.Logic.{◌⊎◌, inl, inr}
 use Prim.Native.Nat.{ℕ, zero, suc, ◌+◌, ◌*◌, ◌-◌, ◌≤◌, ◌<◌}
 use native.Mathlib.Nat.{eq-or-lt_of_le}
-use native.Mathlib.Numerals.{add-one}
 use native.Mathlib.Omega.{arith}
 use lib.Dec.{T, ltb}
 use borrow.Author.Tests.{ltb-true, ltb-false}
@@ -209,9 +208,12 @@ pub lot-start : (cs : List Float) (a : ℕ) (e : Ends) → e ≡ ends_in (four_a
 unfolding lot_to
 lot-start cs a e p = p
 
-pub lot-more : (cs : List Float) (a k : ℕ) (e f r : Ends) → e ≡ ends_in (lot_to cs a k) → f ≡ ends_in (four_at cs (a + 4 * (k + 1))) → r ≡ join_ends f e → r ≡ ends_in (lot_to cs a (k + 1))
+pub lot-more : (cs : List Float) (a k : ℕ) (e f r : Ends) → 1 ≤ k → e ≡ ends_in (lot_to cs a (k - 1)) → f ≡ ends_in (four_at cs (a + 4 * k)) → r ≡ join_ends f e → r ≡ ends_in (lot_to cs a (k + 1 - 1))
 unfolding lot_to ends_in gathered
-lot-more cs a k e f r p q h = rw (add-one k) (joined-ends (four_at cs (a + 4 * suc k)) (lot_to cs a k) f e r (q ∙ ap (λ (n : ℕ). ends_in (four_at cs (a + 4 * n))) (add-one k)) p h)
+lot-more cs a k e f r b p q h =
+    let m : k + 1 - 1 ≡ suc (k - 1) = omega arith in
+    let n : k ≡ suc (k - 1) = omega arith in
+    rw m (joined-ends (four_at cs (a + 4 * suc (k - 1))) (lot_to cs a (k - 1)) f e r (q ∙ ap (λ (x : ℕ). ends_in (four_at cs (a + 4 * x))) n) p h)
 
 -- ---- the whole block
 and-two : (a b : Bool) → (a && b) ≡ true → (a ≡ true) × (b ≡ true)

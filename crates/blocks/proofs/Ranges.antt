@@ -1,14 +1,14 @@
 -- The bins of a range, and what the way over kept numbers answers there: where they match, as a walk over these bins would. Assumes nothing.
+use Rattle.std.specs.Prelude.{Option, None}
 use mathlib.Core.Path.{◌≡◌, refl, sym, ap, ◌∙◌}
 use mathlib.Core.Bool.{Bool, true, false, ◌&&◌}
 use mathlib.Core.List.{List}
-use mathlib.Core.Option.{Option, none}
 use Prim.Native.Nat.{ℕ, ◌+◌, ◌-◌, ◌≤◌, ◌<◌, min, max}
 use native.Mathlib.Omega.{arith}
 use borrow.Author.Tests.{ltb-true}
 use lib.Dec.{ltb}
 use lib.Ieee.{Float}
-use Rattle.refusals.specs.Paper.{Paper, Reason, answers, refuses, papers}
+use Rattle.refusals.specs.Paper.{Reason, answers, refuses, papers}
 use Rattle.floats.specs.Pick.{pick, pick_true, pick-false}
 use Rattle.floats.specs.Numbers.{least_of, greatest_of, clean_of}
 use Rattle.stock.specs.declared.TurnStockSpec.{TurnStockSpec}
@@ -17,8 +17,7 @@ use Rattle.stock.proofs.Bins.{HeldSpec, HeldList}
 use Rattle.stock.proofs.Count.{stocked, checked}
 use Rattle.queries.specs.declared.Band.{Band}
 use Rattle.queries.specs.declared.BinSpan.{BinSpan}
-use Rattle.queries.specs.declared.Seen.{Seen}
-use Rattle.queries.specs.Envelope.{bin_at, holds_z, last_at, bins_at, shown_of, most_over, seen_paper}
+use Rattle.queries.specs.Envelope.{bin_at, holds_z, last_at, bins_at, shown_of, most_over}
 use Rattle.queries.proofs.Walks.{first-near, last-over, last-near}
 use Rattle.blocks.specs.Block.{kept_stock}
 use Rattle.blocks.specs.Range.{range_meets, bins_over, range_bins, most_between, range_of}
@@ -56,16 +55,16 @@ over_below s n lo hi h = omega (arith, last-near s n lo h, last-near s n hi h)
 
 -- ---- the way over the kept numbers
 module _ (s : TurnStockSpec) (n : ℕ) (cs bs : List Float) (lo hi : Float) where
-  pub kept-none : range_meets s lo hi ≡ false → answers none ≡ answers (kept_between s n cs bs lo hi)
+  pub kept-none : range_meets s lo hi ≡ false → None ≡ kept_between s n cs bs lo hi
   unfolding kept_between
-  kept-none t = ap answers (sym (pick-false _ _ _ t))
+  kept-none t = sym (pick-false _ _ _ t)
 
-  pub kept-some : (from to : Float) (r : BinSpan) (k : Band) (p : Paper (Option Band)) → range_meets s lo hi ≡ true → from ≡ greatest_of lo s.z_min_mm → to ≡ least_of hi s.z_max_mm → r ≡ bins_over s n from to
-      → k ≡ kept_over s cs bs r.first (r.last + 1) → p ≡ answers (shown_of k) → p ≡ answers (kept_between s n cs bs lo hi)
+  pub kept-some : (from to : Float) (r : BinSpan) (k : Band) (p : Option Band) → range_meets s lo hi ≡ true → from ≡ greatest_of lo s.z_min_mm → to ≡ least_of hi s.z_max_mm → r ≡ bins_over s n from to
+      → k ≡ kept_over s cs bs r.first (r.last + 1) → p ≡ shown_of k → p ≡ kept_between s n cs bs lo hi
   unfolding kept_between
   kept-some from to r k p t ef et er ek ep =
       let e : r ≡ range_bins s n lo hi = er ∙ (λ i. bins_over s n (ef i) (et i)) in
-      ep ∙ ap (λ (x : Band). answers (shown_of x)) (ek ∙ ap (λ (x : BinSpan). kept_over s cs bs x.first (x.last + 1)) e) ∙ ap answers (sym (pick_true _ _ _ t))
+      ep ∙ ap shown_of (ek ∙ ap (λ (x : BinSpan). kept_over s cs bs x.first (x.last + 1)) e) ∙ sym (pick_true _ _ _ t)
 
 -- ---- the query
 module _ (spec : TurnStockSpec) (cs bs : List Float) (lo hi : Float) where
@@ -87,15 +86,15 @@ range-walks spec cs bs n hs hc hb e lo hi =
     let o = over-order s n (greatest_of lo s.z_min_mm) (least_of hi s.z_max_mm) in
     let b = over_below s n (greatest_of lo s.z_min_mm) (least_of hi s.z_max_mm) (checked spec n (stocked spec cs n k.stock).count).some-cells in
     let m : r.last + 1 - r.first ≡ r.last - r.first + 1 = omega arith in
-    ap (λ (x : Option Band). pick (range_meets s lo hi) x none)
+    ap (λ (x : Option Band). pick (range_meets s lo hi) x None)
     (stock-walks spec cs n hs hc k.stock bs hb k.matched r.first (r.last + 1) (omega arith) ∙ ap (λ (x : ℕ). most_over cs r.first x) m)
 
 -- what `range_kept` promises
-pub kept-promise : (spec : TurnStockSpec) (n : ℕ) (cs bs : List Float) (lo hi : Float) (r : Seen) (s : TurnStockSpec) (from to : Float) → HeldSpec spec → HeldList cs → HeldList bs → s ≡ clean_spec spec → from ≡ clean_of lo → to ≡ clean_of hi
-    → seen_paper r ≡ answers (kept_between s n cs bs from to) → RangeKept spec n cs bs lo hi r
+pub kept-promise : (spec : TurnStockSpec) (n : ℕ) (cs bs : List Float) (lo hi : Float) (r : Option Band) (s : TurnStockSpec) (from to : Float) → HeldSpec spec → HeldList cs → HeldList bs → s ≡ clean_spec spec → from ≡ clean_of lo → to ≡ clean_of hi
+    → r ≡ kept_between s n cs bs from to → RangeKept spec n cs bs lo hi r
 kept-promise spec n cs bs lo hi r s from to hs hc hb es ef et e =
-    let found = e ∙ (λ i. answers (kept_between (es i) n cs bs (ef i) (et i))) in
+    let found = e ∙ (λ i. kept_between (es i) n cs bs (ef i) (et i)) in
     record {
       found = found;
-      ruled = λ k. found ∙ ap answers (range-walks spec cs bs n hs hc hb k (clean_of lo) (clean_of hi)) ∙ sym (range-answers spec cs bs lo hi n k);
+      ruled = λ k. ap answers (found ∙ range-walks spec cs bs n hs hc hb k (clean_of lo) (clean_of hi)) ∙ sym (range-answers spec cs bs lo hi n k);
     }

@@ -1,14 +1,14 @@
 -- The way over kept numbers that are those of the cells is the fold of the cells, and what the fold shows is the most that a walk over the bins finds. Assumes nothing.
+use Rattle.std.specs.Prelude.{None, Some}
 use mathlib.Core.Path.{◌≡◌, refl, sym, ap, ◌∙◌, subst}
 use mathlib.Core.Logic.{◌⊎◌, inl, inr}
 use mathlib.Core.Bool.{Bool, true, false, not, ◌||◌}
 use mathlib.Core.List.{List}
-use mathlib.Core.Option.{none, some}
 use Prim.Native.Nat.{ℕ, zero, suc, ◌+◌, ◌*◌, ◌-◌, ◌/◌, ◌≤◌, ◌<◌, min}
 use native.Mathlib.Omega.{arith}
 use borrow.Author.Tests.{ltb-true}
 use lib.Dec.{T, ltb}
-use lib.Ieee.{Float, lt, le}
+use lib.Ieee.{Float, lt}
 use lib.Ieee.Bits.{is_true}
 use borrow.Author.Tests.{not-true}
 use Rattle.floats.specs.Pick.{pick, pick_true, pick-false}
@@ -83,8 +83,8 @@ module _ (s : TurnStockSpec) (E : Ends s) (order : T (lt s.bore_radius_mm s.oute
   -- no bin with material, and the fold is at its start; or some, and the fold is what the walk found
   Met : ℕ → Type 0
   Met m =
-      ((most_over cs a m ≡ none) × (holds_to cs a m ≡ false) × (block_to s cs a m ≡ no_material s))
-      ⊎ ((most_over cs a m ≡ some (block_to s cs a m)) × (holds_to cs a m ≡ true) × T (lt (block_to s cs a m).bore (block_to s cs a m).outer))
+      ((most_over cs a m ≡ None) × (holds_to cs a m ≡ false) × (block_to s cs a m ≡ no_material s))
+      ⊎ ((most_over cs a m ≡ Some (block_to s cs a m)) × (holds_to cs a m ≡ true) × T (lt (block_to s cs a m).bore (block_to s cs a m).outer))
 
   wider : (k b : Band) → Fair s k → Fair s b → T (lt b.bore b.outer) → T (lt (join_of k b).bore (join_of k b).outer)
   wider k b p q h =
@@ -104,21 +104,21 @@ module _ (s : TurnStockSpec) (E : Ends s) (order : T (lt s.bore_radius_mm s.oute
   next m f g false e (inr r) =
       let w = with_none (block_to s cs a m) (cell_at cs (a + m)) e in
       inr (
-        (λ i. together (r.0 i) (shown-none (most_of (cell_at cs (a + m))) e i)) ∙ ap some (sym w),
+        (λ i. together (r.0 i) (shown-none (most_of (cell_at cs (a + m))) e i)) ∙ ap Some (sym w),
         (λ i. r.1 i || e i),
         subst (λ (b : Band). T (lt b.bore b.outer)) (sym w) r.2,
       )
   next m f g true e (inl r) =
       let w = with-some (block_to s cs a m) (cell_at cs (a + m)) e ∙ ap (λ (x : Band). join_of x (most_of (cell_at cs (a + m)))) r.2 ∙ nothing-join s E (most_of (cell_at cs (a + m))) (cell-fair s (cell_at cs (a + m)) g) in
       inr (
-        (λ i. together (r.0 i) (shown-band (most_of (cell_at cs (a + m))) e i)) ∙ ap some (sym w),
+        (λ i. together (r.0 i) (shown-band (most_of (cell_at cs (a + m))) e i)) ∙ ap Some (sym w),
         (λ i. r.1 i || e i),
         subst (λ (b : Band). T (lt b.bore b.outer)) (sym w) (subst T (sym e) tt),
       )
   next m f g true e (inr r) =
       let w = with-some (block_to s cs a m) (cell_at cs (a + m)) e in
       inr (
-        (λ i. together (r.0 i) (shown-band (most_of (cell_at cs (a + m))) e i)) ∙ ap some (sym w),
+        (λ i. together (r.0 i) (shown-band (most_of (cell_at cs (a + m))) e i)) ∙ ap Some (sym w),
         (λ i. r.1 i || e i),
         subst (λ (b : Band). T (lt b.bore b.outer)) (sym w) (wider (block_to s cs a m) (most_of (cell_at cs (a + m))) f (cell-fair s (cell_at cs (a + m)) g) (subst T (sym e) tt)),
       )

@@ -1,6 +1,5 @@
 -- The most material that may remain over a range of heights: over the bins from the first to the last that are looked at for its ends. Assumes nothing.
-use Rattle.std.specs.Prelude.{Bool, ◌&&◌, List, ℕ, ◌+◌, ◌-◌, min, max, Float}
-use Rattle.std.proofs.Math.Option.{Option, none}
+use Rattle.std.specs.Prelude.{Bool, ◌&&◌, List, ℕ, ◌+◌, ◌-◌, min, max, Float, Option, None}
 use Rattle.std.specs.Float.Ieee.{le}
 use Rattle.refusals.specs.Paper.{Paper, answers, onward}
 use Rattle.floats.specs.Pick.{pick}
@@ -30,7 +29,7 @@ most_from cs r = most_over cs r.first (r.last - r.first + 1)
 
 -- what may remain of n cells over a range
 unfoldable pub most_between : TurnStockSpec → ℕ → List Float → Float → Float → Option Band
-most_between s n cs lo hi = pick (range_meets s lo hi) (most_from cs (range_bins s n lo hi)) none
+most_between s n cs lo hi = pick (range_meets s lo hi) (most_from cs (range_bins s n lo hi)) None
 
 -- the same of a stock with its kept numbers; 1, 2, 3, 20
 unfoldable pub range_of : TurnStockSpec → List Float → List Float → Float → Float → Paper (Option Band)

@@ -1,15 +1,16 @@
 -- Kept numbers worked out of the cells: all of them, or those of the blocks in which some bins lie. Assumes nothing.
-use Rattle.std.specs.Prelude.{◌≡◌, ℕ, ◌*◌, ◌/◌, eqb, ltb, length, take, Float}
+use Rattle.std.specs.Prelude.{◌≡◌, ℕ, ◌*◌, ◌/◌, eqb, ltb, length, take, Float, Result}
 use mathlib.Core.List.{List, foldl, map}
 use Rattle.std.proofs.lemmas.List.Edits.{sets}
+use Rattle.refusals.specs.Number.{paper_of}
+use Rattle.refusals.specs.declared.Refusal.{Refusal}
 use Rattle.refusals.specs.Limits.{block_bins}
 use Rattle.refusals.specs.Lent.{Lent}
 use Rattle.refusals.specs.Paper.{Paper, answers, refuses, demand, onward}
 use Rattle.floats.specs.Pick.{pick}
 use Rattle.floats.specs.Numbers.{clean_of}
 use Rattle.stock.specs.declared.TurnStockSpec.{TurnStockSpec}
-use Rattle.stock.specs.declared.Counted.{Counted}
-use Rattle.stock.specs.Spec.{clean_spec, counted_paper}
+use Rattle.stock.specs.Spec.{clean_spec}
 use Rattle.stock.specs.Cell.{stock_of}
 use Rattle.queries.specs.declared.Band.{Band}
 use Rattle.blocks.specs.Block.{two_of, blocks_in, block_of, blocks_of}
@@ -30,12 +31,12 @@ blocks_after spec cs (answers n) bs = blocks_of (clean_spec spec) n cs
 blocks_after spec cs (refuses r) bs = bs
 
 -- the answer and the lent numbers after `renew`
-pub record Renewed (spec : TurnStockSpec) (cs : List Float) (r : Counted) (bs bs' : List Float) : Type 0 where
-  pub answer : counted_paper r ≡ renew_of spec cs (length bs)
+pub record Renewed (spec : TurnStockSpec) (cs : List Float) (r : Result ℕ Refusal) (bs bs' : List Float) : Type 0 where
+  pub answer : paper_of r ≡ renew_of spec cs (length bs)
   pub numbers : bs' ≡ blocks_after spec cs (renew_of spec cs (length bs)) bs
 
 -- of lent numbers, at both moments
-abbrev pub Renews : TurnStockSpec → List Float → Counted → Lent Float → Type 0
+abbrev pub Renews : TurnStockSpec → List Float → (Result ℕ Refusal) → Lent Float → Type 0
 Renews spec cs r blocks = Renewed spec cs r blocks.entry.now blocks.exit.now
 
 -- ---- the blocks of some bins

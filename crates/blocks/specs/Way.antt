@@ -1,6 +1,5 @@
 -- The way over the kept numbers: whole blocks by their two numbers, the other bins by their cells. Where the numbers match the cells this is what `range_of` says (proofs/Ranges). Assumes nothing.
-use Rattle.std.specs.Prelude.{◌≡◌, List, ℕ, zero, suc, ◌+◌, ◌*◌, ◌-◌, ◌/◌, ltb, Float}
-use Rattle.std.proofs.Math.Option.{Option, none}
+use Rattle.std.specs.Prelude.{◌≡◌, List, ℕ, zero, suc, ◌+◌, ◌*◌, ◌-◌, ◌/◌, ltb, Float, Option, None}
 use Rattle.refusals.specs.Limits.{block_bins}
 use Rattle.refusals.specs.Paper.{answers}
 use Rattle.floats.specs.Pick.{pick}
@@ -9,8 +8,7 @@ use Rattle.stock.specs.declared.TurnStockSpec.{TurnStockSpec}
 use Rattle.stock.specs.Spec.{clean_spec}
 use Rattle.queries.specs.declared.Band.{Band}
 use Rattle.queries.specs.declared.BinSpan.{BinSpan}
-use Rattle.queries.specs.declared.Seen.{Seen}
-use Rattle.queries.specs.Envelope.{join_of, shown_of, seen_paper}
+use Rattle.queries.specs.Envelope.{join_of, shown_of}
 use Rattle.blocks.specs.Block.{fold_from, block_to, blocks_in, block_at, kept_stock}
 use Rattle.blocks.specs.Range.{range_meets, range_bins, range_of}
 
@@ -32,9 +30,9 @@ kept_from s cs bs r = shown_of (kept_over s cs bs r.first (r.last + 1))
 
 -- and over a range of heights
 unfoldable pub kept_between : TurnStockSpec → ℕ → List Float → List Float → Float → Float → Option Band
-kept_between s n cs bs lo hi = pick (range_meets s lo hi) (kept_from s cs bs (range_bins s n lo hi)) none
+kept_between s n cs bs lo hi = pick (range_meets s lo hi) (kept_from s cs bs (range_bins s n lo hi)) None
 
 -- what `range_kept` answers: what the way says of any numbers, and where those of a stock match its n cells, what the rule says
-pub record RangeKept (spec : TurnStockSpec) (n : ℕ) (cs bs : List Float) (lo hi : Float) (r : Seen) : Type 0 where
-  pub found : seen_paper r ≡ answers (kept_between (clean_spec spec) n cs bs (clean_of lo) (clean_of hi))
-  pub ruled : kept_stock spec cs bs ≡ answers n → seen_paper r ≡ range_of spec cs bs lo hi
+pub record RangeKept (spec : TurnStockSpec) (n : ℕ) (cs bs : List Float) (lo hi : Float) (r : Option Band) : Type 0 where
+  pub found : r ≡ kept_between (clean_spec spec) n cs bs (clean_of lo) (clean_of hi)
+  pub ruled : kept_stock spec cs bs ≡ answers n → answers r ≡ range_of spec cs bs lo hi

@@ -4,11 +4,19 @@ ghost use Rattle.std.specs.Prelude.{◌≡◌, ◌+◌, ◌*◌, ◌-◌, ◌≤
 ghost use Rattle.floats.specs.Pick.{pick};
 ghost use Rattle.stock.specs.Cell.{cell_at};
 ghost use Rattle.queries.specs.Material.{most_of};
-ghost use Rattle.queries.specs.Envelope.{join_of};
 ghost use Rattle.blocks.specs.Block.{no_material, block_with, fold_from};
 
 use queries::Band;
 use stock::TurnStockSpec;
+
+// The bins from a up to e, of a list that has them.
+#[derive(Clone, Copy)]
+pub struct Bins<'a> {
+    pub cells: &'a [f64],
+    pub a: usize,
+    pub e: usize,
+    ghost held: { 4 * e ≤ length cells.now },
+}
 
 // No material: the outer radius of the stock for the least bore, and its bore for the greatest outer
 // radius.
@@ -18,16 +26,6 @@ pub fn no_material(s: TurnStockSpec) -> Band
     Band {
         bore: s.outer_radius_mm,
         outer: s.bore_radius_mm,
-    }
-}
-
-// Of two bands the least bore and the greatest outer radius.
-pub fn join(a: Band, b: Band) -> Band
-    ensures { result ≡ join_of a b }
-{
-    Band {
-        bore: floats::least(a.bore, b.bore),
-        outer: floats::greatest(a.outer, b.outer),
     }
 }
 
@@ -61,18 +59,17 @@ pub fn most_at(cells: &[f64], i: usize) -> Band
     }
 }
 
-// The bins from a up to e, onto k, of a list that has them.
-fn fold_held(k: Band, cells: &[f64], a: usize, e: usize) -> Band
-    requires { 4 * e ≤ length cells.now }
-    ensures { result ≡ fold_from k cells.now a (e - a) }
-{
-    let mut found = k;
-    let mut i: usize = a;
-    while i < e {
-        found = block_with(found, most_at(cells, i));
-        i += 1;
+impl<'a> Bins<'a> {
+    // Folded onto k.
+    fn fold(&self, k: Band) -> Band
+        ensures { result ≡ fold_from k self.now.cells.now self.now.a (self.now.e - self.now.a) }
+    {
+        let mut found = k;
+        for i in self.a..self.e {
+            found = block_with(found, most_at(self.cells, i));
+        }
+        found
     }
-    found
 }
 
 // The same of any list.
@@ -80,15 +77,8 @@ fn fold_any(k: Band, cells: &[f64], a: usize, e: usize) -> Band
     ensures { result ≡ fold_from k cells.now a (e - a) }
 {
     let mut found = k;
-    let mut i: usize = a;
-    while i < e {
-        let c = stock::cell_at(cells, i);
-        let most = Band {
-            bore: c.inner.lower_mm,
-            outer: c.outer.upper_mm,
-        };
-        found = block_with(found, most);
-        i += 1;
+    for i in a..e {
+        found = block_with(found, queries::most(stock::cell_at(cells, i)));
     }
     found
 }
@@ -98,7 +88,7 @@ pub fn fold(k: Band, cells: &[f64], a: usize, e: usize) -> Band
     ensures { result ≡ fold_from k cells.now a (e - a) }
 {
     if e <= cells.len() / 4 {
-        return fold_held(k, cells, a, e);
+        return Bins { cells, a, e }.fold(k);
     }
     fold_any(k, cells, a, e)
 }

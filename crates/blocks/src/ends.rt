@@ -73,9 +73,7 @@ pub fn of_block(cells: &[f64], a: usize) -> Ends
     ensures { result ≡ ends_in (lot_to cells.now a 15) }
 {
     let mut found = of_four(cells, a);
-    let mut k: usize = 0;
-    while k < 15 {
-        k += 1;
+    for k in 1..16 {
         found = joined(of_four(cells, a + 4 * k), found);
     }
     found

@@ -9,19 +9,18 @@
 #![tactic(auto)]
 
 ghost use Rattle.std.specs.Prelude.{◌≡◌, map, ◌+◌, ◌*◌, ◌-◌, ◌≤◌, ◌<◌, length, take};
-ghost use Rattle.refusals.specs.Paper.{answers};
+ghost use Rattle.refusals.specs.Number.{paper_of};
 ghost use Rattle.refusals.specs.Limits.{block_bins};
 ghost use Rattle.floats.specs.Numbers.{clean_of};
-ghost use Rattle.stock.specs.Spec.{counted_paper};
-ghost use Rattle.queries.specs.Envelope.{seen_paper};
 ghost use Rattle.blocks.specs.Block.{blocks_in, block_end, block_to, block_of, blocks_of, block_at, same_block, match_to, matches_of, kept_stock};
 ghost use Rattle.blocks.specs.Range.{bins_over, range_of};
 ghost use Rattle.blocks.specs.Way.{join_from, kept_over, kept_between, RangeKept};
 ghost use Rattle.blocks.specs.Renew.{renewed_all, Renews, put_block, renew_at, renew_over, renewed_for, LeavesFor};
 
-use queries::{Band, BinSpan, Seen};
+use bins::Bins;
+use queries::{Band, BinSpan};
 use refusals::{BLOCK, Refusal};
-use stock::{Counted, TurnStockSpec};
+use stock::TurnStockSpec;
 
 mod bins;
 mod ends;
@@ -82,12 +81,11 @@ fn put_block(blocks: &mut [f64], j: usize, b: Band)
     blocks[at + 1] = b.bore;
 }
 
-// The numbers `kept` are those of the bins from a up to e, of a list that has them.
-fn bins_match(s: TurnStockSpec, cells: &[f64], kept: Band, a: usize, e: usize) -> bool
-    requires { 4 * e ≤ length cells.now }
-    ensures { result ≡ same_block kept (block_to s cells.now a (e - a)) }
+// The numbers `kept` are those of some bins.
+fn bins_match(s: TurnStockSpec, kept: Band, bins: &Bins<'_>) -> bool
+    ensures { result ≡ same_block kept (block_to s bins.now.cells.now bins.now.a (bins.now.e - bins.now.a)) }
 {
-    let met = matching::met_over(kept, matching::met_none(s, kept), cells, a, e);
+    let met = matching::met_over(kept, matching::met_none(s, kept), bins);
     met.under & met.outer & met.bore
 }
 
@@ -98,10 +96,15 @@ fn whole_matches(s: TurnStockSpec, cells: &[f64], kept: Band, a: usize) -> bool
 {
     let found = ends::of_block(cells, a);
     if ends::all_held(s, found) {
-        let b = bins::join(bins::no_material(s), ends::span(found));
+        let b = queries::join(bins::no_material(s), ends::span(found));
         return (kept.outer == b.outer) & (kept.bore == b.bore);
     }
-    bins_match(s, cells, kept, a, a + BLOCK)
+    let whole = Bins {
+        cells,
+        a,
+        e: a + BLOCK,
+    };
+    bins_match(s, kept, &whole)
 }
 
 // The numbers `kept` are those of block j of n bins.
@@ -118,7 +121,12 @@ fn block_matches(s: TurnStockSpec, n: usize, cells: &[f64], kept: Band, j: usize
     if to - from == BLOCK {
         return whole_matches(s, cells, kept, from);
     }
-    bins_match(s, cells, kept, from, to)
+    let bins = Bins {
+        cells,
+        a: from,
+        e: to,
+    };
+    bins_match(s, kept, &bins)
 }
 
 // The first `count` blocks are those of the cells.
@@ -127,10 +135,8 @@ fn match_to(s: TurnStockSpec, n: usize, cells: &[f64], blocks: &[f64], count: us
     ensures { result ≡ match_to s n cells.now blocks.now count }
 {
     let mut ok = true;
-    let mut j: usize = 0;
-    while j < count {
+    for j in 0..count {
         ok = ok & block_matches(s, n, cells, block_at(blocks, j), j);
-        j += 1;
     }
     ok
 }
@@ -147,19 +153,14 @@ pub fn matches(s: TurnStockSpec, n: usize, cells: &[f64], blocks: &[f64]) -> boo
 }
 
 // The number of cells of a stock whose cells fit and whose kept numbers match them; 1, 2, 3, 20.
-pub fn kept_cells(spec: TurnStockSpec, cells: &[f64], blocks: &[f64]) -> Counted
-    ensures { counted_paper result ≡ kept_stock spec cells.now blocks.now }
+pub fn kept_cells(spec: TurnStockSpec, cells: &[f64], blocks: &[f64]) -> Result<usize, Refusal>
+    ensures { paper_of result ≡ kept_stock spec cells.now blocks.now }
 {
-    let counted = stock::cells_fit(spec, cells);
-    match counted {
-        Counted::Refused(r) => Counted::Refused(r),
-        Counted::Cells(n) => {
-            if matches(stock::clean_spec(spec), n, cells, blocks) {
-                return Counted::Cells(n);
-            }
-            Counted::Refused(Refusal::BlocksDoNotMatch)
-        }
+    let n = stock::cells_fit(spec, cells)?;
+    if matches(stock::clean_spec(spec), n, cells, blocks) {
+        return Ok(n);
     }
+    Err(Refusal::BlocksDoNotMatch)
 }
 
 // All blocks of n cells, written over as many numbers.
@@ -167,10 +168,8 @@ fn write_all(s: TurnStockSpec, n: usize, cells: &[f64], blocks: &mut [f64], coun
     requires { (count ≡ blocks_in n) × (length blocks.old ≡ 2 * count) }
     ensures { blocks.new ≡ blocks_of s n cells.now }
 {
-    let mut j: usize = 0;
-    while j < count {
+    for j in 0..count {
         put_block(blocks, j, block_of(s, n, cells, j));
-        j += 1;
     }
 }
 
@@ -187,31 +186,24 @@ pub fn renew_all(s: TurnStockSpec, n: usize, cells: &[f64], blocks: &mut [f64])
 
 // All blocks of a stock, worked out of its cells: how many cells those are; 1, 2, 3, and 20 where
 // the lent numbers are not as many.
-pub fn renew(spec: TurnStockSpec, cells: &[f64], blocks: &mut [f64]) -> Counted
+pub fn renew(spec: TurnStockSpec, cells: &[f64], blocks: &mut [f64]) -> Result<usize, Refusal>
     ensures { Renews spec cells.now result blocks }
 {
-    let counted = stock::cells_fit(spec, cells);
-    match counted {
-        Counted::Refused(r) => Counted::Refused(r),
-        Counted::Cells(n) => {
-            let count = blocks_in(n);
-            if blocks.len() != 2 * count {
-                return Counted::Refused(Refusal::BlocksDoNotMatch);
-            }
-            write_all(stock::clean_spec(spec), n, cells, blocks, count);
-            Counted::Cells(n)
-        }
+    let n = stock::cells_fit(spec, cells)?;
+    let count = blocks_in(n);
+    if blocks.len() != 2 * count {
+        return Err(Refusal::BlocksDoNotMatch);
     }
+    write_all(stock::clean_spec(spec), n, cells, blocks, count);
+    Ok(n)
 }
 
 // The lent numbers with -0.0 read as +0.0.
 pub fn clear(blocks: &mut [f64])
     ensures { blocks.new ≡ map clean_of blocks.old }
 {
-    let mut i: usize = 0;
-    while i < blocks.len() {
-        blocks[i] = floats::clean(blocks[i]);
-        i += 1;
+    for x in blocks.iter_mut() {
+        *x = floats::clean(*x);
     }
 }
 
@@ -260,10 +252,8 @@ fn renew_over(
     ensures { blocks.new ≡ renew_over s n cells.now blocks.old (take k indices.now) }
 {
     let mut block = blocks_in(n);
-    let mut i: usize = 0;
-    while i < k {
+    for i in 0..k {
         block = leave_block(s, n, cells, blocks, block, indices[i]);
-        i += 1;
     }
     renew_block(s, n, cells, blocks, block);
 }
@@ -296,10 +286,8 @@ fn join_kept(k: Band, blocks: &[f64], a: usize, e: usize) -> Band
     ensures { result ≡ join_from k blocks.now a (e - a) }
 {
     let mut found = k;
-    let mut j: usize = a;
-    while j < e {
-        found = bins::join(found, block_at(blocks, j));
-        j += 1;
+    for j in a..e {
+        found = queries::join(found, block_at(blocks, j));
     }
     found
 }
@@ -331,11 +319,18 @@ fn bins_over(s: TurnStockSpec, n: usize, lo: f64, hi: f64) -> BinSpan
 }
 
 // What may remain over a range of n cells, by kept numbers: none of these is asked.
-fn kept_between(s: TurnStockSpec, n: usize, cells: &[f64], blocks: &[f64], lo: f64, hi: f64) -> Seen
-    ensures { seen_paper result ≡ answers (kept_between s n cells.now blocks.now lo hi) }
+fn kept_between(
+    s: TurnStockSpec,
+    n: usize,
+    cells: &[f64],
+    blocks: &[f64],
+    lo: f64,
+    hi: f64,
+) -> Option<Band>
+    ensures { result ≡ kept_between s n cells.now blocks.now lo hi }
 {
     if !((lo <= hi) & (s.z_min_mm <= hi) & (lo <= s.z_max_mm)) {
-        return Seen::Nothing;
+        return None;
     }
     let from = floats::greatest(lo, s.z_min_mm);
     let to = floats::least(hi, s.z_max_mm);
@@ -354,7 +349,7 @@ pub fn range_kept(
     blocks: &[f64],
     lo: f64,
     hi: f64,
-) -> Seen
+) -> Option<Band>
     ensures { RangeKept spec n cells.now blocks.now lo hi result }
 {
     let s = stock::clean_spec(spec);
@@ -364,12 +359,15 @@ pub fn range_kept(
 // The most material that may remain between two heights, from bore to outer radius: over the bins
 // from the first to the last that `envelope_at` looks at for its ends, which are brought to the edge of
 // the stock; nothing where the range is reversed or wholly outside, or an end is a NaN; 1, 2, 3, 20.
-pub fn range(spec: TurnStockSpec, cells: &[f64], blocks: &[f64], lo: f64, hi: f64) -> Seen
-    ensures { seen_paper result ≡ range_of spec cells.now blocks.now lo hi }
+pub fn range(
+    spec: TurnStockSpec,
+    cells: &[f64],
+    blocks: &[f64],
+    lo: f64,
+    hi: f64,
+) -> Result<Option<Band>, Refusal>
+    ensures { paper_of result ≡ range_of spec cells.now blocks.now lo hi }
 {
-    let counted = kept_cells(spec, cells, blocks);
-    match counted {
-        Counted::Refused(r) => Seen::Refused(r),
-        Counted::Cells(n) => range_kept(spec, n, cells, blocks, lo, hi),
-    }
+    let n = kept_cells(spec, cells, blocks)?;
+    Ok(range_kept(spec, n, cells, blocks, lo, hi))
 }

@@ -1,10 +1,10 @@
 // Whether kept numbers are those of some bins, by tests alone: no bin with material has more, and some has
 // as much, or they are those of no material. Tests go through several bins at once, where a least and a
 // greatest wait for the one before.
-ghost use Rattle.std.specs.Prelude.{◌≡◌, ◌*◌, ◌-◌, ◌≤◌, length};
+ghost use Rattle.std.specs.Prelude.{◌≡◌, ◌-◌};
 ghost use Rattle.blocks.specs.Tested.{met_none, met_with, met_from};
 
-use crate::bins;
+use crate::bins::{Bins, most_at};
 use queries::Band;
 use stock::TurnStockSpec;
 
@@ -41,16 +41,13 @@ fn met_with(kept: Band, m: Met, b: Band) -> Met
     }
 }
 
-// The bins from a up to e, onto m, of a list that has them.
-pub fn met_over(kept: Band, m: Met, cells: &[f64], a: usize, e: usize) -> Met
-    requires { 4 * e ≤ length cells.now }
-    ensures { result ≡ met_from kept m cells.now a (e - a) }
+// Those bins, onto m.
+pub fn met_over(kept: Band, m: Met, bins: &Bins<'_>) -> Met
+    ensures { result ≡ met_from kept m bins.now.cells.now bins.now.a (bins.now.e - bins.now.a) }
 {
     let mut met = m;
-    let mut i: usize = a;
-    while i < e {
-        met = met_with(kept, met, bins::most_at(cells, i));
-        i += 1;
+    for i in bins.a..bins.e {
+        met = met_with(kept, met, most_at(bins.cells, i));
     }
     met
 }

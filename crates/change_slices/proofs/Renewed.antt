@@ -1,8 +1,13 @@
 -- The kept numbers of a list of records, and what a commit of them leaves: where it is accepted, those of the cells afterwards. Assumes nothing.
+use Rattle.std.specs.Prelude.{Result, Err, Ok}
+use Rattle.std.proofs.Common.{IsErrAnd}
+use Rattle.std.proofs.lemmas.Result.{err_from_is_err_and}
 use mathlib.Core.Path.{◌≡◌, refl, sym, ap, ◌∙◌, subst}
 use mathlib.Core.Bool.{Bool, true, false, false≢true}
 use mathlib.Core.List.{List, ◌∷◌, foldl, map}
 use Prim.Native.Nat.{ℕ, ◌/◌}
+use Rattle.refusals.specs.Number.{placed_of}
+use Rattle.refusals.specs.declared.Refused.{Refused}
 use native.Mathlib.Omega.{arith}
 use lib.ListN.{length}
 use lib.Seq.{take-length}
@@ -21,8 +26,7 @@ use Rattle.stock.proofs.Count.{stock-length}
 use Rattle.blocks.specs.Block.{matches_of}
 use Rattle.blocks.specs.Renew.{renew_at, Open, leave_for, renew_over, LeavesBlocks}
 use Rattle.blocks.proofs.Touched.{bins_of}
-use Rattle.changes.specs.declared.Applied.{Applied}
-use Rattle.changes.specs.Commit.{pass_all, put_all, commit_in, asked_stock, commit_of, applied_paper, generation_of, stock_at, Applies, numbers_kept, AppliesKept}
+use Rattle.changes.specs.Commit.{pass_all, put_all, commit_in, asked_stock, commit_of, generation_of, stock_at, Applies, numbers_kept, AppliesKept}
 use Rattle.changes.specs.Decide.{raised_of, is_accepted}
 use Rattle.changes.proofs.Decided.{raised-in, puts-all, answering, accepted-as, written, refused}
 use Rattle.changes.proofs.Kept.{asked, renewed-all, kept_by}
@@ -63,15 +67,25 @@ renewable k cs bs n hs hc hb e m l =
 -- ---- the answer of a commit
 module _ (k : TurnStock) (cs bs : List Float) (st : Stamp) where
   -- refused before its changes are looked at
-  pub answer-refused : (p : Paper (Unit {0})) (r : Reason) (a : Applied) → asked_stock k cs bs st ≡ refuses r → applied_paper a ≡ refuses r → is_accepted a ≡ false → Answers k cs bs st p a
+  pub answer-refused : (p : Paper (Unit {0})) (r : Reason) (a : Result TurnStock Refused) → asked_stock k cs bs st ≡ refuses r → placed_of a ≡ refuses r → is_accepted a ≡ false → Answers k cs bs st p a
   unfolding raised_for onward
   answer-refused p r a e ea f = record { answer = ea ∙ ap (λ (q : Paper ℕ). stock_at k (onward q (λ _. raised_of p k.stamp.generation))) (sym e); keeps = λ y. absurd (false≢true (sym f ∙ y)) }
 
-  pub answer-raised : (p : Paper (Unit {0})) (n : ℕ) (a : Applied) → HeldSpec k.spec → HeldList cs → HeldList bs → asked_stock k cs bs st ≡ answers n → applied_paper a ≡ stock_at k (raised_of p k.stamp.generation) → Answers k cs bs st p a
+  pub answer-raised : (p : Paper (Unit {0})) (n : ℕ) (a : Result TurnStock Refused) → HeldSpec k.spec → HeldList cs → HeldList bs → asked_stock k cs bs st ≡ answers n → placed_of a ≡ stock_at k (raised_of p k.stamp.generation) → Answers k cs bs st p a
   unfolding raised_for onward
   answer-raised p n a hs hc hb e ea =
       let f = asked k cs bs st n e in
       record { answer = ea ∙ ap (λ (q : Paper ℕ). stock_at k (onward q (λ _. raised_of p k.stamp.generation))) (sym e); keeps = λ _. renewable k cs bs n hs hc hb f.stock f.matched }
+
+  -- where a `?` stands behind it: a refusal of it is the answer, and past it the changes are accepted
+  pub answers-on : (p : Paper (Unit {0})) (a : Result TurnStock Refused) → Answers k cs bs st p a → (r : Result TurnStock Refused) (x : Refused) → a ≡ Err x → IsErrAnd r (λ c. c ≡ x) → Answers k cs bs st p r × (false ≡ is_accepted r)
+  answers-on p a s r x e h =
+      let c = err_from_is_err_and r h in
+      let v : r ≡ Err x = c.1 ∙ ap Err c.2 in
+      (subst (λ (b : Result TurnStock Refused). Answers k cs bs st p b) (e ∙ sym v) s, sym (ap is_accepted v))
+
+  pub answers-past : (p : Paper (Unit {0})) (a : Result TurnStock Refused) → Answers k cs bs st p a → (m : TurnStock) → a ≡ Ok m → Answers k cs bs st p (Ok m)
+  answers-past p a s m e = subst (λ (b : Result TurnStock Refused). Answers k cs bs st p b) e s
 
   module _ (l : List TurnChange) where
     -- with what the records say it is that of the rule
@@ -85,13 +99,13 @@ module _ (k : TurnStock) (cs bs : List Float) (st : Stamp) where
             ∙ ap (λ (j : ℕ). generation_of (commit_in (clean_spec k.spec) j cs k.stamp.generation l)) (sym (cells_in k cs n (asked k cs bs st n e).stock))
         go (refuses r) e = refl
 
-    pub commit-done : (s : TurnStockSpec) (p : Paper (Unit {0})) (r : Applied) (t : Bool) (cs' bs' : List Float) → s ≡ clean_spec k.spec → p ≡ pass_all s (length cs / 4) cs l → Answers k cs bs st p r → t ≡ is_accepted r → WrittenKept t s (length cs / 4) l cs cs' bs bs' → AppliesKept k (commit_of k cs bs st l) r cs cs' bs bs'
+    pub commit-done : (s : TurnStockSpec) (p : Paper (Unit {0})) (r : Result TurnStock Refused) (t : Bool) (cs' bs' : List Float) → s ≡ clean_spec k.spec → p ≡ pass_all s (length cs / 4) cs l → Answers k cs bs st p r → t ≡ is_accepted r → WrittenKept t s (length cs / 4) l cs cs' bs bs' → AppliesKept k (commit_of k cs bs st l) r cs cs' bs bs'
     commit-done s p r t cs' bs' es ep a et w = kept_by k cs bs l k.stamp.generation (commit_of k cs bs st l) (puts-all k cs bs st l) fresh all r cs' bs' (left (is_accepted r) refl) (w.kept ∙ ap (λ (x : Bool). pick x fresh bs) et)
       where
         fresh : List Float
         fresh = renewed_over s (length cs / 4) (put_all cs l) bs l
 
-        says : applied_paper r ≡ stock_at k (generation_of (commit_of k cs bs st l))
+        says : placed_of r ≡ stock_at k (generation_of (commit_of k cs bs st l))
         says = a.answer ∙ ap (λ (q : Paper (Unit {0})). stock_at k (raised_for k cs bs st q)) (ep ∙ ap (λ (x : TurnStockSpec). pass_all x (length cs / 4) cs l) es) ∙ ap (stock_at k) raised_all
 
         all : answering (commit_of k cs bs st l) ≡ true → fresh ≡ numbers_kept k.spec (put_all cs l)

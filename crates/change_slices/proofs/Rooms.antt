@@ -1,8 +1,10 @@
 -- A proposal with room for a change a cell, narrowed to the room that is lent, is the proposal with that room. So flat lists with room for every cell serve any number of records. Assumes nothing.
+use Rattle.std.specs.Prelude.{Err, Ok, Result}
 use mathlib.Core.Path.{◌≡◌, refl, sym, ap, ap₂, ◌∙◌, subst}
 use mathlib.Core.Bool.{Bool, true, false, not}
 use mathlib.Core.List.{List}
 use Prim.Native.Nat.{ℕ, ◌*◌, ◌≤◌}
+use Rattle.refusals.specs.declared.Refusal.{Refusal}
 use native.Mathlib.Nat.{le_trans}
 use native.Mathlib.Omega.{arith}
 use lib.Dec.{leb, ltb}
@@ -10,7 +12,7 @@ use lib.ListN.{length, length-append, length-map}
 use borrow.Author.Tests.{le-leb, lt-leb, ltb-true, ltb-false}
 use lib.Ieee.{Float}
 use Rattle.refusals.specs.declared.Refusal.TheVariants.{ChangesOverRoom}
-use Rattle.refusals.specs.Number.{reason_of}
+use Rattle.refusals.specs.Number.{reason_of, paper_of}
 use Rattle.refusals.specs.Paper.{Paper, Reason, answers, refuses, only, demand, onward, demand-true, demand-false, onward-answers}
 use Rattle.refusals.specs.Limits.{cell_limit}
 use Rattle.refusals.specs.Lent.{over}
@@ -24,9 +26,7 @@ use Rattle.stock.specs.Cell.{stock_of}
 use Rattle.stock.proofs.Count.{stocked, checked, same_answer, no_answer}
 use Rattle.reach.specs.Reach.{Act, act_cell}
 use Rattle.changes.specs.declared.ChangeList.{ChangeList}
-use Rattle.changes.specs.declared.Previewed.{Previewed}
-use Rattle.changes.specs.declared.Previewed.TheVariants.{Listed, Refused}
-use Rattle.changes.specs.Change.{changes_to, indices_of, numbers_of, room_of, changes_from, settled, previewed_paper, stamped, count_of, written_of, Proposed}
+use Rattle.changes.specs.Change.{changes_to, indices_of, numbers_of, room_of, changes_from, settled, stamped, count_of, written_of, Proposed}
 use Rattle.changes.proofs.Rising.{at_most}
 use Rattle.changes.proofs.Placed.{length-numbers}
 use Rattle.changes.proofs.ReadBack.{read_back}
@@ -98,7 +98,7 @@ from-over l k is is' xs xs' ek ei ex = ap₂ (λ (p : List ℕ) (q : List Float)
 
 module _ (st : Stamp) (room : ℕ) (is is' : List ℕ) (xs xs' : List Float) where
   -- it answers with no more than room
-  lists-enough : (l : List TurnChange) (list : ChangeList) → list ≡ record { count = length l; stamp = st } → is' ≡ over (indices_of l) is → xs' ≡ over (numbers_of l) xs → length l ≤ room → ListsRecords st room (answers l) (Listed list) is' xs'
+  lists-enough : (l : List TurnChange) (list : ChangeList) → list ≡ record { count = length l; stamp = st } → is' ≡ over (indices_of l) is → xs' ≡ over (numbers_of l) xs → length l ≤ room → ListsRecords st room (answers l) (Ok list) is' xs'
   lists-enough l list e ei ex h =
       let ek : list.count ≡ length l = ap (λ (x : ChangeList). x.count) e in
       let a = over-holds (indices_of l) is in
@@ -115,35 +115,35 @@ module _ (st : Stamp) (room : ℕ) (is is' : List ℕ) (xs xs' : List Float) whe
       }
 
   -- it refuses
-  none : (r : Reason) (c : Previewed) → previewed_paper c ≡ refuses r → count_in c ≡ 0 → ListsRecords st room (refuses r) c is' xs'
+  none : (r : Reason) (c : Result ChangeList Refusal) → paper_of c ≡ refuses r → count_in c ≡ 0 → ListsRecords st room (refuses r) c is' xs'
   unfolding changes_from
   none r c e z = record { answer = e; changes = ap (changes_from is' xs') z; held = omega arith; few = omega arith }
 
-  narrow-lists : (p : Paper (List TurnChange)) (a : Previewed) → Proposed st p a is is' xs xs' → ListsRecords st room (narrowed room p) (narrow_answer room a) is' xs'
+  narrow-lists : (p : Paper (List TurnChange)) (a : Result ChangeList Refusal) → Proposed st p a is is' xs xs' → ListsRecords st room (narrowed room p) (narrow_answer room a) is' xs'
   unfolding onward narrow_answer
-  narrow-lists (answers l) (Listed list) q =
+  narrow-lists (answers l) (Ok list) q =
       let e : list ≡ record { count = length l; stamp = st } = same_answer q.answer in
       let ek : list.count ≡ length l = ap (λ (x : ChangeList). x.count) e in
       go (ltb room list.count) refl e ek
     where
-      go : (t : Bool) → ltb room list.count ≡ t → list ≡ record { count = length l; stamp = st } → list.count ≡ length l → ListsRecords st room (settled room l) (pick t (Refused ChangesOverRoom) (Listed list)) is' xs'
+      go : (t : Bool) → ltb room list.count ≡ t → list ≡ record { count = length l; stamp = st } → list.count ≡ length l → ListsRecords st room (settled room l) (pick t (Err ChangesOverRoom) (Ok list)) is' xs'
       go true t e ek =
           let h = ltb-true room list.count t in
           let f : settled room l ≡ refuses (only 6) = demand-false (leb (length l) room) 6 (answers l) (lt-leb (length l) room (omega arith)) in
-          rw (f, pick_true true (Refused ChangesOverRoom) (Listed list) refl) (none (only 6) (Refused ChangesOverRoom) refl refl)
+          rw (f, pick_true true (Err ChangesOverRoom) (Ok list) refl) (none (only 6) (Err ChangesOverRoom) refl refl)
       go false t e ek =
           let h = ltb-false room list.count t in
           let f : settled room l ≡ answers l = demand-true (leb (length l) room) 6 (answers l) (le-leb (length l) room (omega arith)) in
-          rw (f, pick-false false (Refused ChangesOverRoom) (Listed list) refl) (lists-enough l list e q.indices q.numbers (omega arith))
-  narrow-lists (answers l) (Refused c) q = absurd (no_answer (reason_of c) _ q.answer)
-  narrow-lists (refuses r) (Listed list) q = absurd (no_answer r list (sym q.answer))
-  narrow-lists (refuses r) (Refused c) q = none r (Refused c) q.answer refl
+          rw (f, pick-false false (Err ChangesOverRoom) (Ok list) refl) (lists-enough l list e q.indices q.numbers (omega arith))
+  narrow-lists (answers l) (Err c) q = absurd (no_answer (reason_of c) _ q.answer)
+  narrow-lists (refuses r) (Ok list) q = absurd (no_answer r list (sym q.answer))
+  narrow-lists (refuses r) (Err c) q = none r (Err c) q.answer refl
 
-  pub narrows : (p : Paper (List TurnChange)) (a r : Previewed) → Proposed st p a is is' xs xs' → r ≡ narrow_answer room a → ListsRecords st room (narrowed room p) r is' xs'
-  narrows p a r q e = subst (λ (x : Previewed). ListsRecords st room (narrowed room p) x is' xs') (sym e) (narrow-lists p a q)
+  pub narrows : (p : Paper (List TurnChange)) (a r : Result ChangeList Refusal) → Proposed st p a is is' xs xs' → r ≡ narrow_answer room a → ListsRecords st room (narrowed room p) r is' xs'
+  narrows p a r q e = subst (λ (x : Result ChangeList Refusal). ListsRecords st room (narrowed room p) x is' xs') (sym e) (narrow-lists p a q)
 
 -- ---- the records that are read from them
-pub records-hold : (st : Stamp) (p q : Paper (List TurnChange)) (r : Previewed) (is : List ℕ) (xs : List Float) (k : ℕ) (l l' : List TurnChange) → p ≡ q → ListsRecords st (length l) q r is xs → Reads is xs (count_in r) k l l' → Written st p r l l'
+pub records-hold : (st : Stamp) (p q : Paper (List TurnChange)) (r : Result ChangeList Refusal) (is : List ℕ) (xs : List Float) (k : ℕ) (l l' : List TurnChange) → p ≡ q → ListsRecords st (length l) q r is xs → Reads is xs (count_in r) k l l' → Written st p r l l'
 records-hold st p q r is xs k l l' e w d =
     let h : k ≡ count_in r = d.count ∙ held_all (length is) (length xs) (count_in r) (length l) w.held w.few in
     record {

@@ -1,4 +1,5 @@
 -- The records that are read after a preview are the changes that it proposed. Assumes nothing.
+use Rattle.std.specs.Prelude.{Ok}
 use mathlib.Core.Path.{◌≡◌, ◌∙◌, ap, ap₂}
 use mathlib.Core.List.{List}
 use Prim.Native.Nat.{ℕ, ◌≤◌}
@@ -9,7 +10,6 @@ use Rattle.refusals.specs.Lent.{over}
 use Rattle.stock.specs.declared.TurnChange.{TurnChange}
 use Rattle.stock.specs.declared.Stamp.{Stamp}
 use Rattle.changes.specs.declared.ChangeList.{ChangeList}
-use Rattle.changes.specs.declared.Previewed.TheVariants.{Listed}
 use Rattle.changes.specs.Change.{room_of, indices_of, numbers_of, changes_from, settled, Proposed}
 use Rattle.changes.proofs.ReadBack.{read_back}
 use Rattle.changes.proofs.Proposal.{Wrote, wrote, room-kept}
@@ -17,7 +17,7 @@ use Rattle.changes.proofs.Proposals.{of-stock}
 use Rattle.change_slices.specs.Read.{Reads}
 use Rattle.change_slices.proofs.Reading.{held_all}
 
-module _ (st : Stamp) (l : List TurnChange) (list : ChangeList) (is is' : List ℕ) (xs xs' : List Float) (p : Proposed st (settled (room_of (length is) (length xs)) l) (Listed list) is is' xs xs') where
+module _ (st : Stamp) (l : List TurnChange) (list : ChangeList) (is is' : List ℕ) (xs xs' : List Float) (p : Proposed st (settled (room_of (length is) (length xs)) l) (Ok list) is is' xs xs') where
   told : Wrote l list.count is is' xs xs'
   told = wrote l list.count is is' xs xs' (of-stock st (settled (room_of (length is) (length xs)) l) list is is' xs xs' p).tally
 

@@ -1,6 +1,8 @@
 -- Proved to come to `CommitsKept` of `commit_of` and to `MovesLent` of `move_list_of` (proofs/Renewed, proofs/Taking); need not be believed.
 -- The kept numbers of a list of changes, and what a commit and a move of it ask beside its records. Assumes nothing.
-use Rattle.std.specs.Prelude.{◌≡◌, Bool, true, List, map, ℕ, ◌/◌, length, Float}
+use Rattle.std.specs.Prelude.{◌≡◌, Bool, true, List, map, ℕ, ◌/◌, length, Float, Result}
+use Rattle.refusals.specs.Number.{placed_of}
+use Rattle.refusals.specs.declared.Refused.{Refused}
 use Rattle.refusals.specs.Paper.{Paper, onward}
 use Rattle.refusals.specs.Lent.{Lent}
 use Rattle.floats.specs.Pick.{pick}
@@ -13,10 +15,9 @@ use Rattle.stock.specs.Spec.{clean_spec}
 use Rattle.stock.specs.Cell.{stock_of}
 use Rattle.blocks.specs.Block.{blocks_in}
 use Rattle.blocks.specs.Renew.{renew_over}
-use Rattle.rings.specs.declared.Counts.{Counts}
+use Rattle.rings.specs.declared.RingCount.{RingCount}
 use Rattle.rings.specs.Tests.{list_tests}
-use Rattle.changes.specs.declared.Applied.{Applied}
-use Rattle.changes.specs.Commit.{put_all, asked_stock, applied_paper, stock_at, numbers_kept}
+use Rattle.changes.specs.Commit.{put_all, asked_stock, stock_at, numbers_kept}
 use Rattle.changes.specs.Decide.{raised_of, is_accepted}
 use Rattle.moves.specs.Move.{RingsLeft, taken_of, TakesRings, is_moved, told_tests}
 
@@ -37,9 +38,6 @@ pub record WrittenKept (t : Bool) (s : TurnStockSpec) (n : ℕ) (l : List TurnCh
   pub cells : cs' ≡ pick t (put_all cs l) cs
   pub kept : bs' ≡ pick t (renewed_over s n (put_all cs l) bs l) bs
 
-abbrev pub WritesKept : Bool → TurnStockSpec → ℕ → List TurnChange → Lent Float → Lent Float → Type 0
-WritesKept t s n l cells blocks = WrittenKept t s n l cells.entry.now cells.exit.now blocks.entry.now blocks.exit.now
-
 -- ---- beside the records
 
 -- kept numbers of which, after any changes, those of their blocks worked out make all
@@ -51,8 +49,8 @@ unfoldable pub raised_for : TurnStock → List Float → List Float → Stamp �
 raised_for k cs bs st p = onward (asked_stock k cs bs st) (λ _. raised_of p k.stamp.generation)
 
 -- its answer; where it is accepted the kept numbers are such
-pub record Answers (k : TurnStock) (cs bs : List Float) (st : Stamp) (p : Paper (Unit {0})) (r : Applied) : Type 0 where
-  pub answer : applied_paper r ≡ stock_at k (raised_for k cs bs st p)
+pub record Answers (k : TurnStock) (cs bs : List Float) (st : Stamp) (p : Paper (Unit {0})) (r : Result TurnStock Refused) : Type 0 where
+  pub answer : placed_of r ≡ stock_at k (raised_for k cs bs st p)
   pub keeps : is_accepted r ≡ true → Renewable k cs bs
 
 -- the rings of a move whose changes say p: 1, 2, 3, 4, 19, 20, 10, then what they say, 12, 11
@@ -60,11 +58,11 @@ unfoldable pub taken_for : TurnStock → List Float → List Float → List Floa
 taken_for k cs bs xs st p removed = onward (stock_of k.spec cs) (λ n. taken_of k n cs bs xs st p removed)
 
 -- its answer and the lent rings; where they are taken the kept numbers are such
-pub record Takes (k : TurnStock) (cs bs : List Float) (st : Stamp) (p : Paper (Unit {0})) (removed : List Float) (r : Counts) (xs xs' : List Float) : Type 0 where
+pub record Takes (k : TurnStock) (cs bs : List Float) (st : Stamp) (p : Paper (Unit {0})) (removed : List Float) (r : Result RingCount Refused) (xs xs' : List Float) : Type 0 where
   pub taken : TakesRings (taken_for k cs bs xs st p removed) r xs xs'
   pub keeps : is_moved r ≡ true → Renewable k cs bs
 
 -- the same, with the tests of each ring at the front of a lent list
-pub record TakesTold (k : TurnStock) (cs bs : List Float) (st : Stamp) (p : Paper (Unit {0})) (removed : List Float) (r : Counts) (xs xs' : List Float) (ts ts' : List ℕ) : Type 0 where
+pub record TakesTold (k : TurnStock) (cs bs : List Float) (st : Stamp) (p : Paper (Unit {0})) (removed : List Float) (r : Result RingCount Refused) (xs xs' : List Float) (ts ts' : List ℕ) : Type 0 where
   pub takes : Takes k cs bs st p removed r xs xs'
   pub tests : ts' ≡ told_tests (taken_for k cs bs xs st p removed) (list_tests k.spec xs k.rings removed ts) ts

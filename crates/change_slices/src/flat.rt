@@ -3,24 +3,20 @@ ghost use Rattle.std.specs.Prelude.{◌≡◌};
 ghost use Rattle.cuts.specs.Tool.{preview_tool};
 ghost use Rattle.change_slices.specs.Proposal.{narrow_answer, count_in, ListsIn};
 
-use changes::Previewed;
+use changes::ChangeList;
 use cuts::Tool;
 use refusals::Refusal;
 use stock::TurnStock;
 
 // The same answer where it counts no more than room changes; 6.
-fn narrow(answer: Previewed, room: usize) -> Previewed
+fn narrow(answer: Result<ChangeList, Refusal>, room: usize) -> Result<ChangeList, Refusal>
     ensures { result ≡ narrow_answer room answer }
 {
-    match answer {
-        Previewed::Refused(r) => Previewed::Refused(r),
-        Previewed::Listed(list) => {
-            if room < list.count {
-                return Previewed::Refused(Refusal::ChangesOverRoom);
-            }
-            Previewed::Listed(list)
-        }
+    let list = answer?;
+    if room < list.count {
+        return Err(Refusal::ChangesOverRoom);
     }
+    Ok(list)
 }
 
 // The changes of a tool in the flat lists, where they are no more than room.
@@ -32,7 +28,7 @@ pub fn list(
     room: usize,
     indices: &mut [usize],
     records: &mut [f64],
-) -> Previewed
+) -> Result<ChangeList, Refusal>
     ensures { ListsIn stock.stamp room (preview_tool stock.spec cells.now tool beside.now) result indices records }
 {
     let answer = cuts::preview_tool(stock, cells, tool, beside, indices, records);
@@ -40,11 +36,11 @@ pub fn list(
 }
 
 // How many changes an answer counts; none where it is a refusal.
-pub fn count_of(answer: Previewed) -> usize
+pub fn count_of(answer: Result<ChangeList, Refusal>) -> usize
     ensures { result ≡ count_in answer }
 {
     match answer {
-        Previewed::Listed(list) => list.count,
-        Previewed::Refused(_) => 0,
+        Ok(list) => list.count,
+        Err(_) => 0,
     }
 }

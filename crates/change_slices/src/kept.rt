@@ -1,13 +1,13 @@
 // What a list of changes is asked beside its records, and the kept numbers of the blocks of its bins.
 ghost use Rattle.std.specs.Prelude.{◌≡◌};
+ghost use Rattle.refusals.specs.Number.{placed_of};
 ghost use Rattle.stock.specs.Spec.{clean_spec};
 ghost use Rattle.blocks.specs.Renew.{LeavesFor};
-ghost use Rattle.changes.specs.Commit.{passing_paper};
 ghost use Rattle.change_slices.specs.Kept.{OpensBlocks, Answers, Takes, TakesTold};
 
-use changes::{Applied, Passing};
-use rings::Counts;
-use stock::{Counted, Stamp, TurnChange, TurnStock, TurnStockSpec};
+use refusals::Refused;
+use rings::RingCount;
+use stock::{Stamp, TurnChange, TurnStock, TurnStockSpec};
 
 // The spec of a stock with its numbers clean.
 pub fn clean(stock: TurnStock) -> TurnStockSpec
@@ -47,15 +47,12 @@ pub fn answer(
     cells: &[f64],
     blocks: &[f64],
     stamp: Stamp,
-    found: Passing,
-) -> Applied
-    ensures { Answers stock cells.now blocks.now stamp (passing_paper found) result }
+    found: Result<(), Refused>,
+) -> Result<TurnStock, Refused>
+    ensures { Answers stock cells.now blocks.now stamp (placed_of found) result }
 {
-    let counted = changes::asked_cells(stock, cells, blocks, stamp);
-    match counted {
-        Counted::Refused(r) => Applied::Refused(r),
-        Counted::Cells(_) => changes::raised(found, stock),
-    }
+    changes::asked_cells(stock, cells, blocks, stamp)?;
+    changes::raised(found, stock)
 }
 
 // The rings of a move whose changes say `found`, taken: 1, 2, 3, 4, 19, 20, 10, then what they say, 12,
@@ -66,18 +63,13 @@ fn take_found(
     blocks: &[f64],
     rings: &mut [f64],
     stamp: Stamp,
-    found: Passing,
+    found: Result<(), Refused>,
     removed: &[f64],
-) -> Counts
-    ensures { Takes stock cells.now blocks.now stamp (passing_paper found) removed.now result rings.old rings.new }
+) -> Result<RingCount, Refused>
+    ensures { Takes stock cells.now blocks.now stamp (placed_of found) removed.now result rings.old rings.new }
 {
-    let counted = stock::cells_fit(stock.spec, cells);
-    match counted {
-        Counted::Refused(r) => Counts::Refused(r),
-        Counted::Cells(n) => {
-            moves::take_rings(stock, n, cells, blocks, rings, stamp, found, removed)
-        }
-    }
+    let n = stock::cells_fit(stock.spec, cells)?;
+    moves::take_rings(stock, n, cells, blocks, rings, stamp, found, removed)
 }
 
 // The same, and in `tests`, as far as it reaches, the tests that each ring took.
@@ -87,16 +79,14 @@ pub fn take(
     blocks: &[f64],
     rings: &mut [f64],
     stamp: Stamp,
-    found: Passing,
+    found: Result<(), Refused>,
     removed: &[f64],
     tests: &mut [usize],
-) -> Counts
-    ensures { TakesTold stock cells.now blocks.now stamp (passing_paper found) removed.now result
+) -> Result<RingCount, Refused>
+    ensures { TakesTold stock cells.now blocks.now stamp (placed_of found) removed.now result
         rings.old rings.new tests.old tests.new }
 {
-    let counts = take_found(stock, cells, blocks, rings, stamp, found, removed);
-    let spec = stock.spec;
-    let taken = moves::is_moved(counts);
-    moves::tell_tests(taken, spec, rings, stock.rings, removed, tests);
-    counts
+    let left = take_found(stock, cells, blocks, rings, stamp, found, removed)?;
+    rings::list_tests(stock.spec, rings, stock.rings, removed, tests);
+    Ok(left)
 }

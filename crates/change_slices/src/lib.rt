@@ -8,19 +8,19 @@
 #![tactic(auto)]
 
 ghost use Rattle.std.specs.Prelude.{◌≡◌};
+ghost use Rattle.refusals.specs.Number.{placed_of};
 ghost use Rattle.stock.specs.Cell.{put_cell};
-ghost use Rattle.changes.specs.Commit.{pass_all, passing_paper, commit_of, put_all, CommitsKept};
+ghost use Rattle.changes.specs.Commit.{pass_all, commit_of, put_all, CommitsKept};
 ghost use Rattle.cuts.specs.Tool.{preview_tool};
 ghost use Rattle.moves.specs.Move.{MovesLent};
 ghost use Rattle.change_slices.specs.Read.{held_in, ReadsInto};
 ghost use Rattle.change_slices.specs.Move.{move_list_of};
-ghost use Rattle.change_slices.specs.Kept.{renewed_over, WritesKept};
+ghost use Rattle.change_slices.specs.Kept.{renewed_over};
 ghost use Rattle.change_slices.specs.Proposal.{Writes};
 
-use changes::{Applied, Passing, Previewed};
+use changes::ChangeList;
 use cuts::Tool;
-use moves::Moved;
-use refusals::CELL_LIMIT;
+use refusals::{CELL_LIMIT, Refusal, Refused};
 use stock::{Stamp, TurnChange, TurnStock, TurnStockSpec};
 
 mod flat;
@@ -39,14 +39,12 @@ fn put_after(cells: &mut [f64], change: TurnChange)
 }
 
 // Whether the changes pass on n cells of a clean spec: each record in turn is handed to a step.
-fn decide(s: TurnStockSpec, n: usize, cells: &[f64], changes: &[TurnChange]) -> Passing
-    ensures { passing_paper result ≡ pass_all s n cells.now changes.now }
+fn decide(s: TurnStockSpec, n: usize, cells: &[f64], changes: &[TurnChange]) -> Result<(), Refused>
+    ensures { placed_of result ≡ pass_all s n cells.now changes.now }
 {
     let mut st = changes::begin(s, n);
-    let mut i: usize = 0;
-    while i < changes.len() {
-        st = changes::step(st, cells, changes[i]);
-        i += 1;
+    for change in changes {
+        st = changes::step(st, cells, *change);
     }
     changes::outcome(st)
 }
@@ -55,11 +53,8 @@ fn decide(s: TurnStockSpec, n: usize, cells: &[f64], changes: &[TurnChange]) -> 
 fn put_all(cells: &mut [f64], changes: &[TurnChange])
     ensures { cells.new ≡ put_all cells.old changes.now }
 {
-    let mut i: usize = 0;
-    while i < changes.len() {
-        let c = changes[i];
-        put_after(cells, c);
-        i += 1;
+    for change in changes {
+        put_after(cells, *change);
     }
 }
 
@@ -75,31 +70,10 @@ fn renew_changed(
     ensures { blocks.new ≡ renewed_over s n cells.now blocks.old changes.now }
 {
     let mut block = kept::open(n, blocks);
-    let mut i: usize = 0;
-    while i < changes.len() {
-        let c = changes[i];
-        block = kept::leave(s, n, cells, blocks, block, c);
-        i += 1;
+    for change in changes {
+        block = kept::leave(s, n, cells, blocks, block, *change);
     }
     blocks::renew_block(s, n, cells, blocks, block);
-}
-
-// Every after-cell, written into its bin, and the kept numbers then, where the changes are accepted.
-fn write_accepted(
-    accepted: bool,
-    s: TurnStockSpec,
-    n: usize,
-    cells: &mut [f64],
-    blocks: &mut [f64],
-    changes: &[TurnChange],
-)
-    ensures { WritesKept accepted s n changes.now cells blocks }
-{
-    if !accepted {
-        return;
-    }
-    put_all(cells, changes);
-    renew_changed(s, n, cells, blocks, changes);
 }
 
 // Commit the changes of a list with this stamp: the stock afterwards; 1, 2, 3, 19 where the stamp is not
@@ -111,16 +85,16 @@ pub fn apply(
     blocks: &mut [f64],
     stamp: Stamp,
     changes: &[TurnChange],
-) -> Applied
+) -> Result<TurnStock, Refused>
     ensures { CommitsKept stock (commit_of stock cells.old blocks.old stamp changes.now) result cells blocks }
 {
     let s = kept::clean(stock);
     let n = cells.len() / 4;
     let found = decide(s, n, cells, changes);
-    let answer = kept::answer(stock, cells, blocks, stamp, found);
-    let accepted = changes::is_accepted(answer);
-    write_accepted(accepted, s, n, cells, blocks, changes);
-    answer
+    let after = kept::answer(stock, cells, blocks, stamp, found)?;
+    put_all(cells, changes);
+    renew_changed(s, n, cells, blocks, changes);
+    Ok(after)
 }
 
 // Commit the changes of a list with this stamp and take the rings `removed`: the stock afterwards, and in
@@ -136,7 +110,7 @@ pub fn apply_move(
     changes: &[TurnChange],
     removed: &[f64],
     tests: &mut [usize],
-) -> Moved
+) -> Result<TurnStock, Refused>
     ensures { MovesLent stock
         (move_list_of stock cells.old blocks.old rings.old stamp changes.now removed.now)
         removed.now result cells blocks rings tests }
@@ -144,10 +118,10 @@ pub fn apply_move(
     let s = kept::clean(stock);
     let n = cells.len() / 4;
     let found = decide(s, n, cells, changes);
-    let counts = kept::take(stock, cells, blocks, rings, stamp, found, removed, tests);
-    let accepted = moves::is_moved(counts);
-    write_accepted(accepted, s, n, cells, blocks, changes);
-    moves::with_counts(stock, counts)
+    let left = kept::take(stock, cells, blocks, rings, stamp, found, removed, tests)?;
+    put_all(cells, changes);
+    renew_changed(s, n, cells, blocks, changes);
+    Ok(stock::stock_with(stock, left.rings, left.generation))
 }
 
 // Of k changes, as many as flat lists of these lengths hold and as there are records.
@@ -168,11 +142,9 @@ pub fn read_changes(
     ensures { ReadsInto indices.now records.now k result changes }
 {
     let held = held_in(indices.len(), records.len(), k, changes.len());
-    let mut i: usize = 0;
-    while i < held {
+    for i in 0..held {
         let c = changes::change_at(indices, records, i);
         changes[i] = c;
-        i += 1;
     }
     held
 }
@@ -185,7 +157,7 @@ pub fn propose(
     tool: Tool,
     beside: &[f64],
     changes: &mut [TurnChange],
-) -> Previewed
+) -> Result<ChangeList, Refusal>
     ensures { Writes stock.stamp (preview_tool stock.spec cells.now tool beside.now) result changes }
 {
     let mut indices = [0usize; CELL_LIMIT];

@@ -1,9 +1,13 @@
 -- How a list that is decided change by change comes out: as the rule of the whole list has it. Assumes nothing.
-use mathlib.Core.Path.{◌≡◌, refl, sym, ◌∙◌, ap, ap₂, subst}
+use Rattle.std.specs.Prelude.{Option, None, Some, Err, Ok, Result}
+use Rattle.std.proofs.Common.{IsErrAnd}
+use Rattle.std.proofs.lemmas.Result.{err_from_is_err_and}
+use mathlib.Core.Path.{◌≡◌, refl, sym, ◌∙◌, ap, ap₂}
 use mathlib.Core.Bool.{Bool, true, false, not, ◌&&◌, ◌||◌, false≢true}
 use mathlib.Core.List.{List, [], ◌∷◌, ◌++◌}
-use mathlib.Core.Option.{Option, none, some}
 use Prim.Native.Nat.{ℕ, suc, ◌+◌, ◌≤◌, ◌<◌, min}
+use Rattle.refusals.specs.Number.{placed_of}
+use Rattle.refusals.specs.declared.Refused.{Refused}
 use native.Mathlib.Omega.{arith}
 use borrow.Author.Tests.{lt-ltb, le-ltb}
 use lib.Dec.{ltb}
@@ -17,12 +21,9 @@ use Rattle.stock.specs.declared.TurnChange.{TurnChange}
 use Rattle.stock.specs.declared.Stamp.{Stamp}
 use Rattle.stock.specs.declared.TurnStock.{TurnStock}
 use Rattle.stock.specs.Spec.{clean_spec}
-use Rattle.stock.specs.Cell.{cell_at, cell_fits, same_cell, stock_of}
-use Rattle.stock.specs.Stock.{same_stamp}
-use Rattle.changes.specs.declared.Applied.{Applied}
-use Rattle.changes.specs.declared.Applied.TheVariants as applied
+use Rattle.stock.specs.Cell.{cell_at, cell_fits, same_cell}
 use Rattle.changes.specs.Change.{room_of, change_from, change_held, changes_from}
-use Rattle.changes.specs.Commit.{only_removes, applies_to, passes, each_from, fall_after, first_fall, pass_all, put_all, commit_in, asked_stock, commit_of, Committed, applied_paper, generation_of, stock_at, cells_after, Applies}
+use Rattle.changes.specs.Commit.{only_removes, applies_to, passes, each_from, fall_after, first_fall, pass_all, put_all, commit_in, asked_stock, commit_of, Committed, generation_of, stock_at, cells_after, Applies}
 use Rattle.changes.specs.Decide.{applies, rises, Decides, on_cells, step_of, steps_of, outcome_of, raised_of, is_accepted}
 use Rattle.changes.proofs.Passed.{from_next, further}
 use Rattle.changes.proofs.Falls.{rises-none, from-length}
@@ -33,17 +34,17 @@ use Rattle.stock.proofs.Count.{and_both}
 -- the place of the first fall of those, behind the last one if there is any, the first of them at the place k
 unfoldable fall_from : Bool → ℕ → ℕ → List TurnChange → Option ℕ
 fall_from true k i l = fall_after k i l
-fall_from false k i [] = none
+fall_from false k i [] = None
 fall_from false k i (c ∷ l) = fall_after (suc k) c.index l
 
 -- a list that is decided so far, with the changes that are left
 unfoldable with_rest : List Float → Decides → List TurnChange → Paper (Unit {0})
 with_rest cs d l =
-    demand_none (pick d.rises (fall_from d.any d.count d.last l) (some d.fall)) 7
+    demand_none (pick d.rises (fall_from d.any d.count d.last l) (Some d.fall)) 7
     (onward d.found (λ _. each_from d.spec d.n cs d.count l))
 
 -- no more changes: the fall that is found, if any
-fall-end : (r any : Bool) (k i f : ℕ) (q : Paper (Unit {0})) → demand_at r 7 f q ≡ demand_none (pick r (fall_from any k i []) (some f)) 7 q
+fall-end : (r any : Bool) (k i f : ℕ) (q : Paper (Unit {0})) → demand_at r 7 f q ≡ demand_none (pick r (fall_from any k i []) (Some f)) 7 q
 unfolding demand_at demand_none pick fall_from fall_after
 fall-end true true k i f q = refl
 fall-end true false k i f q = refl
@@ -51,9 +52,9 @@ fall-end false any k i f q = refl
 
 -- the next index is above the last one, if there is any
 fall-on : (r any : Bool) (k k' i f : ℕ) (c : TurnChange) (l : List TurnChange) → k' ≡ suc k
-    → pick (r && (not any || ltb i c.index)) (fall_from true k' c.index l) (some (pick r k f)) ≡ pick r (fall_from any k i (c ∷ l)) (some f)
+    → pick (r && (not any || ltb i c.index)) (fall_from true k' c.index l) (Some (pick r k f)) ≡ pick r (fall_from any k i (c ∷ l)) (Some f)
 unfolding pick fall_from fall_after
-fall-on true true k k' i f c l e = ap (λ (m : ℕ). pick (ltb i c.index) (fall_after m c.index l) (some k)) e
+fall-on true true k k' i f c l e = ap (λ (m : ℕ). pick (ltb i c.index) (fall_after m c.index l) (Some k)) e
 fall-on true false k k' i f c l e = ap (λ (m : ℕ). fall_after m c.index l) e
 fall-on false any k k' i f c l e = refl
 
@@ -89,7 +90,7 @@ module _ (cs : List Float) where
   unfolding outcome_of with_rest
   comes-end d =
       fall-end d.rises d.any d.count d.last d.fall d.found
-      ∙ ap (λ (q : Paper (Unit {0})). demand_none (pick d.rises (fall_from d.any d.count d.last []) (some d.fall)) 7 q) (sym (found-end d.spec d.n d.count d.found))
+      ∙ ap (λ (q : Paper (Unit {0})). demand_none (pick d.rises (fall_from d.any d.count d.last []) (Some d.fall)) 7 q) (sym (found-end d.spec d.n d.count d.found))
 
   comes-on : (d : Decides) (c : TurnChange) (l : List TurnChange) → d.count + suc (length l) ≤ last_place → with_rest cs (step_of cs d c) l ≡ with_rest cs d (c ∷ l)
   unfolding with_rest
@@ -97,7 +98,7 @@ module _ (cs : List Float) where
       let e = next_place d.count (length l) h in
       ap (λ (o : Option ℕ). demand_none o 7 (onward (onward d.found (λ _. placed d.count (passes d.spec d.n cs c))) (λ _. each_from d.spec d.n cs (min (d.count + 1) last_place) l)))
       (fall-on d.rises d.any d.count (min (d.count + 1) last_place) d.last d.fall c l e)
-      ∙ ap (λ (q : Paper (Unit {0})). demand_none (pick d.rises (fall_from d.any d.count d.last (c ∷ l)) (some d.fall)) 7 q)
+      ∙ ap (λ (q : Paper (Unit {0})). demand_none (pick d.rises (fall_from d.any d.count d.last (c ∷ l)) (Some d.fall)) 7 q)
       (found-on d.spec d.n d.count (min (d.count + 1) last_place) c l d.found e)
 
   comes : (d : Decides) (l : List TurnChange) → d.count + length l ≤ last_place → outcome_of (steps_of cs d l) ≡ with_rest cs d l
@@ -108,7 +109,7 @@ module _ (cs : List Float) where
 
   pub outcome-is : (s : TurnStockSpec) (n : ℕ) (l : List TurnChange) → length l ≤ last_place → outcome_of (steps_of cs (on_cells s n) l) ≡ pass_all s n cs l
   unfolding with_rest onward pass_all
-  outcome-is s n l h = comes (on_cells s n) l (from_first l h) ∙ ap (λ (o : Option ℕ). demand_none o 7 (each_from s n cs 0 l)) (pick_true true (fall_from false 0 0 l) (some 0) refl ∙ first-is l)
+  outcome-is s n l h = comes (on_cells s n) l (from_first l h) ∙ ap (λ (o : Option ℕ). demand_none o 7 (each_from s n cs 0 l)) (pick_true true (fall_from false 0 0 l) (Some 0) refl ∙ first-is l)
 
   -- ---- the lent lists, change by change
   sides : (p q r m : Paper (Unit {0})) → q ≡ onward r (λ _. m) → onward p (λ _. q) ≡ onward (onward p (λ _. r)) (λ _. m)
@@ -234,10 +235,13 @@ abbrev pub answering : {A : Type 0} → Paper A → Bool
 answering (answers a) = true
 answering (refuses r) = false
 
-accepted-is : (r : Applied) → is_accepted r ≡ answering (applied_paper r)
-accepted-is (applied.Stock k) = refl
-accepted-is (applied.Refused c) = refl
-accepted-is (applied.RefusedAt c k) = refl
+accepted-is : (r : Result TurnStock Refused) → is_accepted r ≡ answering (placed_of r)
+accepted-is (Ok k) = refl
+accepted-is (Err c) = refl
+
+-- one that is handed on is none
+pub handed_on : (r : Result TurnStock Refused) (e : Refused) → IsErrAnd r (λ y. y ≡ e) → is_accepted r ≡ false
+handed_on r e h = let p = err_from_is_err_and r h in ap is_accepted p.1
 
 answering-is : (p : Paper Committed) → answering (generation_of p) ≡ answering p
 answering-is (answers k) = refl
@@ -282,7 +286,7 @@ leaves (answers k) cs e = absurd (false≢true (sym e))
 leaves (refuses r) cs e = refl
 
 -- the answer is accepted and the cells are written, or it is a refusal and they are as they were
-module _ (k : TurnStock) (p : Paper Committed) (cs : List Float) (r : Applied) (e : applied_paper r ≡ stock_at k (generation_of p)) where
+module _ (k : TurnStock) (p : Paper Committed) (cs : List Float) (r : Result TurnStock Refused) (e : placed_of r ≡ stock_at k (generation_of p)) where
   pub accepted-as : is_accepted r ≡ answering p
   accepted-as = accepted-is r ∙ ap answering e ∙ at-is k (generation_of p) ∙ answering-is p
 

@@ -8,7 +8,6 @@ use lib.ListN.{length}
 use lib.Ieee.{Float}
 use Rattle.refusals.specs.Paper.{Paper, Reason, answers, refuses, only, demand, papers}
 use Rattle.stock.specs.declared.TurnStockSpec.{TurnStockSpec}
-use Rattle.stock.specs.declared.TurnChange.{TurnChange}
 use Rattle.stock.specs.Spec.{clean_spec}
 use Rattle.stock.specs.Cell.{cells_fit, stock_of}
 use Rattle.stock.proofs.Count.{stock-is, stock-length, stocked, demanded, no_answer, same_answer}

@@ -1,8 +1,12 @@
 -- The kept numbers of a commit: where it is accepted, those of the cells afterwards, though only the blocks of its bins are worked out. Assumes nothing.
+use Rattle.std.specs.Prelude.{Err, Result}
+use Rattle.std.proofs.Common.{IsErrAnd}
+use Rattle.std.proofs.lemmas.Result.{err_from_is_err_and}
 use mathlib.Core.Path.{◌≡◌, refl, sym, ap, ◌∙◌, subst}
-use mathlib.Core.Bool.{Bool, true, false, false≢true}
-use mathlib.Core.List.{List, map, ◌++◌, ◌∷◌, [], map-append}
-use Prim.Native.Nat.{ℕ, zero, suc, ◌+◌, ◌*◌, ◌/◌, ◌≤◌, ◌<◌, min}
+use mathlib.Core.Bool.{Bool, true}
+use mathlib.Core.List.{List, ◌++◌, ◌∷◌, [], map-append}
+use Prim.Native.Nat.{ℕ, zero, suc, ◌+◌, ◌/◌, ◌≤◌, min}
+use Rattle.refusals.specs.declared.Refused.{Refused}
 use native.Mathlib.Omega.{arith}
 use lib.ListN.{length, take, get_or}
 use lib.Seq.{take-suc}
@@ -23,7 +27,6 @@ use Rattle.blocks.specs.Renew.{renewed_for}
 use Rattle.blocks.proofs.Touched.{bins_of}
 use Rattle.blocks.proofs.Stocks.{commit-keeps}
 use Rattle.changes.specs.declared.ChangeList.{ChangeList}
-use Rattle.changes.specs.declared.Applied.{Applied}
 use Rattle.changes.specs.Change.{room_of, change_from, changes_from}
 use Rattle.changes.specs.Commit.{put_all, Committed, commit_in, commit_held, asked_stock, apply_of, Applies, cells_after, numbers_kept, kept_after, AppliesKept}
 use Rattle.changes.specs.Decide.{is_accepted, CommitsThen}
@@ -68,12 +71,18 @@ module _ (spec : TurnStockSpec) (cs : List Float) (n : ℕ) (hs : HeldSpec spec)
   renewed-all l is j q = commit-keeps spec cs n hs hc e bs hb m l is j q ∙ ap (λ (x : ℕ). blocks_of (clean_spec spec) x (put_all cs l)) (bins-left l)
 
 -- worked out where a commit is accepted
-pub then-renewed : (k : TurnStock) (n : ℕ) (p : Paper Committed) (r : Applied) (cs cs' bs bs' : List Float) (is : List ℕ) (j : ℕ) (s : TurnStockSpec) → Applies k p r cs cs' → bs' ≡ renewed_for s n cs' is j bs → s ≡ clean_spec k.spec → is_accepted r ≡ true
+pub then-renewed : (k : TurnStock) (n : ℕ) (p : Paper Committed) (r : Result TurnStock Refused) (cs cs' bs bs' : List Float) (is : List ℕ) (j : ℕ) (s : TurnStockSpec) → Applies k p r cs cs' → bs' ≡ renewed_for s n cs' is j bs → s ≡ clean_spec k.spec → is_accepted r ≡ true
     → CommitsThen k n p r cs cs' bs bs' is j
 then-renewed k n p r cs cs' bs bs' is j s a e q y = record { left = a; kept = e ∙ ap (λ (x : TurnStockSpec). renewed_for x n cs' is j bs) q ∙ sym (pick_true _ _ _ y) }
 
+-- left where it is refused, and the refusal handed on
+pub then-left : (k : TurnStock) (n : ℕ) (p : Paper Committed) (r : Result TurnStock Refused) (e : Refused) (cs cs' bs : List Float) (is : List ℕ) (j : ℕ) → IsErrAnd r (λ y. y ≡ e) → Applies k p (Err e) cs cs' → CommitsThen k n p r cs cs' bs bs is j
+then-left k n p r e cs cs' bs is j h a =
+    let q = err_from_is_err_and r h in
+    subst (λ (x : Result TurnStock Refused). CommitsThen k n p x cs cs' bs bs is j) (sym (q.1 ∙ ap Err q.2)) (record { left = a; kept = sym (pick-false _ _ _ refl) })
+
 -- a refused commit leaves them
-pub kept-refused : (k : TurnStock) (p : Paper Committed) (r : Applied) (cs bs : List Float) (x : Reason) → p ≡ refuses x → Applies k p r cs cs → AppliesKept k p r cs cs bs bs
+pub kept-refused : (k : TurnStock) (p : Paper Committed) (r : Result TurnStock Refused) (cs bs : List Float) (x : Reason) → p ≡ refuses x → Applies k p r cs cs → AppliesKept k p r cs cs bs bs
 kept-refused k p r cs bs x e a = record { left = a; kept = sym (ap (λ (q : Paper Committed). kept_after k q bs) e) }
 
 -- by the answer of a commit that puts its changes
@@ -85,12 +94,12 @@ module _ (k : TurnStock) (cs bs : List Float) (l : List TurnChange) (gen : ℕ) 
       pick_true _ _ _ y ∙ all y ∙ ap (numbers_kept k.spec) (sym cells) ∙ sym (ap (λ (q : Paper Committed). kept_after k q bs) e)
   by_answer (refuses r) e = pick-false _ _ _ (ap answering e) ∙ sym (ap (λ (q : Paper Committed). kept_after k q bs) e)
 
-  pub kept_by : (r : Applied) (cs' bs' : List Float) → Applies k p r cs cs' → bs' ≡ pick (is_accepted r) fresh bs → AppliesKept k p r cs cs' bs bs'
+  pub kept_by : (r : Result TurnStock Refused) (cs' bs' : List Float) → Applies k p r cs cs' → bs' ≡ pick (is_accepted r) fresh bs → AppliesKept k p r cs cs' bs bs'
   kept_by r cs' bs' a q = record { left = a; kept = q ∙ ap (λ (t : Bool). pick t fresh bs) (accepted-as k p cs r a.answer) ∙ by_answer p refl }
 
 -- the commit of lent lists that a stock was asked for
 pub apply-keeps : (k : TurnStock) (cs bs : List Float) (list : ChangeList) (is : List ℕ) (xs : List Float) (n : ℕ) → HeldSpec k.spec → HeldList cs → HeldList bs → asked_stock k cs bs list.stamp ≡ answers n
-    → list.count ≤ room_of (length is) (length xs) → (r : Applied) (cs' bs' : List Float) → CommitsThen k n (commit_held (clean_spec k.spec) n cs k.stamp.generation is xs list.count) r cs cs' bs bs' is list.count
+    → list.count ≤ room_of (length is) (length xs) → (r : Result TurnStock Refused) (cs' bs' : List Float) → CommitsThen k n (commit_held (clean_spec k.spec) n cs k.stamp.generation is xs list.count) r cs cs' bs bs' is list.count
     → AppliesKept k (apply_of k cs bs list is xs) r cs cs' bs bs'
 apply-keeps k cs bs list is xs n hs hc hb e h r cs' bs' a =
     let l = changes_from is xs list.count in

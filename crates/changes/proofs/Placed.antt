@@ -2,11 +2,9 @@
 use mathlib.Core.Path.{◌≡◌, refl, sym, ap, ◌∙◌, subst}
 use mathlib.Core.Bool.{Bool, true, false, not, ◌&&◌}
 use mathlib.Core.List.{List, [], ◌∷◌, ◌++◌, map-append}
-use Prim.Native.Nat.{ℕ, suc, ◌+◌, ◌*◌, ◌/◌, ◌≤◌, ◌<◌, min}
+use Prim.Native.Nat.{ℕ, ◌+◌, ◌*◌, ◌≤◌, ◌<◌}
 use native.Mathlib.Omega.{arith}
-use lib.Dec.{ltb}
-use lib.ListN.{length, set, length-map, length-append}
-use lib.Seq.{sets}
+use lib.ListN.{length, length-map, length-append}
 use lib.Ieee.{Float}
 use borrow.Author.Tests.{lt-ltb, le-ltb}
 use Rattle.refusals.specs.Lent.{over}
@@ -14,7 +12,7 @@ use Rattle.refusals.proofs.Written.{over-more, length_over}
 use Rattle.floats.specs.Pick.{pick_true, pick-false}
 use Rattle.stock.specs.declared.TurnCell.{TurnCell}
 use Rattle.stock.specs.declared.TurnChange.{TurnChange}
-use Rattle.stock.specs.Cell.{cell_at, four_of, put_cell, same_cell}
+use Rattle.stock.specs.Cell.{cell_at, same_cell}
 use Rattle.changes.specs.Change.{change_of, changes_to, indices_of, row_of, numbers_of, room_of, PutChange, lists, ListedOne, Listing}
 use Rattle.changes.proofs.Rising.{kept, made, grows, grown}
 

@@ -1,4 +1,5 @@
 -- A commit of two lent lists after a proposal wrote them is a commit of the changes that it proposed. So what is proposed is accepted, while generations last. Assumes nothing.
+use Rattle.std.specs.Prelude.{Ok}
 use mathlib.Core.Path.{◌≡◌, refl, sym, ap, ◌∙◌}
 use mathlib.Core.Bool.{Bool, true, false}
 use mathlib.Core.List.{List}
@@ -8,7 +9,7 @@ use borrow.Author.Tests.{leb-true, le-leb}
 use lib.Dec.{leb}
 use lib.ListN.{length, length-map}
 use lib.Ieee.{Float}
-use Rattle.refusals.specs.Paper.{Paper, answers, refuses, only, demand, onward, demand-true, onward-answers, onward-refuses}
+use Rattle.refusals.specs.Paper.{Paper, answers, refuses, only, demand, onward, demand-true}
 use Rattle.refusals.specs.Limits.{last_generation}
 use Rattle.refusals.specs.Lent.{over}
 use Rattle.refusals.proofs.Written.{length_over}
@@ -23,11 +24,7 @@ use Rattle.reach.specs.Kinds.{PlainAct}
 use Rattle.reach.proofs.Removes.{Cuts, cut-cuts}
 use Rattle.stock.specs.declared.Stamp.{Stamp}
 use Rattle.stock.specs.declared.TurnStock.{TurnStock}
-use Rattle.stock.specs.Stock.{same_stamp}
-use Rattle.stock.proofs.Stamps.{own-stamp}
 use Rattle.changes.specs.declared.ChangeList.{ChangeList}
-use Rattle.changes.specs.declared.Tally.TheVariants.{Changes}
-use Rattle.changes.specs.declared.Previewed.TheVariants.{Listed}
 use Rattle.changes.specs.Change.{changes_from, changes_to, indices_of, numbers_of, room_of, settled, Tallied, Proposed}
 use Rattle.changes.proofs.Placed.{length-numbers}
 use Rattle.changes.proofs.ReadBack.{read_back}
@@ -47,11 +44,11 @@ pub record Wrote (l : List TurnChange) (k : ℕ) (is is' : List ℕ) (xs xs' : L
   pub numbers : xs' ≡ over (numbers_of l) xs
 
 -- so it is of a proposal that answered with a count
-pub wrote : (l : List TurnChange) (k : ℕ) (is is' : List ℕ) (xs xs' : List Float) → Tallied (settled (room_of (length is) (length xs)) l) (Changes k) is is' xs xs' → Wrote l k is is' xs xs'
+pub wrote : (l : List TurnChange) (k : ℕ) (is is' : List ℕ) (xs xs' : List Float) → Tallied (settled (room_of (length is) (length xs)) l) (Ok k) is is' xs xs' → Wrote l k is is' xs xs'
 unfolding demand
 wrote l k is is' xs xs' p = go (leb (length l) (room_of (length is) (length xs))) refl p
   where
-    go : (t : Bool) → leb (length l) (room_of (length is) (length xs)) ≡ t → Tallied (demand t 6 (answers l)) (Changes k) is is' xs xs' → Wrote l k is is' xs xs'
+    go : (t : Bool) → leb (length l) (room_of (length is) (length xs)) ≡ t → Tallied (demand t 6 (answers l)) (Ok k) is is' xs xs' → Wrote l k is is' xs xs'
     go true e q = record { count = same_answer q.answer; room = leb-true (length l) (room_of (length is) (length xs)) e; indices = q.indices; numbers = q.numbers }
     go false e q = absurd (no_answer (only 6) k (sym q.answer))
 
@@ -65,7 +62,7 @@ room-kept l is xs h =
     omega arith
 
 -- the changes that the lists hold are those that were proposed, so that a commit which asks nothing again is a commit of these
-pub held-is : (st : Stamp) (list : ChangeList) (l : List TurnChange) (is is' : List ℕ) (xs xs' : List Float) → Proposed st (settled (room_of (length is) (length xs)) l) (Listed list) is is' xs xs' → (s : TurnStockSpec) (n : ℕ) (cs : List Float) (gen : ℕ)
+pub held-is : (st : Stamp) (list : ChangeList) (l : List TurnChange) (is is' : List ℕ) (xs xs' : List Float) → Proposed st (settled (room_of (length is) (length xs)) l) (Ok list) is is' xs xs' → (s : TurnStockSpec) (n : ℕ) (cs : List Float) (gen : ℕ)
     → commit_held s n cs gen is' xs' list.count ≡ commit_in s n cs gen l
 held-is st list l is is' xs xs' p s n cs gen =
     let o = of-stock st (settled (room_of (length is) (length xs)) l) list is is' xs xs' p in
@@ -81,7 +78,7 @@ passed-by (answers n) t m f e = demand-true t m (f n) e
 passed-by (refuses r) t m f e = refl
 
 -- a commit of the list that was answered is a commit of the changes that were proposed into the lent lists, refused or accepted
-pub lent_is : (k : TurnStock) (cs bs : List Float) → Matching k.spec cs bs → (list : ChangeList) (l : List TurnChange) (is is' : List ℕ) (xs xs' : List Float) → Proposed k.stamp (settled (room_of (length is) (length xs)) l) (Listed list) is is' xs xs'
+pub lent_is : (k : TurnStock) (cs bs : List Float) → Matching k.spec cs bs → (list : ChangeList) (l : List TurnChange) (is is' : List ℕ) (xs xs' : List Float) → Proposed k.stamp (settled (room_of (length is) (length xs)) l) (Ok list) is is' xs xs'
     → apply_of k cs bs list is' xs' ≡ own_commit k.spec cs k.stamp.generation l
 unfolding apply_of own_commit
 lent_is k cs bs m list l is is' xs xs' p =
@@ -94,7 +91,7 @@ lent_is k cs bs m list l is is' xs xs' p =
 
 -- so, on a stock that is not refused, changes to cells that fit, none of which adds material, are accepted from the lists too, while generations last
 pub lent-accepts : (k : TurnStock) {n : ℕ} {cs : List Float} (bs : List Float) → Matching k.spec cs bs → (g : Good k.spec n cs) (f : ℕ → TurnCell → TurnCell) → ((i : ℕ) → i < n → Cuts (clean_spec k.spec) (cell_at cs i) (f i (cell_at cs i)))
-    → (list : ChangeList) (is is' : List ℕ) (xs xs' : List Float) → k.stamp.generation < last_generation → Proposed k.stamp (settled (room_of (length is) (length xs)) (changes_to f cs n)) (Listed list) is is' xs xs'
+    → (list : ChangeList) (is is' : List ℕ) (xs xs' : List Float) → k.stamp.generation < last_generation → Proposed k.stamp (settled (room_of (length is) (length xs)) (changes_to f cs n)) (Ok list) is is' xs xs'
     → apply_of k cs bs list is' xs' ≡ answers (record { cells = put_all cs (changes_to f cs n); generation = k.stamp.generation + 1 })
 lent-accepts k {n} {cs} bs m g f cuts list is is' xs xs' h p = lent_is k cs bs m list (changes_to f cs n) is is' xs xs' p ∙ commit-accepts g f cuts k.stamp.generation h
 

@@ -1,5 +1,5 @@
 -- The changes of the bins below a number, bin by bin: the list only grows, and its indices rise. Assumes nothing.
-use mathlib.Core.Path.{◌≡◌, refl, sym, ap, ◌∙◌}
+use mathlib.Core.Path.{◌≡◌, refl, ap, ◌∙◌}
 use mathlib.Core.Bool.{Bool, true, false}
 use mathlib.Core.List.{List, [], ◌∷◌, ◌++◌, append-nil, map-append}
 use Prim.Native.Nat.{ℕ, zero, suc, ◌+◌, ◌-◌, ◌≤◌, ◌<◌}
@@ -10,7 +10,6 @@ use lib.ListN.{length, length-append}
 use lib.Ieee.{Float}
 use Rattle.floats.specs.Pick.{pick, pick_true, pick-false}
 use Rattle.stock.specs.declared.TurnCell.{TurnCell}
-use Rattle.stock.specs.declared.TurnChange.{TurnChange}
 use Rattle.stock.specs.Cell.{cell_at, same_cell}
 use Rattle.changes.specs.Change.{change_of, change_at, changes_to, indices_of}
 

@@ -1,14 +1,16 @@
 -- What a commit answers and leaves, by what its rule says. Assumes nothing.
-use mathlib.Core.Path.{◌≡◌, refl, sym, ap, ◌∙◌, subst}
+use Rattle.std.specs.Prelude.{Err, Result}
+use mathlib.Core.Path.{◌≡◌, refl, sym, ap}
 use mathlib.Core.Bool.{true, false}
 use mathlib.Core.List.{List}
-use Prim.Native.Nat.{ℕ, ◌+◌, ◌≤◌, ◌<◌, min}
+use Prim.Native.Nat.{ℕ, ◌≤◌, ◌<◌, min}
+use Rattle.refusals.specs.declared.Refused.{Refused}
 use native.Mathlib.Omega.{arith}
 use borrow.Author.Tests.{le-leb, lt-leb}
 use lib.ListN.{length}
 use lib.Ieee.{Float}
 use Rattle.refusals.specs.declared.Refusal.{Refusal}
-use Rattle.refusals.specs.Number.{reason_of}
+use Rattle.refusals.specs.Number.{reason_of, refused_of, placed_of}
 use Rattle.refusals.specs.Paper.{Paper, Reason, answers, refuses, only, papers}
 use Rattle.stock.specs.declared.TurnStockSpec.{TurnStockSpec}
 use Rattle.stock.specs.declared.TurnStock.{TurnStock}
@@ -19,8 +21,6 @@ use Rattle.stock.specs.Stock.{same_stamp}
 use Rattle.blocks.specs.Block.{matches_of}
 use Rattle.changes.specs.declared.ChangeList.{ChangeList}
 use Rattle.changes.specs.Change.{room_of, changes_from}
-use Rattle.changes.specs.declared.Applied.{Applied}
-use Rattle.changes.specs.declared.Applied.TheVariants as applied
 use Rattle.changes.specs.Commit.{pass_all, first_refusal, put_all, put_held, Committed, commit_in, asked_stock, apply_of, Applies}
 
 -- ---- of k changes that the lists hold
@@ -70,9 +70,13 @@ module _ (k : TurnStock) (cs bs : List Float) (list : ChangeList) (is : List ℕ
 -- ---- what is answered and left
 
 -- refused: the cells stay
-pub left : (k : TurnStock) (p : Paper Committed) (r : Refusal) (cs : List Float) → p ≡ refuses (reason_of r) → Applies k p (applied.Refused r) cs cs
+pub left : (k : TurnStock) (p : Paper Committed) (r : Refusal) (cs : List Float) → p ≡ refuses (reason_of r) → Applies k p (Err (refused_of r)) cs cs
 left k p r cs e = rw e (record { answer = refl; cells = refl })
 
+-- the same of a refusal that another call handed on
+pub left_at : (k : TurnStock) (p : Paper Committed) (r : Result TurnStock Refused) (x : Reason) (cs : List Float) → placed_of r ≡ refuses x → p ≡ refuses x → Applies k p r cs cs
+left_at k p r x cs a e = rw e (record { answer = a; cells = refl })
+
 -- a rule that comes to another has its outcome
-pub same_outcome : (k : TurnStock) (p q : Paper Committed) (r : Applied) (cs cs' : List Float) → p ≡ q → Applies k q r cs cs' → Applies k p r cs cs'
+pub same_outcome : (k : TurnStock) (p q : Paper Committed) (r : Result TurnStock Refused) (cs cs' : List Float) → p ≡ q → Applies k q r cs cs' → Applies k p r cs cs'
 same_outcome k p q r cs cs' e a = rw e a

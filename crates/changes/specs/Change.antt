@@ -1,7 +1,8 @@
 -- Changes of cells, by rising index, and their list in lent memory. Assumes nothing.
-use Rattle.std.specs.Prelude.{◌≡◌, Bool, not, ◌&&◌, List, [], ◌∷◌, ◌++◌, map, ℕ, zero, suc, ◌+◌, ◌*◌, ◌/◌, ◌≤◌, min, leb, ltb, length, get_or, set, Float}
+use Rattle.std.specs.Prelude.{◌≡◌, Bool, not, ◌&&◌, List, [], ◌∷◌, ◌++◌, map, ℕ, zero, suc, ◌+◌, ◌*◌, ◌/◌, ◌≤◌, min, leb, ltb, length, get_or, set, Float, Result}
 use Rattle.std.proofs.lemmas.List.Edits.{sets}
-use Rattle.refusals.specs.Number.{reason_of}
+use Rattle.refusals.specs.declared.Refusal.{Refusal}
+use Rattle.refusals.specs.Number.{paper_of}
 use Rattle.refusals.specs.Paper.{Paper, answers, refuses, demand}
 use Rattle.refusals.specs.Lent.{Lent, over}
 use Rattle.floats.specs.Pick.{pick}
@@ -9,11 +10,7 @@ use Rattle.stock.specs.declared.TurnCell.{TurnCell}
 use Rattle.stock.specs.declared.TurnChange.{TurnChange}
 use Rattle.stock.specs.declared.Stamp.{Stamp}
 use Rattle.stock.specs.Cell.{cell_at, cell_of_none, four_of, same_cell}
-use Rattle.changes.specs.declared.Tally.{Tally}
-use Rattle.changes.specs.declared.Tally.TheVariants as tally
 use Rattle.changes.specs.declared.ChangeList.{ChangeList}
-use Rattle.changes.specs.declared.Previewed.{Previewed}
-use Rattle.changes.specs.declared.Previewed.TheVariants as previewed
 
 -- ---- what changes, where f says what the cell of each bin becomes
 
@@ -82,11 +79,6 @@ pub record Listing (f : ℕ → TurnCell → TurnCell) (cs : List Float) (i k : 
 
 -- ---- how many changes a rule proposes
 
--- what a tally says, case by case
-abbrev pub tally_paper : Tally → Paper ℕ
-tally_paper (tally.Changes k) = answers k
-tally_paper (tally.Refused c) = refuses (reason_of c)
-
 -- 6 unless there is room for the changes
 abbrev pub settled : ℕ → List TurnChange → Paper (List TurnChange)
 settled room l = demand (leb (length l) room) 6 (answers l)
@@ -102,16 +94,12 @@ written_of (answers l) = l
 written_of (refuses n) = []
 
 -- The two lists after a proposal: its changes over the front, the rest as it was; and how many they are.
-pub record Tallied (p : Paper (List TurnChange)) (r : Tally) (is is' : List ℕ) (xs xs' : List Float) : Type 0 where
-  pub answer : tally_paper r ≡ count_of p
+pub record Tallied (p : Paper (List TurnChange)) (r : Result ℕ Refusal) (is is' : List ℕ) (xs xs' : List Float) : Type 0 where
+  pub answer : paper_of r ≡ count_of p
   pub indices : is' ≡ over (indices_of (written_of p)) is
   pub numbers : xs' ≡ over (numbers_of (written_of p)) xs
 
 -- ---- the answer of a call that proposes changes: their list, with the stamp of the stock that it is of
-
-abbrev pub previewed_paper : Previewed → Paper ChangeList
-previewed_paper (previewed.Listed l) = answers l
-previewed_paper (previewed.Refused c) = refuses (reason_of c)
 
 -- a list of so many changes
 abbrev pub stamped : Stamp → Paper ℕ → Paper ChangeList
@@ -119,8 +107,8 @@ stamped st (answers k) = answers (record { count = k; stamp = st })
 stamped st (refuses n) = refuses n
 
 -- the answer, of a stock with this stamp, and the two lists
-pub record Proposed (st : Stamp) (p : Paper (List TurnChange)) (r : Previewed) (is is' : List ℕ) (xs xs' : List Float) : Type 0 where
-  pub answer : previewed_paper r ≡ stamped st (count_of p)
+pub record Proposed (st : Stamp) (p : Paper (List TurnChange)) (r : Result ChangeList Refusal) (is is' : List ℕ) (xs xs' : List Float) : Type 0 where
+  pub answer : paper_of r ≡ stamped st (count_of p)
   pub indices : is' ≡ over (indices_of (written_of p)) is
   pub numbers : xs' ≡ over (numbers_of (written_of p)) xs
 
@@ -143,10 +131,10 @@ abbrev pub ListsBelow : (ℕ → TurnCell → TurnCell) → List Float → ℕ �
 ListsBelow f cs i k indices records = Listing f cs i k indices.entry.now indices.exit.now records.entry.now records.exit.now
 
 -- what a rule proposes, with the room that is lent: counted, and as the list of a stock with this stamp
-abbrev pub Tallies : (ℕ → Paper (List TurnChange)) → Tally → Lent ℕ → Lent Float → Type 0
+abbrev pub Tallies : (ℕ → Paper (List TurnChange)) → (Result ℕ Refusal) → Lent ℕ → Lent Float → Type 0
 Tallies rule r indices records = Tallied (rule (room_in indices records)) r indices.entry.now indices.exit.now records.entry.now records.exit.now
 
-abbrev pub Proposes : Stamp → (ℕ → Paper (List TurnChange)) → Previewed → Lent ℕ → Lent Float → Type 0
+abbrev pub Proposes : Stamp → (ℕ → Paper (List TurnChange)) → (Result ChangeList Refusal) → Lent ℕ → Lent Float → Type 0
 Proposes st rule r indices records = Proposed st (rule (room_in indices records)) r indices.entry.now indices.exit.now records.entry.now records.exit.now
 
 -- there is room for the changes of the bins below n

@@ -1,9 +1,9 @@
 -- A commit: when changes pass, and what they leave. Assumes nothing.
-use Rattle.std.specs.Prelude.{◌≡◌, Bool, ◌&&◌, ℕ, suc, ◌+◌, ◌/◌, min, leb, ltb, length, Float}
+use Rattle.std.specs.Prelude.{◌≡◌, Bool, ◌&&◌, ℕ, suc, ◌+◌, ◌/◌, min, leb, ltb, length, Float, Option, None, Some, Result}
 use mathlib.Core.List.{List, [], ◌∷◌, foldl}
-use Rattle.std.proofs.Math.Option.{Option, none, some}
 use Rattle.std.specs.Float.Ieee.{le}
-use Rattle.refusals.specs.Number.{reason_of, reason_at}
+use Rattle.refusals.specs.declared.Refused.{Refused}
+use Rattle.refusals.specs.Number.{placed_of}
 use Rattle.refusals.specs.Paper.{Paper, answers, refuses, demand, demand_none, placed, onward}
 use Rattle.refusals.specs.Limits.{last_generation}
 use Rattle.refusals.specs.Lent.{Lent}
@@ -19,10 +19,6 @@ use Rattle.stock.specs.Stock.{same_stamp, stock_with}
 use Rattle.blocks.specs.Block.{blocks_of, matches_of}
 use Rattle.changes.specs.Change.{room_of, changes_from}
 use Rattle.changes.specs.declared.ChangeList.{ChangeList}
-use Rattle.changes.specs.declared.Passing.{Passing}
-use Rattle.changes.specs.declared.Passing.TheVariants as passing
-use Rattle.changes.specs.declared.Applied.{Applied}
-use Rattle.changes.specs.declared.Applied.TheVariants as applied
 
 -- ---- which changes pass
 
@@ -51,12 +47,12 @@ each_from s n cs k (c ∷ l) = onward (placed k (passes s n cs c)) (λ _. each_f
 
 -- the place of the first index that is not above the one before it: behind the index i, the first of them at the place k
 unfoldable pub fall_after : ℕ → ℕ → List TurnChange → Option ℕ
-fall_after k i [] = none
-fall_after k i (c ∷ l) = pick (ltb i c.index) (fall_after (suc k) c.index l) (some k)
+fall_after k i [] = None
+fall_after k i (c ∷ l) = pick (ltb i c.index) (fall_after (suc k) c.index l) (Some k)
 
 -- the later of the first pair that does not rise
 unfoldable pub first_fall : List TurnChange → Option ℕ
-first_fall [] = none
+first_fall [] = None
 first_fall (c ∷ l) = fall_after 1 c.index l
 
 -- 7 over the whole list first, then change by change
@@ -66,12 +62,6 @@ pass_all s n cs l = demand_none (first_fall l) 7 (each_from s n cs 0 l)
 -- the same of the first k changes of the lent lists, as many as they hold
 abbrev pub first_refusal : TurnStockSpec → ℕ → List Float → List ℕ → List Float → ℕ → Paper (Unit {0})
 first_refusal s n cs is xs k = pass_all s n cs (changes_from is xs (min k (room_of (length is) (length xs))))
-
--- what an answer of changes that pass says, case by case
-unfoldable pub passing_paper : Passing → Paper (Unit {0})
-passing_paper passing.Pass = answers tt
-passing_paper (passing.Refused c) = refuses (reason_of c)
-passing_paper (passing.RefusedAt c k) = refuses (reason_at c k)
 
 -- ---- what a commit leaves
 
@@ -117,12 +107,6 @@ apply_of k cs bs list is xs =
     demand (leb list.count (room_of (length is) (length xs))) 6
     (commit_in (clean_spec k.spec) n cs k.stamp.generation (changes_from is xs list.count)))
 
--- what the answer of a commit says, case by case
-abbrev pub applied_paper : Applied → Paper TurnStock
-applied_paper (applied.Stock k) = answers k
-applied_paper (applied.Refused c) = refuses (reason_of c)
-applied_paper (applied.RefusedAt c k) = refuses (reason_at c k)
-
 abbrev pub generation_of : Paper Committed → Paper ℕ
 generation_of (answers k) = answers k.generation
 generation_of (refuses n) = refuses n
@@ -138,8 +122,8 @@ cells_after (answers k) cs = k.cells
 cells_after (refuses n) cs = cs
 
 -- the answer and the lent cells after a commit to the stock k
-pub record Applies (k : TurnStock) (p : Paper Committed) (r : Applied) (cs cs' : List Float) : Type 0 where
-  pub answer : applied_paper r ≡ stock_at k (generation_of p)
+pub record Applies (k : TurnStock) (p : Paper Committed) (r : Result TurnStock Refused) (cs cs' : List Float) : Type 0 where
+  pub answer : placed_of r ≡ stock_at k (generation_of p)
   pub cells : cs' ≡ cells_after p cs
 
 -- the kept numbers of a stock with these cells: two for each block, worked out of them
@@ -152,15 +136,15 @@ kept_after k (answers c) bs = numbers_kept k.spec c.cells
 kept_after k (refuses n) bs = bs
 
 -- the answer, the lent cells and the kept numbers after a commit to the stock k
-pub record AppliesKept (k : TurnStock) (p : Paper Committed) (r : Applied) (cs cs' bs bs' : List Float) : Type 0 where
+pub record AppliesKept (k : TurnStock) (p : Paper Committed) (r : Result TurnStock Refused) (cs cs' bs bs' : List Float) : Type 0 where
   pub left : Applies k p r cs cs'
   pub kept : bs' ≡ kept_after k p bs
 
 -- of lent cells, and of lent cells and kept numbers, at both moments
-abbrev pub Commits : TurnStock → Paper Committed → Applied → Lent Float → Type 0
+abbrev pub Commits : TurnStock → Paper Committed → (Result TurnStock Refused) → Lent Float → Type 0
 Commits k p r cells = Applies k p r cells.entry.now cells.exit.now
 
-abbrev pub CommitsKept : TurnStock → Paper Committed → Applied → Lent Float → Lent Float → Type 0
+abbrev pub CommitsKept : TurnStock → Paper Committed → (Result TurnStock Refused) → Lent Float → Lent Float → Type 0
 CommitsKept k p r cells blocks = AppliesKept k p r cells.entry.now cells.exit.now blocks.entry.now blocks.exit.now
 
 -- ---- the commit of a stock's own list, of which no kept numbers are asked: what a job makes

@@ -1,8 +1,10 @@
 -- Proved equal to `pass_all` (`outcome-is`, proofs/Decided) and to `commit_in` (`raised-in`); need not be believed.
 -- A list of changes that is decided change by change: how far it is, one change on, and how it comes out. Assumes nothing.
-use Rattle.std.specs.Prelude.{◌≡◌, Bool, true, false, not, ◌&&◌, ◌||◌, ℕ, ◌+◌, min, ltb, Float}
+use Rattle.std.specs.Prelude.{◌≡◌, Bool, true, false, not, ◌&&◌, ◌||◌, ℕ, ◌+◌, min, ltb, Float, Err, Ok, Result}
 use mathlib.Core.List.{List, [], ◌∷◌, foldl}
-use Rattle.refusals.specs.Paper.{Paper, answers, refuses, demand, demand_at, placed, onward}
+use Rattle.refusals.specs.Number.{placed_of}
+use Rattle.refusals.specs.declared.Refused.{Refused}
+use Rattle.refusals.specs.Paper.{Paper, answers, demand, demand_at, placed, onward}
 use Rattle.refusals.specs.Limits.{last_generation, last_place}
 use Rattle.floats.specs.Pick.{pick}
 use Rattle.stock.specs.declared.TurnStockSpec.{TurnStockSpec}
@@ -11,10 +13,8 @@ use Rattle.stock.specs.declared.TurnStock.{TurnStock}
 use Rattle.stock.specs.Spec.{clean_spec}
 use Rattle.stock.specs.Cell.{cell_at, same_cell}
 use Rattle.blocks.specs.Renew.{renewed_for}
-use Rattle.changes.specs.declared.Applied.{Applied}
-use Rattle.changes.specs.declared.Applied.TheVariants.{Stock, Refused, RefusedAt}
 use Rattle.changes.specs.declared.Deciding.{Deciding}
-use Rattle.changes.specs.Commit.{only_removes, passes, passing_paper, Committed, Applies}
+use Rattle.changes.specs.Commit.{only_removes, passes, Committed, Applies}
 
 -- ---- two tests that are asked at once
 
@@ -49,7 +49,7 @@ pub record Decides : Type 0 where
 
 -- what the code holds of it, field by field
 abbrev pub deciding_paper : Deciding → Decides
-deciding_paper st = record { spec = st.s; n = st.n; any = st.any; last = st.last; rises = st.rises; count = st.count; fall = st.fall; found = passing_paper st.found }
+deciding_paper st = record { spec = st.s; n = st.n; any = st.any; last = st.last; rises = st.rises; count = st.count; fall = st.fall; found = placed_of st.found }
 
 -- before the first change, on n cells that are not asked
 abbrev pub on_cells : TurnStockSpec → ℕ → Decides
@@ -81,12 +81,11 @@ unfoldable pub raised_of : Paper (Unit {0}) → ℕ → Paper ℕ
 raised_of p gen = onward p (λ _. demand (ltb gen last_generation) 12 (answers (gen + 1)))
 
 -- an answer that is no refusal
-abbrev pub is_accepted : Applied → Bool
-is_accepted (Stock k) = true
-is_accepted (Refused c) = false
-is_accepted (RefusedAt c k) = false
+abbrev pub is_accepted : Result TurnStock Refused → Bool
+is_accepted (Ok k) = true
+is_accepted (Err c) = false
 
 -- ---- the kept numbers of a commit that asks nothing again: where it is accepted, the blocks of the first k bins of a list are worked out of the cells afterwards
-pub record CommitsThen (k : TurnStock) (n : ℕ) (p : Paper Committed) (r : Applied) (cs cs' bs bs' : List Float) (is : List ℕ) (j : ℕ) : Type 0 where
+pub record CommitsThen (k : TurnStock) (n : ℕ) (p : Paper Committed) (r : Result TurnStock Refused) (cs cs' bs bs' : List Float) (is : List ℕ) (j : ℕ) : Type 0 where
   pub left : Applies k p r cs cs'
   pub kept : bs' ≡ pick (is_accepted r) (renewed_for (clean_spec k.spec) n cs' is j bs) bs

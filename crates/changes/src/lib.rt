@@ -13,18 +13,19 @@
 #![tactic(auto)]
 
 ghost use Rattle.std.specs.Prelude.{◌≡◌, true, ◌+◌, ◌*◌, ◌≤◌, ◌<◌, min, length};
+ghost use Rattle.refusals.specs.Number.{paper_of, placed_of};
 ghost use Rattle.refusals.specs.Limits.{last_place};
 ghost use Rattle.refusals.specs.Paper.{answers, place_or, placed, onward};
 ghost use Rattle.floats.specs.Pick.{pick};
-ghost use Rattle.stock.specs.Spec.{clean_spec, counted_paper};
+ghost use Rattle.stock.specs.Spec.{clean_spec};
 ghost use Rattle.stock.specs.Cell.{cell_from};
-ghost use Rattle.changes.specs.Change.{room_of, change_held, changes_from, changes_to, settled, PutsChange, ListsChange, ListsBelow, RoomFor, tally_paper, previewed_paper, stamped, Tallies, Proposes};
-ghost use Rattle.changes.specs.Commit.{only_removes, applies_to, passes, passing_paper, each_from, first_fall, first_refusal, put_held, commit_held, asked_stock, apply_of, applied_paper, stock_at, Commits, CommitsKept};
+ghost use Rattle.changes.specs.Change.{room_of, change_held, changes_from, changes_to, settled, PutsChange, ListsChange, ListsBelow, RoomFor, stamped, Tallies, Proposes};
+ghost use Rattle.changes.specs.Commit.{only_removes, applies_to, passes, each_from, first_fall, first_refusal, put_held, commit_held, asked_stock, apply_of, stock_at, Commits, CommitsKept};
 ghost use Rattle.changes.specs.Decide.{applies, rises, deciding_paper, on_cells, step_of, outcome_of, raised_of, is_accepted, CommitsThen};
 ghost use Rattle.changes.specs.Difference.{other_cell, difference_of};
 
-use refusals::{LAST_GENERATION, LAST_PLACE, Refusal};
-use stock::{Counted, RadiusBounds, Stamp, TurnCell, TurnChange, TurnStock, TurnStockSpec};
+use refusals::{LAST_GENERATION, LAST_PLACE, Refusal, Refused};
+use stock::{RadiusBounds, Stamp, TurnCell, TurnChange, TurnStock, TurnStockSpec};
 
 // A list of so many changes, which are lent beside it, with the stamp of the stock that it is of.
 #[derive(Clone, Copy)]
@@ -33,28 +34,12 @@ pub struct ChangeList {
     pub stamp: Stamp,
 }
 
-// The changes that a call proposes.
-#[derive(Clone, Copy)]
-pub enum Previewed {
-    Listed(ChangeList),
-    Refused(Refusal),
-}
-
-// How many changes were written.
-#[derive(Clone, Copy)]
-pub enum Tally {
-    Changes(usize),
-    Refused(Refusal),
-}
-
 // The list of so many changes, of a stock with this stamp.
-pub fn list_of(tally: Tally, stamp: Stamp) -> Previewed
-    ensures { previewed_paper result ≡ stamped stamp (tally_paper tally) }
+pub fn list_of(tally: Result<usize, Refusal>, stamp: Stamp) -> Result<ChangeList, Refusal>
+    ensures { paper_of result ≡ stamped stamp (paper_of tally) }
 {
-    match tally {
-        Tally::Refused(r) => Previewed::Refused(r),
-        Tally::Changes(count) => Previewed::Listed(ChangeList { count, stamp }),
-    }
+    let count = tally?;
+    Ok(ChangeList { count, stamp })
 }
 
 // How many changes the two lists have room for.
@@ -104,24 +89,6 @@ pub fn list_change(
     k + 1
 }
 
-// Whether changes pass.
-#[derive(Clone, Copy)]
-pub enum Passing {
-    Pass,
-    Refused(Refusal),
-    // at the place of the change in its list
-    RefusedAt(Refusal, usize),
-}
-
-// The stock after a commit.
-#[derive(Clone, Copy)]
-pub enum Applied {
-    Stock(TurnStock),
-    Refused(Refusal),
-    // at the place of the change in its list
-    RefusedAt(Refusal, usize),
-}
-
 // No bound moves the wrong way.
 fn only_removes(before: TurnCell, after: TurnCell) -> bool
     ensures { result ≡ only_removes before after }
@@ -145,35 +112,40 @@ fn applies_to(n: usize, cells: &[f64], change: TurnChange) -> bool
 }
 
 // 21, 22, 23, one after the other.
-fn asked(n: usize, cells: &[f64], change: TurnChange) -> Passing
-    ensures { passing_paper result ≡ applies_to n cells.now change }
+fn asked(n: usize, cells: &[f64], change: TurnChange) -> Result<(), Refusal>
+    ensures { paper_of result ≡ applies_to n cells.now change }
 {
     let before = change.before;
     let after = change.after;
     let index = change.index;
     if n <= index {
-        return Passing::Refused(Refusal::NoSuchBin);
+        return Err(Refusal::NoSuchBin);
     }
     let held = stock::cell_at(cells, index);
     if !stock::same_cell(held, before) {
-        return Passing::Refused(Refusal::BinHoldsOther);
+        return Err(Refusal::BinHoldsOther);
     }
     if !only_removes(before, after) {
-        return Passing::Refused(Refusal::MaterialAdded);
+        return Err(Refusal::MaterialAdded);
     }
-    Passing::Pass
+    Ok(())
 }
 
 // One change, against n cells: 8, 21, 22, 23.
-fn change_passes(s: TurnStockSpec, n: usize, cells: &[f64], change: TurnChange) -> Passing
-    ensures { passing_paper result ≡ passes s n cells.now change }
+fn change_passes(
+    s: TurnStockSpec,
+    n: usize,
+    cells: &[f64],
+    change: TurnChange,
+) -> Result<(), Refusal>
+    ensures { paper_of result ≡ passes s n cells.now change }
 {
     let after = change.after;
     if !stock::cell_fits(s, after) {
-        return Passing::Refused(Refusal::AfterDoesNotFit);
+        return Err(Refusal::AfterDoesNotFit);
     }
     if applies_to(n, cells, change) {
-        return Passing::Pass;
+        return Ok(());
     }
     asked(n, cells, change)
 }
@@ -191,7 +163,7 @@ pub struct Deciding {
     count: usize,
     fall: usize,
     // the first change that does not pass
-    found: Passing,
+    found: Result<(), Refused>,
 }
 
 // Before the first change, on n cells of a clean spec, which are not asked.
@@ -206,37 +178,42 @@ pub fn begin(s: TurnStockSpec, n: usize) -> Deciding
         rises: true,
         count: 0,
         fall: 0,
-        found: Passing::Pass,
+        found: Ok(()),
     }
 }
 
 // The number of cells of a stock that is asked for a commit of a list with this stamp; 1, 2, 3, 19, 20.
-pub fn asked_cells(stock: TurnStock, cells: &[f64], blocks: &[f64], stamp: Stamp) -> Counted
-    ensures { counted_paper result ≡ asked_stock stock cells.now blocks.now stamp }
+pub fn asked_cells(
+    stock: TurnStock,
+    cells: &[f64],
+    blocks: &[f64],
+    stamp: Stamp,
+) -> Result<usize, Refusal>
+    ensures { paper_of result ≡ asked_stock stock cells.now blocks.now stamp }
 {
-    let counted = stock::cells_fit(stock.spec, cells);
-    match counted {
-        Counted::Refused(r) => Counted::Refused(r),
-        Counted::Cells(n) => {
-            if !stock::same_stamp(stamp, stock.stamp) {
-                return Counted::Refused(Refusal::ListStale);
-            }
-            if !blocks::matches(stock::clean_spec(stock.spec), n, cells, blocks) {
-                return Counted::Refused(Refusal::BlocksDoNotMatch);
-            }
-            Counted::Cells(n)
-        }
+    let n = stock::cells_fit(stock.spec, cells)?;
+    if !stock::same_stamp(stamp, stock.stamp) {
+        return Err(Refusal::ListStale);
     }
+    if !blocks::matches(stock::clean_spec(stock.spec), n, cells, blocks) {
+        return Err(Refusal::BlocksDoNotMatch);
+    }
+    Ok(n)
 }
 
 // The same, a refusal of it at the place k.
-fn placed_at(passing: Passing, k: usize) -> Passing
-    ensures { passing_paper result ≡ placed k (passing_paper passing) }
+fn passes_at(
+    s: TurnStockSpec,
+    n: usize,
+    cells: &[f64],
+    k: usize,
+    change: TurnChange,
+) -> Result<(), Refused>
+    ensures { placed_of result ≡ placed k (passes s n cells.now change) }
 {
-    match passing {
-        Passing::Pass => Passing::Pass,
-        Passing::Refused(r) => Passing::RefusedAt(r, k),
-        Passing::RefusedAt(r, _) => Passing::RefusedAt(r, k),
+    match change_passes(s, n, cells, change) {
+        Ok(()) => Ok(()),
+        Err(why) => Err(Refused::at(why, k)),
     }
 }
 
@@ -245,17 +222,14 @@ fn found_next(
     s: TurnStockSpec,
     n: usize,
     cells: &[f64],
-    found: Passing,
+    before: Result<(), Refused>,
     k: usize,
     change: TurnChange,
-) -> Passing
-    ensures { passing_paper result ≡ onward (passing_paper found) (λ _. placed k (passes s n cells.now change)) }
+) -> Result<(), Refused>
+    ensures { placed_of result ≡ onward (placed_of before) (λ _. placed k (passes s n cells.now change)) }
 {
-    match found {
-        Passing::Refused(r) => Passing::Refused(r),
-        Passing::RefusedAt(r, j) => Passing::RefusedAt(r, j),
-        Passing::Pass => placed_at(change_passes(s, n, cells, change), k),
-    }
+    before?;
+    passes_at(s, n, cells, k, change)
 }
 
 // The place behind k, up to the last that there is.
@@ -304,30 +278,25 @@ pub fn step(st: Deciding, cells: &[f64], change: TurnChange) -> Deciding
 }
 
 // After the last change: 7, then the first change that does not pass.
-pub fn outcome(st: Deciding) -> Passing
-    ensures { passing_paper result ≡ outcome_of (deciding_paper st) }
+pub fn outcome(st: Deciding) -> Result<(), Refused>
+    ensures { placed_of result ≡ outcome_of (deciding_paper st) }
 {
     if !st.rises {
-        return Passing::RefusedAt(Refusal::IndicesDoNotRise, st.fall);
+        return Err(Refused::at(Refusal::IndicesDoNotRise, st.fall));
     }
     st.found
 }
 
 // The stock after changes that pass; 12.
-pub fn raised(found: Passing, stock: TurnStock) -> Applied
-    ensures { applied_paper result ≡ stock_at stock (raised_of (passing_paper found) stock.stamp.generation) }
+pub fn raised(found: Result<(), Refused>, stock: TurnStock) -> Result<TurnStock, Refused>
+    ensures { placed_of result ≡ stock_at stock (raised_of (placed_of found) stock.stamp.generation) }
 {
-    match found {
-        Passing::Refused(r) => Applied::Refused(r),
-        Passing::RefusedAt(r, k) => Applied::RefusedAt(r, k),
-        Passing::Pass => {
-            let generation = stock.stamp.generation;
-            if generation == LAST_GENERATION {
-                return Applied::Refused(Refusal::GenerationsSpent);
-            }
-            Applied::Stock(stock::stock_with(stock, stock.rings, generation + 1))
-        }
+    found?;
+    let generation = stock.stamp.generation;
+    if generation == LAST_GENERATION {
+        return Err(Refused::from(Refusal::GenerationsSpent));
     }
+    Ok(stock::stock_with(stock, stock.rings, generation + 1))
 }
 
 // The cell whose four numbers start at a place.
@@ -378,10 +347,8 @@ fn indices_rise(indices: &[usize], records: &[f64], k: usize) -> bool
         return true;
     }
     let mut ok = true;
-    let mut i: usize = 1;
-    while i < k {
+    for i in 1..k {
         ok = ok & (indices[i - 1] < indices[i]);
-        i += 1;
     }
     ok
 }
@@ -394,12 +361,10 @@ fn first_fall(indices: &[usize], records: &[f64], k: usize) -> usize
     if k < 2 {
         return k;
     }
-    let mut i: usize = 1;
-    while i < k {
+    for i in 1..k {
         if indices[i] <= indices[i - 1] {
             return i;
         }
-        i += 1;
     }
     k
 }
@@ -412,21 +377,15 @@ fn first_found(
     indices: &[usize],
     records: &[f64],
     k: usize,
-) -> Passing
+) -> Result<(), Refused>
     requires { k ≤ room_of (length indices.now) (length records.now) }
-    ensures { passing_paper result ≡ each_from s n cells.now 0 (changes_from indices.now records.now k) }
+    ensures { placed_of result ≡ each_from s n cells.now 0 (changes_from indices.now records.now k) }
 {
-    let mut found = Passing::Pass;
-    let mut i: usize = 0;
-    while i < k {
+    for i in 0..k {
         let change = change_at(indices, records, i);
-        found = found_next(s, n, cells, found, i, change);
-        if let Passing::RefusedAt(r, at) = found {
-            return Passing::RefusedAt(r, at);
-        }
-        i += 1;
+        passes_at(s, n, cells, i, change)?;
     }
-    found
+    Ok(())
 }
 
 // Each of k changes passes, asked without a branch; which one does not is asked only where one does not.
@@ -442,13 +401,11 @@ fn all_pass(
     ensures { result ≡ true → each_from s n cells.now 0 (changes_from indices.now records.now k) ≡ answers tt }
 {
     let mut ok = true;
-    let mut i: usize = 0;
-    while i < k {
+    for i in 0..k {
         let change = change_at(indices, records, i);
         let after = change.after;
         let fits = stock::cell_fits(s, after);
         ok = ok & fits & applies_to(n, cells, change);
-        i += 1;
     }
     ok
 }
@@ -469,16 +426,16 @@ pub fn first_refusal(
     indices: &[usize],
     records: &[f64],
     k: usize,
-) -> Passing
-    ensures { passing_paper result ≡ first_refusal s n cells.now indices.now records.now k }
+) -> Result<(), Refused>
+    ensures { placed_of result ≡ first_refusal s n cells.now indices.now records.now k }
 {
     let held = held_of(indices.len(), records.len(), k);
     if !indices_rise(indices, records, held) {
         let at = first_fall(indices, records, held);
-        return Passing::RefusedAt(Refusal::IndicesDoNotRise, at);
+        return Err(Refused::at(Refusal::IndicesDoNotRise, at));
     }
     if all_pass(s, n, cells, indices, records, held) {
-        return Passing::Pass;
+        return Ok(());
     }
     first_found(s, n, cells, indices, records, held)
 }
@@ -488,24 +445,18 @@ pub fn put_after(cells: &mut [f64], indices: &[usize], records: &[f64], k: usize
     ensures { cells.new ≡ put_held cells.old indices.now records.now k }
 {
     let held = held_of(indices.len(), records.len(), k);
-    let mut i: usize = 0;
-    while i < held {
+    for i in 0..held {
         let index = indices[i];
         let after = cell_from(records, 8 * i + 4);
         stock::put_cell(cells, index, after);
-        i += 1;
     }
 }
 
 // The changes may be written.
-pub fn is_accepted(answer: Applied) -> bool
+pub fn is_accepted(answer: Result<TurnStock, Refused>) -> bool
     ensures { result ≡ is_accepted answer }
 {
-    match answer {
-        Applied::Stock(_) => true,
-        Applied::Refused(_) => false,
-        Applied::RefusedAt(_, _) => false,
-    }
+    answer.is_ok()
 }
 
 // A commit on n cells that are not asked again, of the first changes that the lists hold, k at most.
@@ -518,18 +469,15 @@ pub fn commit_unasked(
     indices: &[usize],
     records: &[f64],
     k: usize,
-) -> Applied
+) -> Result<TurnStock, Refused>
     ensures { Commits stock (commit_held (clean_spec stock.spec) n cells.old stock.stamp.generation
         indices.now records.now k) result cells }
 {
     let s = stock::clean_spec(stock.spec);
     let found = first_refusal(s, n, cells, indices, records, k);
-    let answer = raised(found, stock);
-    if !is_accepted(answer) {
-        return answer;
-    }
+    let after = raised(found, stock)?;
     put_after(cells, indices, records, k);
-    answer
+    Ok(after)
 }
 
 // The same, with the kept numbers of the blocks in which its bins lie, where it is accepted.
@@ -541,17 +489,14 @@ fn commit_kept(
     indices: &[usize],
     records: &[f64],
     k: usize,
-) -> Applied
+) -> Result<TurnStock, Refused>
     ensures { CommitsThen stock n (commit_held (clean_spec stock.spec) n cells.old stock.stamp.generation
         indices.now records.now k) result cells.old cells.new blocks.old blocks.new indices.now k }
 {
-    let answer = commit_unasked(stock, n, cells, indices, records, k);
-    if !is_accepted(answer) {
-        return answer;
-    }
+    let after = commit_unasked(stock, n, cells, indices, records, k)?;
     let s = stock::clean_spec(stock.spec);
     blocks::renew_changed(s, n, cells, blocks, indices, k);
-    answer
+    Ok(after)
 }
 
 // Commit a change list: the stock afterwards; 1, 2, 3, 19 where the list's stamp is not the stock's, 20
@@ -564,21 +509,16 @@ pub fn apply(
     list: ChangeList,
     indices: &[usize],
     records: &[f64],
-) -> Applied
+) -> Result<TurnStock, Refused>
     ensures { CommitsKept stock
         (apply_of stock cells.old blocks.old list indices.now records.now)
         result cells blocks }
 {
-    let counted = asked_cells(stock, cells, blocks, list.stamp);
-    match counted {
-        Counted::Refused(r) => Applied::Refused(r),
-        Counted::Cells(n) => {
-            if room(indices.len(), records.len()) < list.count {
-                return Applied::Refused(Refusal::ChangesOverRoom);
-            }
-            commit_kept(stock, n, cells, blocks, indices, records, list.count)
-        }
+    let n = asked_cells(stock, cells, blocks, list.stamp)?;
+    if room(indices.len(), records.len()) < list.count {
+        return Err(Refused::from(Refusal::ChangesOverRoom));
     }
+    commit_kept(stock, n, cells, blocks, indices, records, list.count)
 }
 
 // How many of the first n cells differ.
@@ -586,14 +526,12 @@ fn count_differences(cells: &[f64], after: &[f64], n: usize) -> usize
     ensures { result ≡ length (changes_to (other_cell after.now) cells.now n) }
 {
     let mut k: usize = 0;
-    let mut i: usize = 0;
-    while i < n {
+    for i in 0..n {
         let a = stock::cell_at(cells, i);
         let b = stock::cell_at(after, i);
         if !stock::same_cell(a, b) {
             k += 1;
         }
-        i += 1;
     }
     k
 }
@@ -613,15 +551,13 @@ fn write_differences(
     let held = numbers::lesser(cells.len() / 4, after.len() / 4);
     let top = numbers::lesser(n, held);
     let mut k: usize = 0;
-    let mut i: usize = 0;
-    while i < top {
+    for i in 0..top {
         let change = TurnChange {
             index: i,
             before: stock::cell_at(cells, i),
             after: stock::cell_at(after, i),
         };
         k = list_change(indices, records, k, change);
-        i += 1;
     }
     k
 }
@@ -633,18 +569,18 @@ fn list_differences(
     n: usize,
     indices: &mut [usize],
     records: &mut [f64],
-) -> Tally
+) -> Result<usize, Refusal>
     requires { (4 * n ≤ length cells.now) × (4 * n ≤ length after.now) }
     ensures { Tallies (λ room. settled room (changes_to (other_cell after.now) cells.now n)) result indices records }
 {
     let room = room(indices.len(), records.len());
     if n <= room {
-        return Tally::Changes(write_differences(cells, after, n, indices, records));
+        return Ok(write_differences(cells, after, n, indices, records));
     }
     if count_differences(cells, after, n) <= room {
-        return Tally::Changes(write_differences(cells, after, n, indices, records));
+        return Ok(write_differences(cells, after, n, indices, records));
     }
-    Tally::Refused(Refusal::ChangesOverRoom)
+    Err(Refusal::ChangesOverRoom)
 }
 
 // The same of two lists of cells that are asked first; 1, 2, 3, 6.
@@ -654,18 +590,12 @@ fn tally_differences(
     after: &[f64],
     indices: &mut [usize],
     records: &mut [f64],
-) -> Tally
+) -> Result<usize, Refusal>
     ensures { Tallies (difference_of spec cells.now after.now) result indices records }
 {
-    let counted = stock::cells_fit(spec, cells);
-    let other = stock::cells_fit(spec, after);
-    match counted {
-        Counted::Refused(r) => Tally::Refused(r),
-        Counted::Cells(n) => match other {
-            Counted::Refused(r) => Tally::Refused(r),
-            Counted::Cells(_) => list_differences(cells, after, n, indices, records),
-        },
-    }
+    let n = stock::cells_fit(spec, cells)?;
+    stock::cells_fit(spec, after)?;
+    list_differences(cells, after, n, indices, records)
 }
 
 // The changes that turn a stock into another of the same spec, with the first one's stamp; 1, 2, 3, 6.
@@ -675,7 +605,7 @@ pub fn changes_to(
     after: &[f64],
     indices: &mut [usize],
     records: &mut [f64],
-) -> Previewed
+) -> Result<ChangeList, Refusal>
     ensures { Proposes stock.stamp (difference_of stock.spec cells.now after.now) result indices records }
 {
     let tally = tally_differences(stock.spec, cells, after, indices, records);

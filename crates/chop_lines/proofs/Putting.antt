@@ -1,6 +1,5 @@
 -- The lines of the chords put one behind the other, and what a profile becomes. Assumes nothing.
-use Rattle.std.proofs.Common.{◌≡◌, ℕ, zero, suc, ◌+◌, ◌*◌, ◌/◌, ◌<◌, ◌≤◌, Bool, true, false, leb, List, [], ◌∷◌, ◌++◌, length, take, drop, sym, refl, ap, ◌∙◌, subst, ap₂, append_assoc, add-one, arith, eq-eqb, ne_eqb, le-leb, leb-true}
-use mathlib.Core.Option.{Option, none, some}
+use Rattle.std.proofs.Common.{◌≡◌, ℕ, zero, suc, ◌+◌, ◌*◌, ◌/◌, ◌<◌, ◌≤◌, Bool, true, false, leb, List, [], ◌∷◌, ◌++◌, length, take, drop, sym, refl, ap, ◌∙◌, subst, ap₂, append_assoc, add-one, arith, eq-eqb, ne_eqb, le-leb, leb-true, Option, None, Some, Err, Ok, Result}
 use lib.ListN.{get_or-append}
 use lib.Seq.{sets-eq, take-append_seam}
 use lib.Ieee.{Float, nan}
@@ -17,8 +16,6 @@ use Rattle.stock.specs.declared.TurnSide.{TurnSide}
 use Rattle.stock.specs.declared.TurnSide.TheVariants.{Outer, Inner}
 use Rattle.stock.proofs.Count.{no_answer}
 use Rattle.numbers.specs.Whole.{whole_up, ceiling_of, at_most}
-use Rattle.profile.specs.declared.Chopped.{Chopped}
-use Rattle.profile.specs.declared.Chopped.TheVariants.{Chords, Refused}
 use Rattle.profile.specs.Chords.{Chord, flat_of, room_for, segments_of, count_of, Segmented}
 use Rattle.profile.proofs.Answers.{flat-length}
 use Rattle.profile.proofs.Laws.{Accepted, accepted}
@@ -47,11 +44,11 @@ micro-short x = by (has_minus x (micrometres x)) refl
     by true e = simp (e, yes) (omega (arith, decimal-short (micrometres x)))
     by false e = simp (e, no) (omega (arith, decimal-short (micrometres x)))
 
-up-most : (o : Option ℕ) (limit n : ℕ) → at_most limit o ≡ some n → n ≤ limit
-up-most none limit n e = absurd (let z : ◌≡◌ {A = ℕ} 0 1 = cc in omega arith)
-up-most (some m) limit n e = by (leb m limit) refl
+up-most : (o : Option ℕ) (limit n : ℕ) → at_most limit o ≡ Some n → n ≤ limit
+up-most None limit n e = absurd (let z : ◌≡◌ {A = ℕ} 0 1 = cc in omega arith)
+up-most (Some m) limit n e = by (leb m limit) refl
   where
-    same : {a b : ℕ} → some a ≡ some b → a ≡ b
+    same : {a b : ℕ} → Some a ≡ Some b → a ≡ b
     same h = cc
 
     by : (t : Bool) → leb m limit ≡ t → n ≤ limit
@@ -59,9 +56,9 @@ up-most (some m) limit n e = by (leb m limit) refl
         let q : m ≡ n = same (sym (pick_true _ _ _ h) ∙ e) in
         let k : m ≤ limit = leb-true m limit h in
         omega (arith, q, k)
-    by false h = absurd (let k : none ≡ some n = sym (pick-false _ _ _ h) ∙ e in let z : ◌≡◌ {A = ℕ} 0 1 = cc in omega arith)
+    by false h = absurd (let k : None ≡ Some n = sym (pick-false _ _ _ h) ∙ e in let z : ◌≡◌ {A = ℕ} 0 1 = cc in omega arith)
 
-pub up-within : (q : Float) (limit n : ℕ) → whole_up q limit ≡ some n → n ≤ limit
+pub up-within : (q : Float) (limit n : ℕ) → whole_up q limit ≡ Some n → n ≤ limit
 unfolding whole_up
 up-within q limit n e = up-most (ceiling_of q) limit n e
 
@@ -137,7 +134,7 @@ pub text-scan : (st : State) → (st.scan.refused ≡ 0 → ⊥) → refused_lin
 unfolding text_of
 text-scan st h = sym (pick-false _ _ _ (ne_eqb _ _ h))
 
-module _ (st : State) (bs ws : List Float) {r : Chopped} (goes : st.scan.refused ≡ 0) (room : length bs ≡ 20480) (s : Segmented st.points st.scan.tolerance r bs ws) where
+module _ (st : State) (bs ws : List Float) {r : (Result ℕ Refusal)} (goes : st.scan.refused ≡ 0) (room : length bs ≡ 20480) (s : Segmented st.points st.scan.tolerance r bs ws) where
   fits : length bs / 5 ≡ most_chords
   fits = ap (λ (n : ℕ). n / 5) room
 
@@ -145,20 +142,20 @@ module _ (st : State) (bs ws : List Float) {r : Chopped} (goes : st.scan.refused
   unfolding text_of
   is = ap (λ (n : ℕ). text_by st.scan (segments_of st.points st.scan.tolerance n)) fits ∙ sym (pick_true _ _ _ (eq-eqb _ _ goes))
 
-  pub text-refused : (c : Refusal) (n : ℕ) → r ≡ Refused c → n ≡ number_of c → refused_line st.scan.lines n ≡ text_of st
+  pub text-refused : (c : Refusal) (n : ℕ) → r ≡ Err c → n ≡ number_of c → refused_line st.scan.lines n ≡ text_of st
   unfolding count_of text_by
   text-refused c n e en = ap (refused_line st.scan.lines) en ∙ by (segments_of st.points st.scan.tolerance (length bs / 5)) refl ∙ is
     where
       told : refuses (reason_of c) ≡ count_of (segments_of st.points st.scan.tolerance (length bs / 5))
-      told = (subst (λ (x : Chopped). Segmented st.points st.scan.tolerance x bs ws) e s).answer
+      told = (subst (λ (x : Result ℕ Refusal). Segmented st.points st.scan.tolerance x bs ws) e s).answer
 
       by : (p : Paper (List Chord)) → segments_of st.points st.scan.tolerance (length bs / 5) ≡ p → refused_line st.scan.lines (number_of c) ≡ text_by st.scan (segments_of st.points st.scan.tolerance (length bs / 5))
       by (answers l) q = absurd (no_answer (reason_of c) (length l) (told ∙ ap count_of q))
       by (refuses m) q = ap (λ (k : Reason). refused_line st.scan.lines k.number) (same_number (reason_of c) m (told ∙ ap count_of q)) ∙ sym (ap (text_by st.scan) q)
 
-  module _ (n : ℕ) (e : r ≡ Chords n) where
+  module _ (n : ℕ) (e : r ≡ Ok n) where
     a : Accepted st.points st.scan.tolerance n bs ws
-    a = accepted _ _ n bs ws (subst (λ (x : Chopped). Segmented st.points st.scan.tolerance x bs ws) e s)
+    a = accepted _ _ n bs ws (subst (λ (x : Result ℕ Refusal). Segmented st.points st.scan.tolerance x bs ws) e s)
 
     pub chords-fit : length ws ≡ length bs → 5 * n ≤ length ws
     chords-fit h = omega (arith, h, room, a.many, a.fit)

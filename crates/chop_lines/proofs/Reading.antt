@@ -1,15 +1,11 @@
 -- What a line of a profile says, and what it does to a scan. Assumes nothing.
-use Rattle.std.proofs.Common.{◌≡◌, ℕ, suc, ◌+◌, ◌*◌, ◌<◌, ◌≤◌, List, [], ◌∷◌, ◌++◌, length, get_or, take, drop, set, sym, refl, ap, ◌∙◌, append_assoc, arith, length-set, length-take-le, take_all, take-suc-set, le-ltb, lt-ltb, eq-eqb, ne_eqb}
+use Rattle.std.proofs.Common.{◌≡◌, ℕ, suc, ◌+◌, ◌*◌, ◌<◌, ◌≤◌, List, [], ◌∷◌, ◌++◌, length, get_or, take, drop, set, sym, refl, ap, ◌∙◌, append_assoc, arith, length-set, length-take-le, take_all, take-suc-set, le-ltb, lt-ltb, eq-eqb, ne_eqb, None, Option, Some}
 use lib.Ieee.{Float}
 use Rattle.floats.specs.Pick.{pick_true, pick-false}
 use Rattle.text.proofs.Chosen.{yes, no}
 use Rattle.text.specs.Whole.{whole_of}
 use Rattle.stock.specs.declared.TurnSide.{TurnSide}
-use Rattle.job_words.specs.declared.number.Number.{Number}
-use Rattle.job_words.specs.declared.number.Number.TheVariants.{Mm, NoNumber}
 use Rattle.job_words.specs.Number.{field_number}
-use Rattle.chop_lines.specs.declared.number.Bulge.{Bulge}
-use Rattle.chop_lines.specs.declared.number.Bulge.TheVariants.{NoBulge}
 use Rattle.chop_lines.specs.declared.words.Words.{Words}
 use Rattle.chop_lines.specs.declared.words.Words.TheVariants.{Head, Corner, Bad}
 use Rattle.chop_lines.specs.declared.scan.Scan.{Scan}
@@ -18,7 +14,7 @@ use Rattle.chop_lines.specs.Scan.{State, state, next, refusing, onward, first_li
 
 -- ---- a bulge
 
-pub bulge-empty : (f : List ℕ) → length f < 1 → bulge_of f ≡ NoBulge
+pub bulge-empty : (f : List ℕ) → length f < 1 → bulge_of f ≡ None
 unfolding bulge_of
 bulge-empty [] h = refl
 bulge-empty (b ∷ s) h = absurd (omega arith)
@@ -36,37 +32,37 @@ bulge-plus (b ∷ s) h e = simp (ne_eqb _ _ e, no)
 -- ---- a line's words
 
 -- what a field was read as
-pub read_as : {f g : List ℕ} {r x : Number} → g ≡ f → r ≡ field_number g → r ≡ x → field_number f ≡ x
+pub read_as : {f g : List ℕ} {r x : (Option Float)} → g ≡ f → r ≡ field_number g → r ≡ x → field_number f ≡ x
 read_as p q e = ap field_number (sym p) ∙ sym q ∙ e
 
-pub bulge-as : {f g : List ℕ} {r x : Bulge} → g ≡ f → r ≡ bulge_of g → r ≡ x → bulge_of f ≡ x
+pub bulge-as : {f g : List ℕ} {r x : (Option Float)} → g ≡ f → r ≡ bulge_of g → r ≡ x → bulge_of f ≡ x
 bulge-as p q e = ap bulge_of (sym p) ∙ sym q ∙ e
 
-pub head-is : (fs : List (List ℕ)) (side : TurnSide) {a b : Number} → field_number (get_or fs 2 []) ≡ a → field_number (get_or fs 3 []) ≡ b → head_by side a b ≡ head_on fs side
+pub head-is : (fs : List (List ℕ)) (side : TurnSide) {a b : (Option Float)} → field_number (get_or fs 2 []) ≡ a → field_number (get_or fs 3 []) ≡ b → head_by side a b ≡ head_on fs side
 unfolding head_on
-head-is fs side {b = b} ea eb = ap (λ (x : Number). head_by side x b) (sym ea) ∙ ap (λ (x : Number). head_by side (field_number (get_or fs 2 [])) x) (sym eb)
+head-is fs side {b = b} ea eb = ap (λ (x : Option Float). head_by side x b) (sym ea) ∙ ap (λ (x : Option Float). head_by side (field_number (get_or fs 2 [])) x) (sym eb)
 
-pub head-no : (fs : List (List ℕ)) (side : TurnSide) → field_number (get_or fs 2 []) ≡ NoNumber → Bad ≡ head_on fs side
+pub head-no : (fs : List (List ℕ)) (side : TurnSide) → field_number (get_or fs 2 []) ≡ None → Bad ≡ head_on fs side
 unfolding head_on
-head-no fs side e = ap (λ (x : Number). head_by side x (field_number (get_or fs 3 []))) (sym e)
+head-no fs side e = ap (λ (x : Option Float). head_by side x (field_number (get_or fs 3 []))) (sym e)
 
 module _ (fs : List (List ℕ)) where
-  pub corner-is : {a b : Number} {d : Bulge} → field_number (get_or fs 1 []) ≡ a → field_number (get_or fs 2 []) ≡ b → bulge_of (get_or fs 3 []) ≡ d → corner_by a b d ≡ corner_of fs
+  pub corner-is : {a b : (Option Float)} {d : (Option Float)} → field_number (get_or fs 1 []) ≡ a → field_number (get_or fs 2 []) ≡ b → bulge_of (get_or fs 3 []) ≡ d → corner_by a b d ≡ corner_of fs
   unfolding corner_of
   corner-is {a} {b} {d} ea eb ed =
-      ap (λ (x : Number). corner_by x b d) (sym ea)
-      ∙ ap (λ (x : Number). corner_by (field_number (get_or fs 1 [])) x d) (sym eb)
-      ∙ ap (λ (x : Bulge). corner_by (field_number (get_or fs 1 [])) (field_number (get_or fs 2 [])) x) (sym ed)
+      ap (λ (x : Option Float). corner_by x b d) (sym ea)
+      ∙ ap (λ (x : Option Float). corner_by (field_number (get_or fs 1 [])) x d) (sym eb)
+      ∙ ap (λ (x : Option Float). corner_by (field_number (get_or fs 1 [])) (field_number (get_or fs 2 [])) x) (sym ed)
 
-  pub corner-no : field_number (get_or fs 1 []) ≡ NoNumber → Bad ≡ corner_of fs
+  pub corner-no : field_number (get_or fs 1 []) ≡ None → Bad ≡ corner_of fs
   unfolding corner_of
-  corner-no e = ap (λ (x : Number). corner_by x (field_number (get_or fs 2 [])) (bulge_of (get_or fs 3 []))) (sym e)
+  corner-no e = ap (λ (x : Option Float). corner_by x (field_number (get_or fs 2 [])) (bulge_of (get_or fs 3 []))) (sym e)
 
-  pub corner-no-z : {r : Float} → field_number (get_or fs 1 []) ≡ Mm r → field_number (get_or fs 2 []) ≡ NoNumber → Bad ≡ corner_of fs
+  pub corner-no-z : {r : Float} → field_number (get_or fs 1 []) ≡ Some r → field_number (get_or fs 2 []) ≡ None → Bad ≡ corner_of fs
   unfolding corner_of
   corner-no-z {r} ea eb =
-      ap (λ (x : Number). corner_by (Mm r) x (bulge_of (get_or fs 3 []))) (sym eb)
-      ∙ ap (λ (x : Number). corner_by x (field_number (get_or fs 2 [])) (bulge_of (get_or fs 3 []))) (sym ea)
+      ap (λ (x : Option Float). corner_by (Some r) x (bulge_of (get_or fs 3 []))) (sym eb)
+      ∙ ap (λ (x : Option Float). corner_by x (field_number (get_or fs 2 [])) (bulge_of (get_or fs 3 []))) (sym ea)
 
 -- ---- a point
 

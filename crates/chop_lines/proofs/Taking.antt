@@ -11,7 +11,8 @@ use Rattle.lines.proofs.Parts.{parts, byte-newline, byte-held, byte-long}
 use Rattle.lines.proofs.OneFile.{whole-file}
 use Rattle.chop_lines.specs.declared.scan.Scan.{Scan}
 use Rattle.chop_lines.specs.Scan.{State, state, fresh_scan, fresh, refusing, on_line, on_long, on_end, stopped, scan_of, in_hand, byte_to, bytes_to, is_at_end, finish_of}
-use Rattle.chop_lines.specs.Reads.{held_by, After, ReadsSome}
+use Rattle.streams.specs.Brought.{held_by}
+use Rattle.chop_lines.specs.Reads.{After, ReadsSome}
 
 -- ---- a byte
 

@@ -9,6 +9,7 @@ use Rattle.lines.specs.Hands.{Hand, hand, byte_on, takes}
 use Rattle.chop_lines.specs.declared.words.Words.{Words}
 use Rattle.chop_lines.specs.declared.words.Words.TheVariants.{Head, Corner, Bad}
 use Rattle.chop_lines.specs.declared.scan.Scan.{Scan}
+use Rattle.chop_lines.specs.declared.scan.Taken.{Taken}
 use Rattle.chop_lines.specs.Words.{words_of}
 
 -- what was read: the first line's words, how many lines, the refusal or 0; and the numbers of the points, three each
@@ -85,11 +86,11 @@ pub record ScanRoom (xs : List Float) (l : List ℕ) : Type 0 where
 abbrev pub in_hand : Scan → List Float → ℕ → List ℕ → ℕ → Hand State
 in_hand s xs n l len = hand (state s (take (3 * n) xs)) (take len l)
 
-abbrev pub found : Scan → Lent Float → ℕ → Lent ℕ → ℕ → Hand State
-found s numbers n line len = in_hand s numbers.entry.now n line.entry.now len
+abbrev pub found : Taken → Lent Float → Lent ℕ → Hand State
+found t numbers line = in_hand t.scan numbers.entry.now t.points line.entry.now t.len
 
-abbrev pub left : Scan → Lent Float → ℕ → Lent ℕ → ℕ → Hand State
-left s numbers n line len = in_hand s numbers.exit.now n line.exit.now len
+abbrev pub left : Taken → Lent Float → Lent ℕ → Hand State
+left t numbers line = in_hand t.scan numbers.exit.now t.points line.exit.now t.len
 
 abbrev pub byte_to : Hand State → ℕ → Hand State
 byte_to j b = byte_on stopped on_line on_long j b

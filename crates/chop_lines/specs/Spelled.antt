@@ -1,6 +1,5 @@
 -- A chord as a line of a job. Assumes nothing.
-use Rattle.std.specs.Prelude.{ℕ, zero, suc, ◌+◌, ◌-◌, ◌*◌, ◌^◌, Bool, not, ◌&&◌, List, [], ◌∷◌, ◌++◌, ◌==◌, from_bits, slice_index_or, Float}
-use Rattle.std.proofs.Math.Option.{Option, none, some}
+use Rattle.std.specs.Prelude.{ℕ, zero, suc, ◌+◌, ◌-◌, ◌*◌, ◌^◌, Bool, not, ◌&&◌, List, [], ◌∷◌, ◌++◌, ◌==◌, from_bits, slice_index_or, Float, Option, None, Some}
 use Rattle.std.specs.Float.{nan, binary64}
 use Rattle.std.specs.Float.Ieee.{lt}
 use Rattle.floats.specs.Pick.{pick}
@@ -33,8 +32,8 @@ micro_field x = pick (has_minus x (micrometres x)) ((9 ∷ 45 ∷ []) ++ decimal
 
 -- a sag rounded up and one more; what is over 1,000,000,000 does not arise, and no job would take it
 abbrev pub up_by : Option ℕ → ℕ
-up_by (some n) = n + 1
-up_by none = 2 ^ 64 - 1
+up_by (Some n) = n + 1
+up_by None = 2 ^ 64 - 1
 
 abbrev pub sag_up : Float → ℕ
 sag_up sag = up_by (whole_up (sag *₆₄ thousand) 1000000000)

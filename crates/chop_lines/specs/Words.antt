@@ -1,20 +1,14 @@
 -- What a line of a profile says. Assumes nothing.
-use Rattle.std.specs.Prelude.{ℕ, List, [], ◌∷◌, length, pos, ◌==◌, from_bits, slice_index_or, Float}
+use Rattle.std.specs.Prelude.{ℕ, List, [], ◌∷◌, length, pos, ◌==◌, from_bits, slice_index_or, Float, None, Option, Some}
 use Rattle.std.specs.Float.{binary64}
 use Rattle.std.specs.Float.Ieee.{of_int, div, neg}
 use Rattle.floats.specs.Pick.{pick}
-use Rattle.text.specs.declared.Whole.{Whole}
-use Rattle.text.specs.declared.Whole.TheVariants.{Of, No}
 use Rattle.text.specs.Whole.{whole_of}
 use Rattle.text.specs.Same.{same_bytes}
 use Rattle.stock.specs.declared.TurnSide.{TurnSide}
 use Rattle.stock.specs.declared.TurnSide.TheVariants.{Outer, Inner}
-use Rattle.job_words.specs.declared.number.Number.{Number}
-use Rattle.job_words.specs.declared.number.Number.TheVariants.{Mm, NoNumber}
 use Rattle.job_words.specs.Number.{field_number}
 use Rattle.job_words.specs.Kind.{fields_of, word_outer, word_inner}
-use Rattle.chop_lines.specs.declared.number.Bulge.{Bulge}
-use Rattle.chop_lines.specs.declared.number.Bulge.TheVariants.{Is, NoBulge}
 use Rattle.chop_lines.specs.declared.words.Words.{Words}
 use Rattle.chop_lines.specs.declared.words.Words.TheVariants.{Head, Corner, Bad}
 
@@ -24,16 +18,16 @@ use Rattle.chop_lines.specs.declared.words.Words.TheVariants.{Head, Corner, Bad}
 abbrev pub millionths : ℕ → Float
 millionths v = div binary64 (of_int binary64 (pos v)) (from_bits binary64 0x412E848000000000)
 
-abbrev pub plain : Whole → Bulge
-plain (Of v) = Is (millionths v)
-plain No = NoBulge
+abbrev pub plain : Option ℕ → (Option Float)
+plain (Some v) = Some (millionths v)
+plain None = None
 
-abbrev pub turned : Whole → Bulge
-turned (Of v) = Is (neg (millionths v))
-turned No = NoBulge
+abbrev pub turned : Option ℕ → (Option Float)
+turned (Some v) = Some (neg (millionths v))
+turned None = None
 
-unfoldable pub bulge_of : List ℕ → Bulge
-bulge_of [] = NoBulge
+unfoldable pub bulge_of : List ℕ → (Option Float)
+bulge_of [] = None
 bulge_of (b ∷ s) = pick (b == 45) (turned (whole_of s)) (plain (whole_of (b ∷ s)))
 
 -- ---- the words
@@ -46,10 +40,10 @@ word_point = 112 ∷ 111 ∷ 105 ∷ 110 ∷ 116 ∷ []
 
 -- ---- the kinds of a line, by its four fields
 
-abbrev pub head_by : TurnSide → Number → Number → Words
-head_by side (Mm rn) (Mm tol) = Head side rn tol
-head_by side (Mm rn) NoNumber = Bad
-head_by side NoNumber t = Bad
+abbrev pub head_by : TurnSide → (Option Float) → (Option Float) → Words
+head_by side (Some rn) (Some tol) = Head side rn tol
+head_by side (Some rn) None = Bad
+head_by side None t = Bad
 
 -- `profile` side rn tolerance
 unfoldable pub head_on : List (List ℕ) → TurnSide → Words
@@ -60,11 +54,11 @@ head_of fs =
     pick (same_bytes (slice_index_or fs 1 []) word_outer) (head_on fs Outer)
     (pick (same_bytes (slice_index_or fs 1 []) word_inner) (head_on fs Inner) Bad)
 
-abbrev pub corner_by : Number → Number → Bulge → Words
-corner_by (Mm r) (Mm z) (Is b) = Corner r z b
-corner_by (Mm r) (Mm z) NoBulge = Bad
-corner_by (Mm r) NoNumber b = Bad
-corner_by NoNumber z b = Bad
+abbrev pub corner_by : Option Float → (Option Float) → (Option Float) → Words
+corner_by (Some r) (Some z) (Some b) = Corner r z b
+corner_by (Some r) (Some z) None = Bad
+corner_by (Some r) None b = Bad
+corner_by None z b = Bad
 
 -- `point` r z bulge
 unfoldable pub corner_of : List (List ℕ) → Words

@@ -13,11 +13,10 @@ mod words;
 
 ghost use Rattle.std.specs.Prelude.{◌≡◌, ◌*◌, ◌≤◌, take};
 ghost use Rattle.chop_lines.specs.Scan.{state, ScanRoom};
-ghost use Rattle.chop_lines.specs.Reads.{brought_by, may_be_more, held_by, ReadsOn, ReadsSome};
+ghost use Rattle.chop_lines.specs.Reads.{ReadsOn, ReadsSome};
 ghost use Rattle.chop_lines.specs.Chopped.{text_of, AllPut, ChopsSome};
 
-use profile::Chopped;
-use scan::{LINE_LIMIT, NUMBERS, Scan};
+use scan::{LINE_LIMIT, NUMBERS, Scan, Taken};
 use std::io::Write;
 use std::rt::Clock;
 use streams::{GATHERED, Got, Out};
@@ -35,69 +34,25 @@ struct Read {
 // A scan after a read, and what the read told.
 #[derive(Clone, Copy)]
 struct Turn {
-    scan: Scan,
-    points: usize,
-    len: usize,
+    taken: Taken,
     got: Got,
-}
-
-// How many bytes a read brought; at the end, none.
-fn brought(got: Got) -> usize
-    ensures { result ≡ brought_by got }
-{
-    match got {
-        Got::Bytes(n) => n,
-        Got::End => 0,
-        Got::Cut => 0,
-    }
-}
-
-// Whether there may be more after a read.
-fn may_be_more(got: Got) -> bool
-    ensures { result ≡ may_be_more got }
-{
-    match got {
-        Got::Bytes(_) => true,
-        Got::End => false,
-        Got::Cut => false,
-    }
-}
-
-// How many bytes of an unfinished line the input ends with: where it is cut off, there are some.
-fn held_by(got: Got, len: usize) -> usize
-    ensures { result ≡ held_by got len }
-{
-    match got {
-        Got::End => len,
-        Got::Cut => 1,
-        Got::Bytes(_) => 1,
-    }
 }
 
 // Reads once, and takes what came.
 fn take_some(
     rt: &(impl Eprint + Clock),
     from: &mut impl std::io::Read,
-    scan: Scan,
+    before: Taken,
     numbers: &mut [f64],
-    points: usize,
     line: &mut [u8],
-    len: usize,
 ) -> Turn
-    requires { ScanRoom numbers.old line.old × (len ≤ 127) }
-    ensures { ReadsOn scan points len numbers line result.scan result.points result.len }
+    requires { ScanRoom numbers.old line.old × (before.len ≤ 127) }
+    ensures { ReadsOn before numbers line result.taken }
 {
     let mut buf = io::large_buffer();
     let got = streams::read_some(rt, from, &mut buf);
-    let n = brought(got);
-    let taken = scan::take_bytes(scan, numbers, points, line, len, text::front(&buf, n));
-    let after = taken.scan;
-    Turn {
-        scan: after,
-        points: taken.points,
-        len: taken.len,
-        got,
-    }
+    let taken = scan::take_bytes(before, numbers, line, text::front(&buf, got.brought()));
+    Turn { taken, got }
 }
 
 // Reads a profile to the end of its input.
@@ -110,29 +65,20 @@ fn read_profile(
     requires { ScanRoom numbers.old line.old }
     ensures { ReadsSome (state result.scan (take (3 * result.points) numbers.new)) }
 {
-    let mut scan = scan::fresh();
-    let mut points: usize = 0;
-    let mut len: usize = 0;
-    let mut turns = u64::MAX;
-    loop {
-        let t = take_some(rt, from, scan, numbers, points, line, len);
-        scan = t.scan;
-        points = t.points;
-        len = t.len;
-        let got = t.got;
-        if !may_be_more(got) {
+    let mut taken = scan::fresh();
+    for _ in 0..u64::MAX {
+        let t = take_some(rt, from, taken, numbers, line);
+        taken = t.taken;
+        if !t.got.may_be_more() {
             return Read {
-                scan: scan::finish(scan, held_by(got, len)),
-                points,
+                scan: scan::finish(taken.scan, t.got.held(taken.len)),
+                points: taken.points,
             };
         }
-        if turns == 0 {
-            return Read {
-                scan: scan::finish(scan, held_by(got, len)),
-                points,
-            };
-        }
-        turns -= 1;
+    }
+    Read {
+        scan: scan::finish(taken.scan, Got::Cut.held(taken.len)),
+        points: taken.points,
     }
 }
 
@@ -162,13 +108,12 @@ fn put_text(
     }
     let side = scan.side;
     let mut chords = [0.0f64; CHORD_NUMBERS];
-    let chopped = profile::segments(points, scan.tolerance, &mut chords);
-    match chopped {
-        Chopped::Refused(r) => {
+    match profile::segments(points, scan.tolerance, &mut chords) {
+        Err(r) => {
             let number = refusals::number(r);
             spell::put_refused(rt, to, gathered, scan.lines, number as u64)
         }
-        Chopped::Chords(n) => spell::put_chords(rt, to, gathered, side, scan.rn, &chords, n),
+        Ok(n) => spell::put_chords(rt, to, gathered, side, scan.rn, &chords, n),
     }
 }
 
@@ -185,6 +130,5 @@ pub fn chop(
     let mut numbers = [0.0f64; NUMBERS];
     let mut line = [0u8; LINE_LIMIT];
     let read = read_profile(rt, from, &mut numbers, &mut line);
-    let scan = read.scan;
-    put_text(rt, to, gathered, scan, first(&numbers, read.points))
+    put_text(rt, to, gathered, read.scan, first(&numbers, read.points))
 }

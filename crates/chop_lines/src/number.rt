@@ -8,13 +8,7 @@ ghost use Rattle.text.specs.Wrote.{Wrote, line_room};
 ghost use Rattle.chop_lines.specs.Words.{millionths, bulge_of};
 ghost use Rattle.chop_lines.specs.Spelled.{micrometres, has_minus, micro_field, sag_up};
 
-use text::{LINE_ROOM, Whole, read_whole};
-
-#[derive(Clone, Copy)]
-pub enum Bulge {
-    Is(f64),
-    NoBulge,
-}
+use text::{LINE_ROOM, read_whole};
 
 fn in_millionths(v: u64) -> f64
     ensures { result ≡ millionths v }
@@ -23,22 +17,22 @@ fn in_millionths(v: u64) -> f64
 }
 
 // A field as a bulge.
-pub fn read_bulge(f: &[u8]) -> Bulge
+pub fn read_bulge(f: &[u8]) -> Option<f64>
     ensures { result ≡ bulge_of f.now }
 {
     if f.len() < 1 {
-        return Bulge::NoBulge;
+        return None;
     }
     let b = f[0];
     if b == b'-' {
         match read_whole(&f[1..]) {
-            Whole::Of(v) => Bulge::Is(-in_millionths(v)),
-            Whole::No => Bulge::NoBulge,
+            Some(v) => Some(-in_millionths(v)),
+            None => None,
         }
     } else {
         match read_whole(f) {
-            Whole::Of(v) => Bulge::Is(in_millionths(v)),
-            Whole::No => Bulge::NoBulge,
+            Some(v) => Some(in_millionths(v)),
+            None => None,
         }
     }
 }
@@ -75,9 +69,8 @@ pub fn put_field(out: &mut [u8; LINE_ROOM], at: usize, x: f64) -> usize
 pub fn sag_up(sag: f64) -> u64
     ensures { result ≡ sag_up sag }
 {
-    let up = numbers::whole_up(sag * 1000.0, 1000000000);
-    match up {
-        numbers::Whole::Of(n) => n + 1,
-        numbers::Whole::Over => 0xffff_ffff_ffff_ffff,
+    match numbers::whole_up(sag * 1000.0, 1000000000) {
+        Some(n) => n + 1,
+        None => u64::MAX,
     }
 }

@@ -36,15 +36,20 @@ pub struct Taken {
 }
 
 // Before the first byte.
-pub fn fresh() -> Scan
-    ensures { result ≡ fresh_scan }
+pub fn fresh() -> Taken
+    ensures { result ≡ record { scan = fresh_scan; points = 0; len = 0 } }
 {
-    Scan {
+    let scan = Scan {
         side: TurnSide::Outer,
         rn: 0.0,
         tolerance: 0.0,
         lines: 0,
         refused: 0,
+    };
+    Taken {
+        scan,
+        points: 0,
+        len: 0,
     }
 }
 
@@ -52,14 +57,11 @@ pub fn fresh() -> Scan
 fn refuse(scan: Scan) -> Scan
     ensures { result ≡ refusing scan }
 {
-    let side = scan.side;
     let number = refusals::number(Refusal::LineMalformed);
     Scan {
-        side,
-        rn: scan.rn,
-        tolerance: scan.tolerance,
         lines: std::num::wrapping_add_u64(scan.lines, 1),
         refused: number as u64,
+        ..scan
     }
 }
 
@@ -67,13 +69,10 @@ fn refuse(scan: Scan) -> Scan
 fn go_on(scan: Scan) -> Scan
     ensures { result ≡ onward scan }
 {
-    let side = scan.side;
     Scan {
-        side,
-        rn: scan.rn,
-        tolerance: scan.tolerance,
         lines: std::num::wrapping_add_u64(scan.lines, 1),
         refused: 0,
+        ..scan
     }
 }
 
@@ -146,20 +145,16 @@ fn on_line(scan: Scan, numbers: &mut [f64], points: usize, line: &[u8]) -> Taken
 }
 
 // One byte more, put behind the first len of a line.
-fn take_byte(
-    scan: Scan,
-    numbers: &mut [f64],
-    points: usize,
-    line: &mut [u8],
-    len: usize,
-    byte: u8,
-) -> Taken
-    requires { ScanRoom numbers.old line.old × (len ≤ 127) }
-    ensures len_value { left result.scan numbers result.points line result.len ≡ byte_to (found scan numbers points line len) byte }
+fn take_byte(before: Taken, numbers: &mut [f64], line: &mut [u8], byte: u8) -> Taken
+    requires { ScanRoom numbers.old line.old × (before.len ≤ 127) }
+    ensures len_value { left result numbers line ≡ byte_to (found before numbers line) byte }
     ensures len_bound { result.len ≤ 127 }
 {
+    let scan = before.scan;
+    let points = before.points;
+    let len = before.len;
     if scan.refused != 0 {
-        return Taken { scan, points, len };
+        return before;
     }
     if byte == b'\n' {
         return on_line(scan, numbers, points, text::front(line, len));
@@ -180,34 +175,16 @@ fn take_byte(
 }
 
 // Some bytes more.
-pub fn take_bytes(
-    scan: Scan,
-    numbers: &mut [f64],
-    points: usize,
-    line: &mut [u8],
-    len: usize,
-    bytes: &[u8],
-) -> Taken
-    requires { ScanRoom numbers.old line.old × (len ≤ 127) }
-    ensures len_value { left result.scan numbers result.points line result.len ≡ bytes_to (found scan numbers points line len) bytes.now }
+pub fn take_bytes(before: Taken, numbers: &mut [f64], line: &mut [u8], bytes: &[u8]) -> Taken
+    requires { ScanRoom numbers.old line.old × (before.len ≤ 127) }
+    ensures len_value { left result numbers line ≡ bytes_to (found before numbers line) bytes.now }
     ensures len_bound { result.len ≤ 127 }
 {
-    let mut s = scan;
-    let mut p = points;
-    let mut n = len;
-    let mut i: usize = 0;
-    while i < bytes.len() {
-        let t = take_byte(s, numbers, p, line, n, bytes[i]);
-        s = t.scan;
-        p = t.points;
-        n = t.len;
-        i += 1;
+    let mut taken = before;
+    for b in bytes {
+        taken = take_byte(taken, numbers, line, *b);
     }
-    Taken {
-        scan: s,
-        points: p,
-        len: n,
-    }
+    taken
 }
 
 // The end of the bytes, where len of an unfinished line are held.

@@ -122,10 +122,8 @@ pub fn put_chords(
     ensures { AllPut (chord_texts side rn chords.now n) result gathered.new }
 {
     let mut out = streams::fresh();
-    let mut k: usize = 0;
-    while k < n {
+    for k in 0..n {
         out = put_chord(rt, to, out, gathered, side, rn, chords, k);
-        k += 1;
     }
     out
 }

@@ -4,8 +4,8 @@ ghost use Rattle.std.specs.Prelude.{◌≡◌};
 ghost use Rattle.job_words.specs.Kind.{fields_of};
 ghost use Rattle.chop_lines.specs.Words.{head_on, head_of, corner_of, words_of};
 
-use crate::number::{Bulge, read_bulge};
-use job_words::{Number, read_number};
+use crate::number::read_bulge;
+use job_words::read_number;
 use stock::TurnSide;
 
 #[derive(Clone, Copy)]
@@ -18,10 +18,10 @@ pub enum Words {
 fn read_head_on(s: &[u8], side: TurnSide) -> Words
     ensures { result ≡ head_on (fields_of s.now) side }
 {
-    let Number::Mm(rn) = read_number(text::part(s, b'\t', 2)) else {
+    let Some(rn) = read_number(text::part(s, b'\t', 2)) else {
         return Words::Bad;
     };
-    let Number::Mm(tolerance) = read_number(text::part(s, b'\t', 3)) else {
+    let Some(tolerance) = read_number(text::part(s, b'\t', 3)) else {
         return Words::Bad;
     };
     Words::Head(side, rn, tolerance)
@@ -43,13 +43,13 @@ fn read_head(s: &[u8]) -> Words
 fn read_corner(s: &[u8]) -> Words
     ensures { result ≡ corner_of (fields_of s.now) }
 {
-    let Number::Mm(r) = read_number(text::part(s, b'\t', 1)) else {
+    let Some(r) = read_number(text::part(s, b'\t', 1)) else {
         return Words::Bad;
     };
-    let Number::Mm(z) = read_number(text::part(s, b'\t', 2)) else {
+    let Some(z) = read_number(text::part(s, b'\t', 2)) else {
         return Words::Bad;
     };
-    let Bulge::Is(bulge) = read_bulge(text::part(s, b'\t', 3)) else {
+    let Some(bulge) = read_bulge(text::part(s, b'\t', 3)) else {
         return Words::Bad;
     };
     Words::Corner(r, z, bulge)

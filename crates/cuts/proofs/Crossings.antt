@@ -1,8 +1,8 @@
 -- A polygon, bin by bin: what its walk leaves in the rows is what the rule says of it. Assumes nothing.
-use mathlib.Core.Path.{◌≡◌, refl, sym, ap, ap₂, ◌∙◌, subst}
+use Rattle.std.specs.Prelude.{None, Option}
+use mathlib.Core.Path.{◌≡◌, refl, sym, ap, ◌∙◌, subst}
 use mathlib.Core.Bool.{true, false}
 use mathlib.Core.List.{List}
-use mathlib.Core.Option.{none}
 use Prim.Native.Nat.{ℕ, ◌+◌, ◌≤◌, ◌<◌}
 use native.Mathlib.Decide.{dec_le}
 use native.Mathlib.Omega.{arith}
@@ -12,22 +12,22 @@ use Rattle.stock.specs.declared.TurnStockSpec.{TurnStockSpec}
 use Rattle.stock.specs.declared.TurnSide.{TurnSide}
 use Rattle.stock.specs.declared.ZRange.{ZRange}
 use Rattle.stock.specs.Bin.{bin_of}
-use Rattle.reach.specs.declared.Low.{Low}
 use Rattle.reach.specs.declared.Swept.{Swept}
-use Rattle.reach.specs.Low.{Found, low_paper, swept_paper}
-use Rattle.reach.specs.Reach.{Reached, passed, reach_from}
+use Rattle.reach.specs.declared.Reach.{Reach}
+use Rattle.reach.specs.declared.Reach.TheVariants.{Passed}
+use Rattle.reach.specs.Reach.{reach_from}
 use Rattle.stock.specs.declared.BinRange.{BinRange}
 use Rattle.polygon.specs.Polygon.{lowest_of, extent_of, spans, bins_of, skips, Sweeps, polygon_reach, polygon_act}
-use Rattle.polygon.proofs.Visits.{visits-range, not-before, spanned, not_behind}
+use Rattle.polygon.proofs.Visits.{visits-range, not-before, not_behind}
 use Rattle.polygon.proofs.Reaches.{reach-nothing, reach-unspanned, reach-skipped, reach-swept}
-use Rattle.cuts.specs.Rows.{no_row, Unfilled, Extends, PutRow, Crosses, Crossed, Says}
+use Rattle.cuts.specs.Rows.{no_row, Extends, PutRow, Crosses, Crossed, Says}
 
 -- an empty row says that the bin is passed over
-pub says_nothing : (side : TurnSide) (f : Found) → f ≡ no_row → reach_from side f.low f.high ≡ passed
+pub says_nothing : (side : TurnSide) (f : Swept) → f ≡ no_row → reach_from side f.low f.high ≡ Passed
 unfolding reach_from
 says_nothing side f e = rw e
 
-module _ (s : TurnStockSpec) (side : TurnSide) (excess : Float) (ps : List Float) (lo hi : Float) (ex : Extends ps lo hi) (i : ℕ) (b : ZRange) (eb : b ≡ bin_of s i) {old : ℕ → Found} where
+module _ (s : TurnStockSpec) (side : TurnSide) (excess : Float) (ps : List Float) (lo hi : Float) (ex : Extends ps lo hi) (i : ℕ) (b : ZRange) (eb : b ≡ bin_of s i) {old : ℕ → Swept} where
   -- a bin that is skipped
   pub cross-skipped : skips b lo hi ≡ true → old i ≡ no_row → Crosses side (polygon_reach s side excess ps) old old i
   cross-skipped h e = record {
@@ -36,10 +36,10 @@ module _ (s : TurnStockSpec) (side : TurnSide) (excess : Float) (ps : List Float
   }
 
   -- any other
-  pub cross-swept : {new : ℕ → Found} → spans s lo hi i ≡ true → skips b lo hi ≡ false → (start stop : Low) (r : Swept) → low_paper start ≡ lowest_of ps side (greatest_of b.za lo) → low_paper stop ≡ lowest_of ps side (least_of b.zb hi) → Sweeps ps side excess b lo hi start stop r → PutRow old new i (swept_paper r) → Crosses side (polygon_reach s side excess ps) old new i
+  pub cross-swept : {new : ℕ → Swept} → spans s lo hi i ≡ true → skips b lo hi ≡ false → (start stop : Option Float) (r : Swept) → start ≡ lowest_of ps side (greatest_of b.za lo) → stop ≡ lowest_of ps side (least_of b.zb hi) → Sweeps ps side excess b lo hi start stop r → PutRow old new i r → Crosses side (polygon_reach s side excess ps) old new i
   cross-swept v h start stop r a z w p = record {
     here =
-        ap (λ (f : Found). reach_from side f.low f.high) p.here
+        ap (λ (f : Swept). reach_from side f.low f.high) p.here
         ∙ reach-swept s side excess ps i _ ex v (ap (λ (y : ZRange). skips y lo hi) (sym eb) ∙ h) start stop r
         (a ∙ ap (λ (y : ZRange). lowest_of ps side (greatest_of y.za lo)) eb)
         (z ∙ ap (λ (y : ZRange). lowest_of ps side (least_of y.zb hi)) eb)
@@ -48,10 +48,10 @@ module _ (s : TurnStockSpec) (side : TurnSide) (excess : Float) (ps : List Float
   }
 
 -- ---- the walk
-pub crossed-none : (side : TurnSide) (reach : ℕ → Reached) (first : ℕ) (old : ℕ → Found) → Crossed side reach first first old old
+pub crossed-none : (side : TurnSide) (reach : ℕ → Reach) (first : ℕ) (old : ℕ → Swept) → Crossed side reach first first old old
 crossed-none side reach first old = record { inside = λ j a b. absurd (omega arith); under = λ j a. refl; over = λ j a. refl }
 
-pub crossed-more : {side : TurnSide} {reach : ℕ → Reached} {first i : ℕ} {old new next : ℕ → Found} → first ≤ i → Crossed side reach first i old new → Crosses side reach new next i → Crossed side reach first (i + 1) old next
+pub crossed-more : {side : TurnSide} {reach : ℕ → Reach} {first i : ℕ} {old new next : ℕ → Swept} → first ≤ i → Crossed side reach first i old new → Crosses side reach new next i → Crossed side reach first (i + 1) old next
 crossed-more {side} {reach} {first} {i} {old} {new} {next} f w u = record {
   inside = λ j a b. go j a (dec_le i j) b;
   under = λ j a. u.others j (λ e. omega arith) ∙ w.under j a;
@@ -62,12 +62,12 @@ crossed-more {side} {reach} {first} {i} {old} {new} {next} f w u = record {
     go j a (yes p) b =
         let e : j ≡ i = omega arith in
         subst (λ (k : ℕ). reach_from side (next k).low (next k).high ≡ reach k) (sym e) u.here
-    go j a (no p) b = ap (λ (f : Found). reach_from side f.low f.high) (u.others j (λ e. p (omega arith))) ∙ w.inside j a (omega arith)
+    go j a (no p) b = ap (λ (f : Swept). reach_from side f.low f.high) (u.others j (λ e. p (omega arith))) ∙ w.inside j a (omega arith)
 
 -- ---- all bins
 module _ (s : TurnStockSpec) (n : ℕ) (side : TurnSide) (excess : Float) (ps : List Float) where
   -- no points
-  pub says_none : {new : ℕ → Found} → extent_of ps ≡ none → Says (polygon_act s side excess ps) n 0 0 new
+  pub says_none : {new : ℕ → Swept} → extent_of ps ≡ None → Says (polygon_act s side excess ps) n 0 0 new
   unfolding polygon_act
   says_none h = record {
     ordered = omega arith;
@@ -78,7 +78,7 @@ module _ (s : TurnStockSpec) (n : ℕ) (side : TurnSide) (excess : Float) (ps : 
   }
 
   -- the bins of the range were walked, and the others are not visited
-  module _ (lo hi : Float) (ex : Extends ps lo hi) {old new : ℕ → Found} (x : Float) (e : x ≡ clean_of excess) where
+  module _ (lo hi : Float) (ex : Extends ps lo hi) {old new : ℕ → Swept} (x : Float) (e : x ≡ clean_of excess) where
     pub says-crossed : (bins : BinRange) → bins ≡ bins_of s lo hi n → Crossed side (polygon_reach s side x ps) bins.from bins.to old new → Says (polygon_act s side excess ps) n bins.from bins.to new
     unfolding polygon_act
     says-crossed bins eb w =

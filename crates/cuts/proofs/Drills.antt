@@ -1,10 +1,10 @@
 -- A drill behind its point has its whole radius, and the quotient need not be worked out. Assumes nothing.
-use mathlib.Core.Path.{◌≡◌, sym, subst}
-use mathlib.Core.Bool.{Bool, true, false, ◌&&◌}
+use mathlib.Core.Path.{◌≡◌, sym}
+use mathlib.Core.Bool.{true, false, ◌&&◌}
 use lib.Dec.{T}
 use lib.Ieee.{Float, binary64, fits, lt, le, of_bits, of_fields, odd}
 use lib.Ieee.Fits.{sub-fits}
-use Rattle.floats.specs.Pick.{pick, picks}
+use Rattle.floats.specs.Pick.{picks}
 use Rattle.floats.specs.Numbers.{◌-₆₄◌, ◌*₆₄◌, ◌/₆₄◌, zero64, least_of, greatest_of, usable}
 use Rattle.floats.proofs.Within.{finite-within}
 use Rattle.floats.proofs.Ratio.{cone_of, cone-full}

@@ -1,43 +1,43 @@
 -- One bin of the loops over the bins: it is left where the cut passes it over, and else its cell after the cut is compared. Assumes nothing.
+use Rattle.std.specs.Prelude.{None, Some}
 use mathlib.Core.Path.{◌≡◌, refl, sym, ap, ◌∙◌, subst}
 use mathlib.Core.Bool.{Bool, true, false, false≢true}
 use mathlib.Core.List.{List, [], ◌∷◌}
-use mathlib.Core.Option.{Option, none, some}
 use Prim.Native.Nat.{ℕ, zero, suc, ◌+◌, ◌≤◌, ◌<◌}
 use native.Mathlib.Nat.{add-zero}
 use native.Mathlib.Omega.{arith}
 use lib.ListN.{length}
 use lib.Ieee.{Float}
-use Rattle.refusals.specs.Paper.{Paper}
 use Rattle.floats.specs.Pick.{pick, pick_true, pick-false}
 use Rattle.stock.specs.declared.TurnCell.{TurnCell}
 use Rattle.stock.specs.declared.TurnChange.{TurnChange}
 use Rattle.stock.specs.declared.TurnSide.{TurnSide}
 use Rattle.stock.specs.Cell.{cell_at, same_cell}
 use Rattle.reach.specs.declared.Reach.{Reach}
-use Rattle.reach.specs.Reach.{Reached, passed, low, both, low_of, own_of, cut_by, cut_cell, reach_paper, Act, act_cell}
+use Rattle.reach.specs.declared.Reach.TheVariants.{Passed, Low, Both}
+use Rattle.reach.specs.Reach.{low_of, own_of, cut_by, cut_cell, Act, act_cell}
 use Rattle.changes.specs.Change.{room_of, change_at, change_of, changes_to, PutChange, ListedOne, settled}
-use Rattle.changes.proofs.Placed.{list_same, list_put}
+use Rattle.changes.proofs.Placed.{list_put}
 use Rattle.cuts.specs.Source.{cut_change, SameTo}
 use Rattle.cuts.specs.Preview.{proposed}
 
 -- some radius is not none
-no_none : (x : Float) → some x ≡ none → ⊥
+no_none : (x : Float) → Some x ≡ None → ⊥
 no_none x h = let e : ◌≡◌ {A = Bool} false true = cc in false≢true e
 
-passes_over : (σ : TurnSide) (c : TurnCell) (r : Reached) → low_of r ≡ none → cut_cell σ c r ≡ c
+passes_over : (σ : TurnSide) (c : TurnCell) (r : Reach) → low_of r ≡ None → cut_cell σ c r ≡ c
 unfolding low_of cut_cell cut_by own_of
-passes_over σ c passed h = refl
-passes_over σ c (low x) h = absurd (no_none x h)
-passes_over σ c (both x y) h = absurd (no_none x h)
+passes_over σ c Passed h = refl
+passes_over σ c (Low x) h = absurd (no_none x h)
+passes_over σ c (Both x y) h = absurd (no_none x h)
 
 module _ (a : Act) (cs : List Float) (i : ℕ) where
   -- a bin without a low keeps its cell
-  pub bin-passed : (r : Reached) → r ≡ a.at i → low_of r ≡ none → SameTo cs i → same_cell (cell_at cs i) (act_cell a i (cell_at cs i)) ≡ true
+  pub bin-passed : (r : Reach) → r ≡ a.at i → low_of r ≡ None → SameTo cs i → same_cell (cell_at cs i) (act_cell a i (cell_at cs i)) ≡ true
   bin-passed r e h t = ap (same_cell (cell_at cs i)) (passes_over a.side (cell_at cs i) (a.at i) (ap low_of (sym e) ∙ h)) ∙ t
 
   -- the cell after the cut
-  pub bin-after : (σ : TurnSide) (r : Reached) (before after : TurnCell) → σ ≡ a.side → r ≡ a.at i → before ≡ cell_at cs i → after ≡ cut_cell σ before r → after ≡ act_cell a i (cell_at cs i)
+  pub bin-after : (σ : TurnSide) (r : Reach) (before after : TurnCell) → σ ≡ a.side → r ≡ a.at i → before ≡ cell_at cs i → after ≡ cut_cell σ before r → after ≡ act_cell a i (cell_at cs i)
   bin-after σ r before after es er eb ea = ea ∙ rw (es, er, eb) refl
 
 -- ---- counting
@@ -75,7 +75,7 @@ pub listed-as : (f : ℕ → TurnCell → TurnCell) (cs : List Float) (i k k' : 
 listed-as f cs i k k' before after {is} {is'} {xs} {xs'} eb ea p = subst (λ (c : TurnChange). ListedOne k k' c is is' xs xs') (λ j. record { index = i; before = eb j; after = ea j }) p
 
 -- the change that was handed over is the one that the cut makes of the cell
-pub listed-cut : (σ : TurnSide) (before after : TurnCell) (reached : Reach) (i k k' : ℕ) {is is' : List ℕ} {xs xs' : List Float} → after ≡ cut_cell σ before (reach_paper reached) → ListedOne k k' (record { index = i; before = before; after = after }) is is' xs xs' → ListedOne k k' (cut_change σ before reached i) is is' xs xs'
+pub listed-cut : (σ : TurnSide) (before after : TurnCell) (reached : Reach) (i k k' : ℕ) {is is' : List ℕ} {xs xs' : List Float} → after ≡ cut_cell σ before reached → ListedOne k k' (record { index = i; before = before; after = after }) is is' xs xs' → ListedOne k k' (cut_change σ before reached i) is is' xs xs'
 listed-cut σ before after reached i k k' {is} {is'} {xs} {xs'} e p = subst (λ (c : TurnChange). ListedOne k k' c is is' xs xs') (λ j. record { index = i; before = before; after = e j }) p
 
 -- a change that was put is listed, where the cut makes another cell

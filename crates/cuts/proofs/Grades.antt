@@ -1,6 +1,6 @@
 -- The bins' ends rise, so that a line parts them in two: those that are passed, and the others. Assumes nothing.
 use mathlib.Core.Path.{◌≡◌, refl, sym, ap, ◌∙◌, subst}
-use mathlib.Core.Bool.{Bool, true, false, not, ◌||◌}
+use mathlib.Core.Bool.{Bool, true, false, ◌||◌}
 use Prim.Native.Nat.{ℕ, zero, suc, ◌+◌, ◌-◌, ◌≤◌, ◌<◌}
 use native.Mathlib.Numerals.{add-one}
 use native.Mathlib.Omega.{arith}
@@ -9,7 +9,6 @@ use lib.Dec.{T, not_T, T_not, ltb}
 use lib.Ieee.{Float, binary64, fits, le, lt, eq}
 use lib.Ieee.Bits.{is_true}
 use Rattle.floats.specs.Pick.{pick, pick_true, pick-false}
-use Rattle.floats.specs.Kinds.{Number}
 use Rattle.floats.proofs.Order.{le_trans, le_lt_trans, lt-le-trans}
 use Rattle.floats.proofs.Within.{number-within, number-l, number-r}
 use Rattle.stock.specs.declared.TurnStockSpec.{TurnStockSpec}

@@ -22,7 +22,8 @@ use Rattle.stock.specs.declared.ZRange.{ZRange}
 use Rattle.stock.specs.Bin.{bin_of}
 use Rattle.stock.specs.Cell.{cell_at, same_cell}
 use Rattle.stock.proofs.Count.{and_both}
-use Rattle.reach.specs.Reach.{low, both, deeper, shallower, deep_of, sure_of, limit_of, with_pair, own_of, cut_by, cut_cell, act_cell}
+use Rattle.reach.specs.declared.Reach.TheVariants.{Low, Both}
+use Rattle.reach.specs.Reach.{deeper, shallower, deep_of, sure_of, limit_of, with_pair, own_of, cut_by, cut_cell, act_cell}
 use Rattle.stock.proofs.Passes.{HeldCell}
 use Rattle.cuts.specs.Cut.{drill_at}
 use Rattle.cuts.specs.declared.list.Source.{Source}
@@ -61,11 +62,11 @@ unfolding greatest_of
 kept x y e = pick-false _ y x e
 
 -- ---- a thread: the deep bound stays where it is not passed
-pub outer-left : (r : Float) (c : TurnCell) → lt (greatest_of r c.inner.lower_mm) c.outer.lower_mm ≡ false → cut_cell Outer c (low r) ≡ c
+pub outer-left : (r : Float) (c : TurnCell) → lt (greatest_of r c.inner.lower_mm) c.outer.lower_mm ≡ false → cut_cell Outer c (Low r) ≡ c
 unfolding cut_cell cut_by own_of with_pair deeper shallower deep_of sure_of limit_of least_of
 outer-left r c e = rw (pick-false _ (greatest_of r c.inner.lower_mm) c.outer.lower_mm e) refl
 
-pub inner-left : (r : Float) (c : TurnCell) → lt c.inner.upper_mm (least_of r c.outer.upper_mm) ≡ false → cut_cell Inner c (low r) ≡ c
+pub inner-left : (r : Float) (c : TurnCell) → lt c.inner.upper_mm (least_of r c.outer.upper_mm) ≡ false → cut_cell Inner c (Low r) ≡ c
 unfolding cut_cell cut_by own_of with_pair deeper shallower deep_of sure_of limit_of greatest_of
 inner-left r c e = rw (pick-false _ (least_of r c.outer.upper_mm) c.inner.upper_mm e) refl
 
@@ -80,13 +81,13 @@ and-false : (a : Bool) → (a && false) ≡ false
 and-false true = refl
 and-false false = refl
 
-outer-moves : (r : Float) (c : TurnCell) → lt (greatest_of r c.inner.lower_mm) c.outer.lower_mm ≡ true → same_cell c (cut_cell Outer c (low r)) ≡ false
+outer-moves : (r : Float) (c : TurnCell) → lt (greatest_of r c.inner.lower_mm) c.outer.lower_mm ≡ true → same_cell c (cut_cell Outer c (Low r)) ≡ false
 unfolding cut_cell cut_by own_of with_pair deeper shallower deep_of sure_of limit_of least_of
 outer-moves r c e =
     let own = greatest_of r c.inner.lower_mm in
     rw (pick_true _ own c.outer.lower_mm e, below_other own c.outer.lower_mm e) refl
 
-inner-moves : (r : Float) (c : TurnCell) → lt c.inner.upper_mm (least_of r c.outer.upper_mm) ≡ true → same_cell c (cut_cell Inner c (low r)) ≡ false
+inner-moves : (r : Float) (c : TurnCell) → lt c.inner.upper_mm (least_of r c.outer.upper_mm) ≡ true → same_cell c (cut_cell Inner c (Low r)) ≡ false
 unfolding cut_cell cut_by own_of with_pair deeper shallower deep_of sure_of limit_of greatest_of
 inner-moves r c e =
     let own = least_of r c.outer.upper_mm in
@@ -165,7 +166,7 @@ drill-left r c H hc e b tip cone =
     rw (sure, deep, order) refl
 
 -- a cut of the inside keeps the outer bounds, so that the inner ones tell whether the cell is another
-inner-keeps : (c : TurnCell) (x y : Float) → (cut_cell Inner c (both x y)).outer ≡ c.outer
+inner-keeps : (c : TurnCell) (x y : Float) → (cut_cell Inner c (Both x y)).outer ≡ c.outer
 unfolding cut_cell cut_by own_of with_pair
 inner-keeps c x y = refl
 
@@ -178,20 +179,20 @@ inner-same c a t e =
     let t1 = and_both lower upper (and_both (lower && upper) il t2).0 in
     rw (e, t1.0, t1.1) refl
 
-pub drill-same : (c a : TurnCell) (x y : Float) → same_cell c c ≡ true → a ≡ cut_cell Inner c (both x y) → (t : Bool) → (eq c.inner.lower_mm a.inner.lower_mm && eq c.inner.upper_mm a.inner.upper_mm) ≡ t → same_cell c (cut_cell Inner c (both x y)) ≡ t
+pub drill-same : (c a : TurnCell) (x y : Float) → same_cell c c ≡ true → a ≡ cut_cell Inner c (Both x y) → (t : Bool) → (eq c.inner.lower_mm a.inner.lower_mm && eq c.inner.upper_mm a.inner.upper_mm) ≡ t → same_cell c (cut_cell Inner c (Both x y)) ≡ t
 drill-same c a x y s e t q = ap (same_cell c) (sym e) ∙ inner-same c a s (ap (λ (z : TurnCell). z.outer) e ∙ inner-keeps c x y) ∙ q
 
 -- ---- as the tests say it
-outer_told : (σ : TurnSide) (r : Float) (c : TurnCell) (g : Float) → σ ≡ Outer → g ≡ greatest_of r c.inner.lower_mm → not (lt g c.outer.lower_mm) ≡ true → cut_cell σ c (low r) ≡ c
+outer_told : (σ : TurnSide) (r : Float) (c : TurnCell) (g : Float) → σ ≡ Outer → g ≡ greatest_of r c.inner.lower_mm → not (lt g c.outer.lower_mm) ≡ true → cut_cell σ c (Low r) ≡ c
 outer_told σ r c g e q t = rw e (outer-left r c (ap (λ (x : Float). lt x c.outer.lower_mm) (sym q) ∙ not-true _ t))
 
-inner-told : (σ : TurnSide) (r : Float) (c : TurnCell) (g : Float) → σ ≡ Inner → g ≡ least_of r c.outer.upper_mm → not (lt c.inner.upper_mm g) ≡ true → cut_cell σ c (low r) ≡ c
+inner-told : (σ : TurnSide) (r : Float) (c : TurnCell) (g : Float) → σ ≡ Inner → g ≡ least_of r c.outer.upper_mm → not (lt c.inner.upper_mm g) ≡ true → cut_cell σ c (Low r) ≡ c
 inner-told σ r c g e q t = rw e (inner-left r c (ap (lt c.inner.upper_mm) (sym q) ∙ not-true _ t))
 
-pub outer-leaves : (σ : TurnSide) (r : Float) (c : TurnCell) (g : Float) → σ ≡ Outer → g ≡ greatest_of r c.inner.lower_mm → Leaves (not (lt g c.outer.lower_mm)) c (cut_cell σ c (low r))
+pub outer-leaves : (σ : TurnSide) (r : Float) (c : TurnCell) (g : Float) → σ ≡ Outer → g ≡ greatest_of r c.inner.lower_mm → Leaves (not (lt g c.outer.lower_mm)) c (cut_cell σ c (Low r))
 outer-leaves σ r c g e q = record { stays = outer_told σ r c g e q; moves = λ t. rw e (outer-moves r c (ap (λ (x : Float). lt x c.outer.lower_mm) (sym q) ∙ not-false _ t)) }
 
-pub inner-leaves : (σ : TurnSide) (r : Float) (c : TurnCell) (g : Float) → σ ≡ Inner → g ≡ least_of r c.outer.upper_mm → Leaves (not (lt c.inner.upper_mm g)) c (cut_cell σ c (low r))
+pub inner-leaves : (σ : TurnSide) (r : Float) (c : TurnCell) (g : Float) → σ ≡ Inner → g ≡ least_of r c.outer.upper_mm → Leaves (not (lt c.inner.upper_mm g)) c (cut_cell σ c (Low r))
 inner-leaves σ r c g e q = record { stays = inner-told σ r c g e q; moves = λ t. rw e (inner-moves r c (ap (lt c.inner.upper_mm) (sym q) ∙ not-false _ t)) }
 
 pub drill-told : (r : Float) (c : TurnCell) (m : Float) → Held r → HeldCell c → m ≡ least_of r c.outer.upper_mm
@@ -201,7 +202,7 @@ drill-told r c m H hc q t =
     drill-left r c H hc (ap (λ (x : Float). le zero64 r && le c.inner.lower_mm c.inner.upper_mm && le x c.inner.lower_mm) (sym q) ∙ t)
 
 -- ---- by the source
-pub thread-source : (src : Source) (σ : TurnSide) (r : Float) (c : TurnCell) → src ≡ source.Thread σ r → cut_cell σ c (low r) ≡ c → LeavesCell src c
+pub thread-source : (src : Source) (σ : TurnSide) (r : Float) (c : TurnCell) → src ≡ source.Thread σ r → cut_cell σ c (Low r) ≡ c → LeavesCell src c
 unfolding source_side source_reach
 thread-source src σ r c e k s values there i = rw e k
 

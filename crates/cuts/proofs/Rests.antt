@@ -1,7 +1,7 @@
 -- A segment that leaves bins as they are: one bin, by low and high of it and what the segment reaches on its lines; and many, one after the other. Assumes nothing.
+use Rattle.std.specs.Prelude.{Option, None, Some}
 use mathlib.Core.Path.{◌≡◌, refl, sym, ap, ◌∙◌, subst}
 use mathlib.Core.Bool.{Bool, true, false, not, ◌&&◌}
-use mathlib.Core.Option.{Option, none, some}
 use Prim.Native.Nat.{ℕ, ◌+◌, ◌≤◌, ◌<◌}
 use native.Mathlib.Decide.{dec_le}
 use native.Mathlib.Omega.{arith}
@@ -15,9 +15,8 @@ use Rattle.floats.proofs.Bounding.{clash, lt-le, le-lt-chain}
 use Rattle.stock.specs.declared.TurnStockSpec.{TurnStockSpec}
 use Rattle.stock.specs.declared.ZRange.{ZRange}
 use Rattle.stock.specs.Bin.{bin_of}
-use Rattle.reach.specs.declared.Low.{Low}
-use Rattle.reach.specs.declared.Low.TheVariants.{At}
-use Rattle.reach.specs.Low.{Found, low_paper, lower_of, upper_of}
+use Rattle.reach.specs.declared.Swept.{Swept}
+use Rattle.reach.specs.Low.{lower_of, upper_of}
 use Rattle.reach.specs.Kinds.{SomeOf}
 use Rattle.reach.proofs.Reaches.{upper-keeps}
 use Rattle.nose.specs.declared.Capsule.{Capsule}
@@ -29,44 +28,42 @@ use Rattle.cuts.specs.Rows.{AtMost, Topped, stepped, Rested, Stepped}
 
 -- ---- tests
 -- a straight side goes from its start to its end
-pub side-test : (w : Capsule) (c : Float) → (w.sloped && not (le zero64 ((c -₆₄ w.p.z) /₆₄ w.dz) && le ((c -₆₄ w.p.z) /₆₄ w.dz) one64)) ≡ true → side_on w c ≡ none
+pub side-test : (w : Capsule) (c : Float) → (w.sloped && not (le zero64 ((c -₆₄ w.p.z) /₆₄ w.dz) && le ((c -₆₄ w.p.z) /₆₄ w.dz) one64)) ≡ true → side_on w c ≡ None
 unfolding side_on
 side-test w c e = let x = both _ _ e in pick_true _ _ _ x.0 ∙ pick-false _ _ _ (not-true _ x.1)
 
 -- the greater of low and high
-pub topped : (l h : Low) (a b top : Float) → l ≡ At a → h ≡ At b → T (le a top) → T (le b top) → AtMost top (low_paper l) × AtMost top (low_paper h)
-unfolding low_paper
-topped l h a b top e d x y = (subst (λ (z : Low). AtMost top (low_paper z)) (sym e) x, subst (λ (z : Low). AtMost top (low_paper z)) (sym d) y)
+pub topped : (l h : Option Float) (a b top : Float) → l ≡ Some a → h ≡ Some b → T (le a top) → T (le b top) → AtMost top (l) × AtMost top (h)
+topped l h a b top e d x y = (subst (λ (z : Option Float). AtMost top (z)) (sym e) x, subst (λ (z : Option Float). AtMost top (z)) (sym d) y)
 
-pub found-top : (f : Found) (l : Low) (top : Float) → l ≡ At top → SomeOf (λ x. Topped x f) (low_paper l) → Topped top f
-unfolding low_paper
-found-top f l top e h = subst (λ (z : Low). SomeOf (λ x. Topped x f) (low_paper z)) e h
+pub found-top : (f : Swept) (l : Option Float) (top : Float) → l ≡ Some top → SomeOf (λ x. Topped x f) (l) → Topped top f
+found-top f l top e h = subst (λ (z : Option Float). SomeOf (λ x. Topped x f) (z)) e h
 
 -- ---- one bin
 -- a radius over top does not lower one that is at most top
 keeps : (l g : Option Float) (top : Float) → AtMost top l → Over top g → lower_of l g ≡ l
 unfolding lower_of least_of
-keeps none g top m o = absurd m
-keeps (some y) none top m o = refl
-keeps (some y) (some x) top m o = ap some (pick-false (lt x y) x y (to-false (lt x y) (λ h. clash y x (le-lt-chain y top x m o) (lt-le x y h))))
+keeps None g top m o = absurd m
+keeps (Some y) None top m o = refl
+keeps (Some y) (Some x) top m o = ap Some (pick-false (lt x y) x y (to-false (lt x y) (λ h. clash y x (le-lt-chain y top x m o) (lt-le x y h))))
 
-lower-none : (l : Option Float) → lower_of l none ≡ l
+lower-none : (l : Option Float) → lower_of l None ≡ l
 unfolding lower_of
-lower-none none = refl
-lower-none (some x) = refl
+lower-none None = refl
+lower-none (Some x) = refl
 
 either_same : (t : Bool) (a b : Option Float) → b ≡ a → pick t a b ≡ a
 unfolding pick
 either_same true a b e = refl
 either_same false a b e = e
 
-module _ (f : Found) (t : Track) (bin : ZRange) (top : Float) (off : (le bin.za t.low.z && le t.low.z bin.zb) ≡ false) (m : Topped top f) (g : Over top (capsule_at t.grown bin.za) × Over top (capsule_at t.grown bin.zb)) where
+module _ (f : Swept) (t : Track) (bin : ZRange) (top : Float) (off : (le bin.za t.low.z && le t.low.z bin.zb) ≡ false) (m : Topped top f) (g : Over top (capsule_at t.grown bin.za) × Over top (capsule_at t.grown bin.zb)) where
   low-kept : lower_of (lower_of (lower_of f.low (in_bin t.low bin)) (capsule_at t.grown bin.za)) (capsule_at t.grown bin.zb) ≡ f.low
   unfolding in_bin
   low-kept =
       let x = capsule_at t.grown bin.za in
       let y = capsule_at t.grown bin.zb in
-      ap (λ (o : Option Float). lower_of (lower_of (lower_of f.low o) x) y) (pick-false (le bin.za t.low.z && le t.low.z bin.zb) (some t.low.r) none off)
+      ap (λ (o : Option Float). lower_of (lower_of (lower_of f.low o) x) y) (pick-false (le bin.za t.low.z && le t.low.z bin.zb) (Some t.low.r) None off)
       ∙ ap (λ (o : Option Float). lower_of (lower_of o x) y) (lower-none f.low)
       ∙ ap (λ (o : Option Float). lower_of o y) (keeps f.low x top m.0 g.0)
       ∙ keeps f.low y top m.0 g.1
@@ -96,18 +93,18 @@ module _ (f : Found) (t : Track) (bin : ZRange) (top : Float) (off : (le bin.za 
       (subst (λ (o : Option Float). Over top o) (sym (pick-false t.same (capsule_at t.grown bin.zb) (capsule_at t.shrunk bin.zb) e)) h.1)
 
 -- ---- many bins
-pub rested-none : (s : TurnStockSpec) (t : Track) (first : ℕ) (old : ℕ → Found) → Rested s t first first old
+pub rested-none : (s : TurnStockSpec) (t : Track) (first : ℕ) (old : ℕ → Swept) → Rested s t first first old
 rested-none s t first old = record { ordered = omega arith; inside = λ j a b. absurd (omega arith) }
 
-module _ {s : TurnStockSpec} {t : Track} {first i : ℕ} {old : ℕ → Found} where
+module _ {s : TurnStockSpec} {t : Track} {first i : ℕ} {old : ℕ → Swept} where
   -- the next one
-  pub rested-more : (bin : ZRange) (row : Found) → bin ≡ bin_of s i → row ≡ old i → step_of row t.low t.shy bin (sample_at t bin.za) (sample_at t bin.zb) ≡ row → Rested s t first i old → Rested s t first (i + 1) old
+  pub rested-more : (bin : ZRange) (row : Swept) → bin ≡ bin_of s i → row ≡ old i → step_of row t.low t.shy bin (sample_at t bin.za) (sample_at t bin.zb) ≡ row → Rested s t first i old → Rested s t first (i + 1) old
   rested-more bin row eb er e w =
       let o = w.ordered in
       record { ordered = omega arith; inside = λ j a b. go j a (dec_le i j) b }
     where
       here : stepped s t i (old i) ≡ old i
-      here = subst (λ (f : Found). stepped s t i f ≡ f) er (subst (λ (z : ZRange). step_of row t.low t.shy z (sample_at t z.za) (sample_at t z.zb) ≡ row) eb e)
+      here = subst (λ (f : Swept). stepped s t i f ≡ f) er (subst (λ (z : ZRange). step_of row t.low t.shy z (sample_at t z.za) (sample_at t z.zb) ≡ row) eb e)
 
       go : (j : ℕ) → first ≤ j → Dec (i ≤ j) → j < i + 1 → stepped s t j (old j) ≡ old j
       go j a (yes p) b =
@@ -116,7 +113,7 @@ module _ {s : TurnStockSpec} {t : Track} {first i : ℕ} {old : ℕ → Found} w
       go j a (no p) b = w.inside j a (omega arith)
 
 -- a part more: the bins that rest, and those that are swept
-module _ {s : TurnStockSpec} {t : Track} {first i from to : ℕ} {old new next : ℕ → Found} where
+module _ {s : TurnStockSpec} {t : Track} {first i from to : ℕ} {old new next : ℕ → Swept} where
   pub part-more : first ≤ i → from ≤ to → Stepped s t first i old new → Rested s t i from new → Stepped s t from to new next → Stepped s t first to old next
   part-more f g w r u = record {
     inside = λ j a b. go j a b (dec_le from j) (dec_le i j);

@@ -22,7 +22,7 @@ use Rattle.stock.specs.Spec.{clean_spec}
 use Rattle.stock.specs.Bin.{bin_of}
 use Rattle.stock.proofs.Count.{Checked}
 use Rattle.stock.proofs.Bins.{Sized, HeldSpec, HeldList, BinSized, clean-sized, bin-within, bin_bits}
-use Rattle.reach.specs.Reach.{passed, low, both}
+use Rattle.reach.specs.declared.Reach.TheVariants.{Passed, Low, Both}
 use Rattle.reach.specs.Kinds.{ReachOf, PlainAct}
 use Rattle.reach.proofs.Reaches.{reach-map, reach-pick}
 use Rattle.nose.specs.Nose.{nose_act}
@@ -88,7 +88,7 @@ larger x s = record { plain = s.plain; within = within-weaken (lit≤ tt) s.with
 
 thread-reach : (b : ZRange) (z0 z1 r : Float) → T (fits binary64 r) → T (usable (clean_of z0) && usable (clean_of z1) && usable (clean_of r) && le zero64 (clean_of r)) → ReachOf (Sized 20) (thread_reach b (clean_of z0) (clean_of z1) (clean_of r))
 unfolding thread_reach
-thread-reach b z0 z1 r f g = reach-pick (Sized 20) (misses b (clean_of z0) (clean_of z1)) passed (low (clean_of r)) tt (thread-radius z0 z1 r f g)
+thread-reach b z0 z1 r f g = reach-pick (Sized 20) (misses b (clean_of z0) (clean_of z1)) Passed (Low (clean_of r)) tt (thread-radius z0 z1 r f g)
 
 drill-reach : (b : ZRange) → BinSized b → (tip r cone : Float) → T (fits binary64 tip) → T (fits binary64 r) → T (fits binary64 cone) → T (usable (clean_of tip) && usable (clean_of r) && usable (clean_of cone) && lt zero64 (clean_of r)) → ReachOf (Sized 20) (drill_reach b (clean_of tip) (clean_of r) (clean_of cone))
 unfolding drill_reach of_bits
@@ -103,7 +103,7 @@ drill-reach b w tip r cone fa fr fc g =
     let R = clean-sized r fr (and_r x y t2) in
     let C = clean-sized cone fc (and_r (x && y) z t3) in
     let r+ = and_r (x && y && z) d g in
-    reach-pick (Sized 20) (le b.zb (clean_of tip)) passed (both (drill_at b.zb (clean_of tip) (clean_of r) (clean_of cone)) (drill_at b.za (clean_of tip) (clean_of r) (clean_of cone))) tt
+    reach-pick (Sized 20) (le b.zb (clean_of tip)) Passed (Both (drill_at b.zb (clean_of tip) (clean_of r) (clean_of cone)) (drill_at b.za (clean_of tip) (clean_of r) (clean_of cone))) tt
     (drill-sized bin_bits (lit< tt) b.zb (clean_of tip) (clean_of r) (clean_of cone) w.zb A R C r+, drill-sized bin_bits (lit< tt) b.za (clean_of tip) (clean_of r) (clean_of cone) w.za A R C r+)
 
 -- ---- a cut that is not refused, on a stock that is not refused

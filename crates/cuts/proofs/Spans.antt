@@ -19,7 +19,9 @@ use Rattle.stock.specs.declared.TurnCell.{TurnCell}
 use Rattle.stock.specs.declared.TurnSide.{TurnSide}
 use Rattle.stock.specs.Bin.{bin_of}
 use Rattle.stock.proofs.Count.{and_both}
-use Rattle.reach.specs.Reach.{Reached, passed, low, low_of, Act, act_cell}
+use Rattle.reach.specs.declared.Reach.{Reach}
+use Rattle.reach.specs.declared.Reach.TheVariants.{Passed, Low}
+use Rattle.reach.specs.Reach.{low_of, Act, act_cell}
 use Rattle.changes.specs.Change.{room_of, change_at, change_of, changes_to, numbers_of, Listing}
 use Rattle.changes.proofs.Placed.{listing-lengths}
 use Rattle.changes.proofs.Rising.{kept, changes-more}
@@ -31,25 +33,25 @@ use Rattle.cuts.specs.Source.{source_side, source_reach, low_act, bore_act, dril
 use Rattle.cuts.proofs.EachBin.{bin-passed, one_at_most}
 
 -- ---- which bins are visited
-module _ (first last : ℕ) (reach : ℕ → Reached) (i : ℕ) where
+module _ (first last : ℕ) (reach : ℕ → Reach) (i : ℕ) where
   pub span-in : first ≤ i → i < last → span_reach first last reach i ≡ reach i
   unfolding span_reach
   span-in h l = pick_true _ _ _ (le-leb first i h) ∙ pick_true _ _ _ (lt-ltb i last l)
 
-  pub span-under : i < first → span_reach first last reach i ≡ passed
+  pub span-under : i < first → span_reach first last reach i ≡ Passed
   unfolding span_reach
   span-under h = pick-false _ _ _ (lt-leb first i h)
 
-  pub span-over : last ≤ i → span_reach first last reach i ≡ passed
+  pub span-over : last ≤ i → span_reach first last reach i ≡ Passed
   unfolding span_reach pick
-  span-over h = ap (λ (t : Bool). pick (leb first i) (pick t (reach i) passed) passed) (le-ltb i last h) ∙ go (leb first i)
+  span-over h = ap (λ (t : Bool). pick (leb first i) (pick t (reach i) Passed) Passed) (le-ltb i last h) ∙ go (leb first i)
     where
-      go : (b : Bool) → pick b passed passed ≡ passed
+      go : (b : Bool) → pick b Passed Passed ≡ Passed
       go true = refl
       go false = refl
 
 -- a reach that is so in the bins and passes the others over
-pub span-is : (first last n : ℕ) (reach all : ℕ → Reached) → ((j : ℕ) → j < first → j < n → all j ≡ passed) → ((j : ℕ) → first ≤ j → j < last → all j ≡ reach j) → ((j : ℕ) → last ≤ j → j < n → all j ≡ passed) → (j : ℕ) → j < n → all j ≡ span_reach first last reach j
+pub span-is : (first last n : ℕ) (reach all : ℕ → Reach) → ((j : ℕ) → j < first → j < n → all j ≡ Passed) → ((j : ℕ) → first ≤ j → j < last → all j ≡ reach j) → ((j : ℕ) → last ≤ j → j < n → all j ≡ Passed) → (j : ℕ) → j < n → all j ≡ span_reach first last reach j
 span-is first last n reach all u i o j l = go (dec_le first j) (dec_le last j)
   where
     go : Dec (first ≤ j) → Dec (last ≤ j) → all j ≡ span_reach first last reach j
@@ -60,9 +62,9 @@ span-is first last n reach all u i o j l = go (dec_le first j) (dec_le last j)
 -- ---- the list of changes
 module _ (first last : ℕ) (a : Act) (cs : List Float) where
   -- a bin that is passed over adds none
-  none-at : (i : ℕ) → SameTo cs i → span_reach first last a.at i ≡ passed → changes_to (act_cell (span_act first last a)) cs (i + 1) ≡ changes_to (act_cell (span_act first last a)) cs i
+  none-at : (i : ℕ) → SameTo cs i → span_reach first last a.at i ≡ Passed → changes_to (act_cell (span_act first last a)) cs (i + 1) ≡ changes_to (act_cell (span_act first last a)) cs i
   unfolding low_of
-  none-at i t e = kept (act_cell (span_act first last a)) cs i (bin-passed (span_act first last a) cs i passed (sym e) refl t)
+  none-at i t e = kept (act_cell (span_act first last a)) cs i (bin-passed (span_act first last a) cs i Passed (sym e) refl t)
 
   to-first : (i : ℕ) → i ≤ first → ((j : ℕ) → j < first → SameTo cs j) → changes_to (act_cell (span_act first last a)) cs i ≡ []
   unfolding changes_to
@@ -180,23 +182,23 @@ module _ (s : TurnStockSpec) (n : ℕ) where
     unfolding misses
     missed j = rw (el, eh) refl
 
-    thread-under : (j : ℕ) → j < first → thread_reach (bin_of s j) z0 z1 r ≡ passed
+    thread-under : (j : ℕ) → j < first → thread_reach (bin_of s j) z0 z1 r ≡ Passed
     unfolding thread_reach passed_of pick
     thread-under j h = let e = w.under j h in pick_true _ _ _ (missed j ∙ rw e refl)
 
-    thread-over : (j : ℕ) → last ≤ j → j < n → thread_reach (bin_of s j) z0 z1 r ≡ passed
+    thread-over : (j : ℕ) → last ≤ j → j < n → thread_reach (bin_of s j) z0 z1 r ≡ Passed
     unfolding thread_reach passed_of pick
     thread-over j h l = let e = not-false _ (w.over j h l) in pick_true _ _ _ (missed j ∙ ap (λ (t : Bool). le (bin_of s j).zb lo || t) e ∙ or-true (le (bin_of s j).zb lo))
 
-    thread-inside : (j : ℕ) → first ≤ j → j < last → thread_reach (bin_of s j) z0 z1 r ≡ low r
+    thread-inside : (j : ℕ) → first ≤ j → j < last → thread_reach (bin_of s j) z0 z1 r ≡ Low r
     unfolding thread_reach passed_of pick
     thread-inside j h l =
         let e : le (bin_of s j).zb lo ≡ false = (w.inside j h l).0 in
         let d : le hi (bin_of s j).za ≡ false = not-true _ (w.inside j h l).1 in
         pick-false _ _ _ (missed j ∙ rw (e, d) refl)
 
-    pub thread-spans : (j : ℕ) → j < n → thread_reach (bin_of s j) z0 z1 r ≡ span_reach first last (λ i. low r) j
-    thread-spans = span-is first last n (λ i. low r) (λ i. thread_reach (bin_of s i) z0 z1 r) (λ j h l. thread-under j h) thread-inside thread-over
+    pub thread-spans : (j : ℕ) → j < n → thread_reach (bin_of s j) z0 z1 r ≡ span_reach first last (λ i. Low r) j
+    thread-spans = span-is first last n (λ i. Low r) (λ i. thread_reach (bin_of s i) z0 z1 r) (λ j h l. thread-under j h) thread-inside thread-over
 
   pub drill-spans : (tip r cone : Float) (first : ℕ) → Split (passed_of s tip true false) n first → (j : ℕ) → j < n → drill_reach (bin_of s j) tip r cone ≡ span_reach first n (λ i. drill_both (bin_of s i) tip r cone) j
   unfolding drill_reach passed_of pick

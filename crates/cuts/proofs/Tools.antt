@@ -11,7 +11,7 @@ use Rattle.stock.specs.declared.TurnSide.{TurnSide}
 use Rattle.stock.specs.declared.BinRange.{BinRange}
 use Rattle.stock.specs.Spec.{clean_spec}
 use Rattle.stock.specs.Cell.{stock_of}
-use Rattle.reach.specs.Low.{Found}
+use Rattle.reach.specs.declared.Swept.{Swept}
 use Rattle.nose.specs.Nose.{segments_good, segment_count, nose_act}
 use Rattle.polygon.specs.Polygon.{polygon_good, polygon_act}
 use Rattle.cuts.specs.declared.Cut.{Cut}
@@ -75,15 +75,15 @@ side-is s (sweep.Nose side rn) ys = refl
 side-is s (sweep.Polygon side excess) ys = refl
 
 -- what the rows of its kind say
-pub says-nose-sweep : (s : TurnStockSpec) (w : Sweep) (ys : List Float) {side : TurnSide} {rn : Float} (n first last : ℕ) (new : ℕ → Found) → w ≡ sweep.Nose side rn → Says (nose_act s side rn ys) n first last new → Says (sweep_act s w ys) n first last new
+pub says-nose-sweep : (s : TurnStockSpec) (w : Sweep) (ys : List Float) {side : TurnSide} {rn : Float} (n first last : ℕ) (new : ℕ → Swept) → w ≡ sweep.Nose side rn → Says (nose_act s side rn ys) n first last new → Says (sweep_act s w ys) n first last new
 unfolding sweep_act
 says-nose-sweep s w ys n first last new e h = rw e h
 
 -- of a radius that is read as its clean one, by what its rows are filled with
-pub says-clean-nose : (s : TurnStockSpec) (w : Sweep) (ys : List Float) {side : TurnSide} {rn r : Float} (n : ℕ) (new : ℕ → Found) (bins : BinRange) → w ≡ sweep.Nose side rn → r ≡ clean_of rn → RowFilled s n side r ys (segment_count ys) new × Idle n bins new × (bins.from ≤ bins.to) → Says (sweep_act s w ys) n bins.from bins.to new
+pub says-clean-nose : (s : TurnStockSpec) (w : Sweep) (ys : List Float) {side : TurnSide} {rn r : Float} (n : ℕ) (new : ℕ → Swept) (bins : BinRange) → w ≡ sweep.Nose side rn → r ≡ clean_of rn → RowFilled s n side r ys (segment_count ys) new × Idle n bins new × (bins.from ≤ bins.to) → Says (sweep_act s w ys) n bins.from bins.to new
 says-clean-nose s w ys {side} {rn} n new bins e c f = says-nose-sweep s w ys n bins.from bins.to new e (says-nose s n side rn ys new bins (subst (λ (x : Float). RowFilled s n side x ys (segment_count ys) new) c f.0) f.1 f.2)
 
-pub says-polygon-sweep : (s : TurnStockSpec) (w : Sweep) (ys : List Float) {side : TurnSide} {excess : Float} (n first last : ℕ) (new : ℕ → Found) → w ≡ sweep.Polygon side excess → Says (polygon_act s side excess ys) n first last new → Says (sweep_act s w ys) n first last new
+pub says-polygon-sweep : (s : TurnStockSpec) (w : Sweep) (ys : List Float) {side : TurnSide} {excess : Float} (n first last : ℕ) (new : ℕ → Swept) → w ≡ sweep.Polygon side excess → Says (polygon_act s side excess ys) n first last new → Says (sweep_act s w ys) n first last new
 unfolding sweep_act
 says-polygon-sweep s w ys n first last new e h = rw e h
 

@@ -1,5 +1,5 @@
 -- The single cuts: a nose line, threads and drills, what each reaches in a bin. Assumes nothing.
-use Rattle.std.specs.Prelude.{ℕ, Bool, true, false, not, ◌&&◌, ◌||◌, List, [], ◌∷◌, Float}
+use Rattle.std.specs.Prelude.{Bool, true, false, ◌&&◌, ◌||◌, List, [], ◌∷◌, Float}
 use Rattle.std.specs.Float.Ieee.{le, lt}
 use Rattle.floats.specs.Pick.{pick}
 use Rattle.floats.specs.Numbers.{◌-₆₄◌, ◌*₆₄◌, ◌/₆₄◌, zero64, least_of, greatest_of, clean_of, usable}
@@ -8,7 +8,9 @@ use Rattle.stock.specs.declared.TurnSide.{TurnSide}
 use Rattle.stock.specs.declared.TurnSide.TheVariants.{Outer, Inner}
 use Rattle.stock.specs.declared.ZRange.{ZRange}
 use Rattle.stock.specs.Bin.{bin_of}
-use Rattle.reach.specs.Reach.{Reached, passed, low, both, Act}
+use Rattle.reach.specs.declared.Reach.{Reach}
+use Rattle.reach.specs.declared.Reach.TheVariants.{Passed, Low, Both}
+use Rattle.reach.specs.Reach.{Act}
 use Rattle.nose.specs.Nose.{segments_good, nose_reach}
 use Rattle.cuts.specs.declared.Cut.{Cut}
 use Rattle.cuts.specs.declared.Cut.TheVariants.{Line, Thread, ThreadInner, Drill, Arc}
@@ -36,20 +38,20 @@ side_of (Drill tip r cone) = Inner
 side_of Arc = Outer
 
 -- of a thread only the deep bound moves: the crests stay
-unfoldable pub thread_reach : ZRange → Float → Float → Float → Reached
-thread_reach b z0 z1 r = pick (misses b z0 z1) passed (low r)
+unfoldable pub thread_reach : ZRange → Float → Float → Float → Reach
+thread_reach b z0 z1 r = pick (misses b z0 z1) Passed (Low r)
 
 -- zb at or below the tip is passed over
-unfoldable pub drill_reach : ZRange → Float → Float → Float → Reached
-drill_reach b tip r cone = pick (le b.zb tip) passed (both (drill_at b.zb tip r cone) (drill_at b.za tip r cone))
+unfoldable pub drill_reach : ZRange → Float → Float → Float → Reach
+drill_reach b tip r cone = pick (le b.zb tip) Passed (Both (drill_at b.zb tip r cone) (drill_at b.za tip r cone))
 
 -- what a cut reaches in a bin
-unfoldable pub cut_reach : ZRange → Cut → Reached
+unfoldable pub cut_reach : ZRange → Cut → Reach
 cut_reach b (Line side rn sag ar az br bz) = nose_reach side (clean_of rn) (line_of ar az br bz sag) b
 cut_reach b (Thread z0 z1 r) = thread_reach b z0 z1 r
 cut_reach b (ThreadInner z0 z1 r) = thread_reach b z0 z1 r
 cut_reach b (Drill tip r cone) = drill_reach b tip r cone
-cut_reach b Arc = passed
+cut_reach b Arc = Passed
 
 -- the domain: that of a nose; every number usable, a thread's radius not negative, a drill's above 0
 abbrev pub thread_good : Float → Float → Float → Bool

@@ -13,7 +13,8 @@ use Rattle.stock.specs.declared.ZRange.{ZRange}
 use Rattle.stock.specs.Bin.{bin_of}
 use Rattle.stock.specs.Cell.{cell_at, same_cell}
 use Rattle.reach.specs.declared.Reach.{Reach}
-use Rattle.reach.specs.Reach.{Reached, passed, low, both, reach_paper, reach_from, cut_cell, Act, act_cell}
+use Rattle.reach.specs.declared.Reach.TheVariants.{Passed, Low, Both}
+use Rattle.reach.specs.Reach.{reach_from, cut_cell, Act, act_cell}
 use Rattle.changes.specs.Change.{room_of}
 use Rattle.cuts.specs.declared.list.Source.{Source}
 use Rattle.cuts.specs.declared.list.Source.TheVariants as source
@@ -30,11 +31,11 @@ abbrev pub is_past : Float → Float → Float → Bool
 is_past a r cone = usable a && usable r && usable cone && lt zero64 r && lt zero64 cone && le cone a
 
 -- what a drill reaches in a bin that does not end before its tip
-abbrev pub drill_both : ZRange → Float → Float → Float → Reached
-drill_both b tip r cone = both (drill_at b.zb tip r cone) (drill_at b.za tip r cone)
+abbrev pub drill_both : ZRange → Float → Float → Float → Reach
+drill_both b tip r cone = Both (drill_at b.zb tip r cone) (drill_at b.za tip r cone)
 
-unfoldable pub source_reach : TurnStockSpec → Source → List Float → List Bool → ℕ → Reached
-source_reach s (source.Thread side r) values there i = low r
+unfoldable pub source_reach : TurnStockSpec → Source → List Float → List Bool → ℕ → Reach
+source_reach s (source.Thread side r) values there i = Low r
 source_reach s (source.Drill tip r cone) values there i = drill_both (bin_of s i) tip r cone
 source_reach s (source.Rows side) values there i = reach_from side (row_at values there i).low (row_at values there i).high
 
@@ -44,7 +45,7 @@ source_act s src values there = record { side = source_side src; at = source_rea
 
 -- a cut that reaches the same low in every bin
 abbrev pub low_act : TurnSide → Float → Act
-low_act side r = record { side = side; at = λ i. low r }
+low_act side r = record { side = side; at = λ i. Low r }
 
 -- a drill in bins that do not end before its tip
 abbrev pub bore_act : TurnStockSpec → Float → Float → Float → Act
@@ -60,8 +61,8 @@ abbrev pub LeavesCell : Source → TurnCell → Type 0
 LeavesCell src c = (s : TurnStockSpec) (values : List Float) (there : List Bool) (i : ℕ) → cut_cell (source_side src) c (source_reach s src values there i) ≡ c
 
 -- in the bins from first to before last what a reach says, the others passed over
-unfoldable pub span_reach : ℕ → ℕ → (ℕ → Reached) → ℕ → Reached
-span_reach first last reach i = pick (leb first i) (pick (ltb i last) (reach i) passed) passed
+unfoldable pub span_reach : ℕ → ℕ → (ℕ → Reach) → ℕ → Reach
+span_reach first last reach i = pick (leb first i) (pick (ltb i last) (reach i) Passed) Passed
 
 -- a cut in those bins only
 abbrev pub span_act : ℕ → ℕ → Act → Act
@@ -80,15 +81,15 @@ drill_act s tip r cone = record { side = Inner; at = λ i. drill_reach (bin_of s
 
 -- the change of bin i, from its cell and from what is reached there
 abbrev pub cut_change : TurnSide → TurnCell → Reach → ℕ → TurnChange
-cut_change side before reached i = record { index = i; before = before; after = cut_cell side before (reach_paper reached) }
+cut_change side before reached i = record { index = i; before = before; after = cut_cell side before reached }
 
 -- the change that a thread makes of the cell of bin i
 abbrev pub thread_change : TurnSide → Float → TurnCell → ℕ → TurnChange
-thread_change side r before i = record { index = i; before = before; after = cut_cell side before (low r) }
+thread_change side r before i = record { index = i; before = before; after = cut_cell side before (Low r) }
 
 -- the change that a drill makes of it, by its radius at the lower and the upper end
 abbrev pub drill_change : Float → Float → TurnCell → ℕ → TurnChange
-drill_change x y before i = record { index = i; before = before; after = cut_cell Inner before (both x y) }
+drill_change x y before i = record { index = i; before = before; after = cut_cell Inner before (Both x y) }
 
 -- the cell of bin i is the same as itself: none of its numbers is a NaN
 abbrev pub SameTo : List Float → ℕ → Type 0

@@ -9,7 +9,7 @@ ghost use Rattle.cuts.specs.Preview.{proposing};
 
 use crate::list::Source;
 use crate::{Cut, Tool, ends, list, nose_rows, polygon_rows, rows, single};
-use changes::Tally;
+use changes::ChangeList;
 use refusals::Refusal;
 use stock::{BinRange, TurnSide, TurnStockSpec};
 
@@ -65,7 +65,7 @@ fn swept_over(
     records: &mut [f64],
     values: &mut [f64],
     there: &mut [bool],
-) -> Tally
+) -> Result<usize, Refusal>
     requires { ReadyFor s n cells.now × Room n values.old there.old × Unfilled 0 n (row_at values.old there.old) }
     ensures { Tallies (proposing (sweep_act s sweep beside.now) cells.now n) result indices records }
 {
@@ -94,7 +94,7 @@ fn swept(
     cells: &[f64],
     indices: &mut [usize],
     records: &mut [f64],
-) -> Tally
+) -> Result<usize, Refusal>
     requires { ReadyFor s n cells.now × (n ≤ 4096) }
     ensures { Tallies (proposing (sweep_act s sweep beside.now) cells.now n) result indices records }
 {
@@ -153,7 +153,7 @@ fn swept_long(
     cells: &[f64],
     indices: &mut [usize],
     records: &mut [f64],
-) -> Tally
+) -> Result<usize, Refusal>
     requires { ReadyFor s n cells.now }
     ensures { Tallies (proposing (sweep_act s sweep beside.now) cells.now n) result indices records }
 {
@@ -205,7 +205,7 @@ fn thread(
     cells: &[f64],
     indices: &mut [usize],
     records: &mut [f64],
-) -> Tally
+) -> Result<usize, Refusal>
     requires { ReadyFor s n cells.now }
     ensures { Tallies (proposing (thread_act s side z0 z1 radius) cells.now n) result indices records }
 {
@@ -236,7 +236,7 @@ fn drill(
     cells: &[f64],
     indices: &mut [usize],
     records: &mut [f64],
-) -> Tally
+) -> Result<usize, Refusal>
     requires { ReadyFor s n cells.now }
     ensures { Tallies (proposing (drill_act s tip_z radius cone) cells.now n) result indices records }
 {
@@ -267,7 +267,7 @@ fn cut_in(
     cells: &[f64],
     indices: &mut [usize],
     records: &mut [f64],
-) -> Tally
+) -> Result<usize, Refusal>
     requires { ReadyFor s n cells.now }
     ensures { Tallies (cut_in s cut cells.now n) result indices records }
 {
@@ -315,7 +315,7 @@ fn cut_in(
             radius,
             cone,
         } => drill(s, n, tip_z, radius, cone, cells, indices, records),
-        Cut::Arc => Tally::Refused(Refusal::Arc),
+        Cut::Arc => Err(Refusal::Arc),
     }
 }
 
@@ -328,7 +328,7 @@ pub fn tool_in(
     cells: &[f64],
     indices: &mut [usize],
     records: &mut [f64],
-) -> Tally
+) -> Result<usize, Refusal>
     requires { ReadyFor s n cells.now }
     ensures { Tallies (tool_in s tool beside.now cells.now n) result indices records }
 {

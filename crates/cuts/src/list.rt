@@ -3,7 +3,7 @@
 ghost use Rattle.std.specs.Prelude.{◌≡◌, true, ◌+◌, ◌≤◌, ◌<◌, length};
 ghost use Rattle.refusals.specs.Limits.{cell_limit};
 ghost use Rattle.stock.specs.declared.TurnSide.TheVariants.{Outer, Inner};
-ghost use Rattle.reach.specs.Reach.{reach_paper, reach_from, act_cell};
+ghost use Rattle.reach.specs.Reach.{reach_from, act_cell};
 ghost use Rattle.stock.specs.Cell.{same_cell};
 ghost use Rattle.changes.specs.Change.{room_of, change_at, change_of, changes_to, PutsChange, ListsChange, ListsBelow, RoomFor, Tallies};
 ghost use Rattle.cuts.specs.Source.{source_side, source_reach, source_act, low_act, bore_act, span_act, span_cell, cut_change, thread_change, drill_change, SameTo, SameBelow, RoomOver};
@@ -12,8 +12,8 @@ ghost use Rattle.cuts.specs.Rows.{row_at};
 ghost use Rattle.cuts.specs.Preview.{proposing};
 
 use crate::{rows, single, unchanged};
-use changes::Tally;
-use reach::{Low, Reach};
+use changes::ChangeList;
+use reach::Reach;
 use refusals::Refusal;
 use stock::{TurnCell, TurnChange, TurnSide, TurnStockSpec};
 
@@ -45,7 +45,7 @@ fn side_of(source: Source) -> TurnSide
 // The reach that the row of bin i says.
 fn row_reach(side: TurnSide, values: &[f64], there: &[bool], i: usize) -> Reach
     requires { i ≤ cell_limit }
-    ensures { reach_paper result ≡ reach_from side (row_at values.now there.now i).low (row_at values.now there.now i).high }
+    ensures { result ≡ reach_from side (row_at values.now there.now i).low (row_at values.now there.now i).high }
 {
     let swept = rows::row_at(values, there, i);
     let low = swept.low;
@@ -56,7 +56,7 @@ fn row_reach(side: TurnSide, values: &[f64], there: &[bool], i: usize) -> Reach
 // What the cut reaches in bin i.
 fn reach_at(s: TurnStockSpec, source: Source, values: &[f64], there: &[bool], i: usize) -> Reach
     requires { i ≤ cell_limit }
-    ensures { reach_paper result ≡ source_reach s source values.now there.now i }
+    ensures { result ≡ source_reach s source values.now there.now i }
 {
     match source {
         Source::Thread { side: _, radius } => Reach::Low(radius),
@@ -73,7 +73,7 @@ fn reach_at(s: TurnStockSpec, source: Source, values: &[f64], there: &[bool], i:
 // without a call a bin.
 fn write_reach(s: TurnStockSpec, source: Source, values: &[f64], there: &[bool], i: usize) -> Reach
     requires { i ≤ cell_limit }
-    ensures { reach_paper result ≡ source_reach s source values.now there.now i }
+    ensures { result ≡ source_reach s source values.now there.now i }
 {
     match source {
         Source::Thread { side: _, radius } => Reach::Low(radius),
@@ -105,7 +105,7 @@ fn count_bin(
     }
     let reached = reach_at(s, source, values, there, i);
     let low = reach::low_of(reached);
-    let Low::At(_) = low else {
+    let Some(_) = low else {
         return k;
     };
     let after = reach::cut_cell(side_of(source), before, reached);
@@ -129,10 +129,8 @@ fn count(
     ensures { result ≡ length (changes_to (span_cell first last s source values.now there.now) cells.now last) }
 {
     let mut k: usize = 0;
-    let mut i: usize = first;
-    while i < last {
+    for i in first..last {
         k = count_bin(s, source, values, there, cells, i, k);
-        i += 1;
     }
     k
 }
@@ -199,7 +197,7 @@ fn write_bin(
     }
     let reached = write_reach(s, source, values, there, i);
     let low = reach::low_of(reached);
-    let Low::At(_) = low else {
+    let Some(_) = low else {
         return k;
     };
     let side = side_of(source);
@@ -226,10 +224,8 @@ fn write(
     ensures { ListsBelow (span_cell first last s source values.now there.now) cells.now last result indices records }
 {
     let mut k: usize = 0;
-    let mut i: usize = first;
-    while i < last {
+    for i in first..last {
         k = write_bin(s, source, values, there, cells, i, indices, records, k);
-        i += 1;
     }
     k
 }
@@ -294,11 +290,9 @@ fn write_thread(
 {
     let top = numbers::lesser(last, cells.len() / 4);
     let mut k: usize = 0;
-    let mut i: usize = first;
-    while i < top {
+    for i in first..top {
         let before = stock::cell_at(cells, i);
         k = thread_bin(side, radius, before, i, indices, records, k);
-        i += 1;
     }
     k
 }
@@ -396,10 +390,8 @@ fn write_drill(
     let top = numbers::lesser(last, cells.len() / 4);
     let low = single::drill_at(tip, tip, radius, cone);
     let mut d = Drilled { k: 0, at: tip, low };
-    let mut i: usize = first;
-    while i < top {
+    for i in first..top {
         d = drill_bin(s, tip, radius, cone, cells, i, indices, records, d);
-        i += 1;
     }
     d.k
 }
@@ -456,20 +448,20 @@ pub fn list(
     n: usize,
     indices: &mut [usize],
     records: &mut [f64],
-) -> Tally
+) -> Result<usize, Refusal>
     requires { (first ≤ last) × (last ≤ n) × (n ≤ cell_limit) × SameBelow cells.now n }
     ensures { Tallies (proposing (span_act first last (source_act s source values.now there.now)) cells.now n) result indices records }
 {
     let room = changes::room(indices.len(), records.len());
     if last - first <= room {
-        return Tally::Changes(write_each(
+        return Ok(write_each(
             s, source, values, there, cells, first, last, indices, records,
         ));
     }
     if count(s, source, values, there, cells, first, last) <= room {
-        return Tally::Changes(write(
+        return Ok(write(
             s, source, values, there, cells, first, last, indices, records,
         ));
     }
-    Tally::Refused(Refusal::ChangesOverRoom)
+    Err(Refusal::ChangesOverRoom)
 }

@@ -1,17 +1,16 @@
 // A nose over all bins, segment by segment: only the bins that a segment reaches are visited, and
 // what no bin changes is worked out once a segment.
 ghost use Rattle.std.specs.Prelude.{◌≡◌, true, ◌+◌, ◌≤◌, length, Float};
-ghost use Rattle.std.proofs.Math.Option.{none};
+ghost use Rattle.std.specs.Prelude.{None};
 ghost use Rattle.refusals.specs.Limits.{cell_limit};
-ghost use Rattle.reach.specs.Low.{low_paper, swept_paper};
 ghost use Rattle.reach.specs.Kinds.{SomeOf};
 ghost use Rattle.nose.specs.Nose.{segment_count};
-ghost use Rattle.nose.specs.Track.{end_on, side_on, capsule_at, sample_paper, sample_at, step_of, Over};
+ghost use Rattle.nose.specs.Track.{end_on, side_on, capsule_at, sample_at, step_of, Over};
 ghost use Rattle.cuts.specs.Rows.{row_at, rows_found, rows_left, Room, PutRow, Unfilled, Graded, Topped, Rested, Stepped, Passed, RowFilled, Idle};
 
 use crate::{ends, rows};
 use nose::{Capsule, FAR_LEAST, FAR_MOST, NEARLY, Point, Sample, Track};
-use reach::{Low, Swept};
+use reach::Swept;
 use stock::{BinRange, TurnSide, TurnStockSpec, ZRange};
 
 // So many bins are swept before it is asked again which rest.
@@ -19,8 +18,8 @@ const PART: usize = 64;
 
 // The sample on the line c, by way of the one on the line at.
 fn kept(t: Track, at: f64, held: Sample, c: f64) -> Sample
-    requires { sample_paper held ≡ sample_at t at }
-    ensures { sample_paper result ≡ sample_at t c }
+    requires { held ≡ sample_at t at }
+    ensures { result ≡ sample_at t c }
 {
     if nose::alike(at, c) {
         return held;
@@ -40,7 +39,7 @@ fn touch(
     there: &mut [bool],
 )
     requires { Room (i + 1) values.old there.old × (i ≤ cell_limit) }
-    ensures { PutRow (rows_found values there) (rows_left values there) i (step_of (rows_found values there i) low shy bin (sample_paper a) (sample_paper b)) }
+    ensures { PutRow (rows_found values there) (rows_left values there) i (step_of (rows_found values there i) low shy bin a b) }
 {
     let acc = rows::row_at(values, there, i);
     let swept = nose::step(acc, low, shy, bin, a, b);
@@ -59,17 +58,15 @@ fn sweep(
     requires { (first ≤ last) × (last ≤ cell_limit) × Room last values.old there.old }
     ensures { Stepped s t first last (rows_found values there) (rows_left values there) }
 {
-    let mut i = first;
     let mut at = stock::bin_of(s, first).za;
     let mut a = nose::sampled(t, at);
-    while i < last {
+    for i in first..last {
         let bin = stock::bin_of(s, i);
         let start = kept(t, at, a, bin.za);
         let stop = nose::sampled(t, bin.zb);
         touch(t.low, t.shy, bin, start, stop, i, values, there);
         at = bin.zb;
         a = stop;
-        i += 1;
     }
 }
 
@@ -85,7 +82,7 @@ fn over(p: Point, rr: f64, c: f64, top: f64) -> bool
 
 // Whether the straight side of a capsule misses the line z = c. `false` says nothing.
 fn beside(w: Capsule, c: f64) -> bool
-    ensures { result ≡ true → side_on w c ≡ none }
+    ensures { result ≡ true → side_on w c ≡ None }
 {
     let t = (c - w.p.z) / w.dz;
     w.sloped & !((0.0 <= t) & (t <= 1.0))
@@ -106,35 +103,29 @@ fn stays(w: Capsule, bin: ZRange, top: f64) -> bool
 }
 
 // The greater of low and high, where both are there.
-fn top_of(row: Swept) -> Low
-    ensures { SomeOf (λ x. Topped x (swept_paper row)) (low_paper result) }
+fn top_of(row: Swept) -> Option<f64>
+    ensures { SomeOf (λ x. Topped x row) result }
 {
-    let l = row.low;
-    let h = row.high;
-    let Low::At(low) = l else {
-        return Low::Nowhere;
-    };
-    let Low::At(high) = h else {
-        return Low::Nowhere;
-    };
+    let low = row.low?;
+    let high = row.high?;
     if low <= high {
-        return Low::At(high);
+        return Some(high);
     }
     if high <= low {
-        return Low::At(low);
+        return Some(low);
     }
-    Low::Nowhere
+    None
 }
 
 // Whether a segment leaves a bin as it is, by low and high of the bin. `false` says nothing.
 fn rests(t: Track, bin: ZRange, row: Swept) -> bool
-    ensures { result ≡ true → step_of (swept_paper row) t.low t.shy bin (sample_at t bin.za) (sample_at t bin.zb) ≡ swept_paper row }
+    ensures { result ≡ true → step_of row t.low t.shy bin (sample_at t bin.za) (sample_at t bin.zb) ≡ row }
 {
     if (bin.za <= t.low.z) & (t.low.z <= bin.zb) {
         return false;
     }
     let found = top_of(row);
-    let Low::At(top) = found else {
+    let Some(top) = found else {
         return false;
     };
     if !stays(t.grown, bin, top) {
@@ -158,14 +149,12 @@ fn rested(
     requires { (first ≤ last) × (last ≤ cell_limit) }
     ensures { (result ≤ last) × Rested s t first result (row_at values.now there.now) }
 {
-    let mut i = first;
-    while i < last {
+    for i in first..last {
         if !rests(t, stock::bin_of(s, i), rows::row_at(values, there, i)) {
             return i;
         }
-        i += 1;
     }
-    i
+    last
 }
 
 // A segment over the bins from first to before last, a part at a time: the bins before a part that it
@@ -226,12 +215,10 @@ pub fn fill(
     ensures { RowFilled s n side rn segments.now (segment_count segments.now) (rows_left values there) × Idle n result (rows_left values there) × (result.from ≤ result.to) }
 {
     let m = segments.len() / 5;
-    let mut k: usize = 0;
     let mut seen = BinRange { from: n, to: 0 };
-    while k < m {
+    for k in 0..m {
         let t = nose::track_of(nose::segment_at(segments, k, side), rn);
         seen = pass(s, n, t, seen, values, there);
-        k += 1;
     }
     if seen.to < seen.from {
         return BinRange { from: 0, to: 0 };

@@ -2,26 +2,24 @@
 // visited, and the sample at the end of a bin serves the next one.
 ghost use Rattle.std.specs.Prelude.{◌≡◌, true, ℕ, ◌+◌, ◌≤◌, ◌<◌};
 ghost use Rattle.refusals.specs.Limits.{cell_limit};
-ghost use Rattle.reach.specs.Low.{low_paper};
 ghost use Rattle.polygon.specs.Polygon.{lowest_of, polygon_reach, polygon_act};
 ghost use Rattle.cuts.specs.Rows.{row_at, rows_found, rows_left, Room, Unfilled, Sampled, ToCross, ToSweep, Crosses, Crossed, Says};
 
 use crate::rows;
-use polygon::Extent;
-use reach::Low;
+use polygon::Span;
 use stock::{BinRange, TurnSide, TurnStockSpec};
 
 // The lowest of the polygon on a line.
 #[derive(Clone, Copy)]
 struct Held {
     at: f64,
-    low: Low,
+    low: Option<f64>,
 }
 
 // The lowest at z, by way of the one in hand.
-fn kept(points: &[f64], side: TurnSide, held: Held, z: f64) -> Low
+fn kept(points: &[f64], side: TurnSide, held: Held, z: f64) -> Option<f64>
     requires { Sampled points.now side held }
-    ensures { low_paper result ≡ lowest_of points.now side z }
+    ensures { result ≡ lowest_of points.now side z }
 {
     let low = held.low;
     if held.at == z {
@@ -75,14 +73,12 @@ fn sweep(
     requires { ToSweep s points.now lo hi first last values.old there.old }
     ensures { Crossed side (polygon_reach s side excess points.now) first last (rows_found values there) (rows_left values there) }
 {
-    let mut i = first;
     let mut held = Held {
         at: lo,
         low: polygon::lowest(points, side, lo),
     };
-    while i < last {
+    for i in first..last {
         held = cross(s, side, excess, points, lo, hi, held, i, values, there);
-        i += 1;
     }
 }
 
@@ -100,7 +96,7 @@ pub fn fill(
     ensures { Says (polygon_act s side excess points.now) n result.from result.to (rows_left values there) }
 {
     let extent = polygon::extent_of(points);
-    let Extent::Over(lo, hi) = extent else {
+    let Some(Span { lo, hi }) = extent else {
         return BinRange { from: 0, to: 0 };
     };
     let bins = polygon::index_range(s, lo, hi, n);

@@ -3,15 +3,16 @@
 ghost use Rattle.std.specs.Prelude.{◌≡◌, true, Float};
 ghost use Rattle.stock.specs.declared.TurnSide.TheVariants.{Inner};
 ghost use Rattle.stock.specs.declared.ZRange.{ZRange};
-ghost use Rattle.reach.specs.Reach.{low, cut_cell};
+ghost use Rattle.reach.specs.Reach.{cut_cell};
 ghost use Rattle.cuts.specs.Source.{drill_both, Leaves, LeavesCell};
 
 use crate::list::Source;
+use reach::Reach;
 use stock::{TurnCell, TurnSide};
 
 // A thread to this radius goes no deeper than the cell's deep bound; else it makes another cell.
 pub fn thread_leaves(side: TurnSide, radius: f64, c: TurnCell) -> bool
-    ensures { Leaves result c (cut_cell side c (low radius)) }
+    ensures { Leaves result c (cut_cell side c (Reach.Low radius)) }
 {
     match side {
         TurnSide::Outer => !(floats::greatest(radius, c.inner.lower_mm) < c.outer.lower_mm),

@@ -1,9 +1,10 @@
 -- THE CHORDS OF A PROFILE AND THE NOSE: the chords of an accepted profile pass what refusal 5 asks of a nose's segments, where they are no more than its limit and their numbers are usable. Assumes nothing.
 -- What the chords themselves are, crate `profile` has in `proofs/Laws`: `chords-join`, `chords-ends`, `chords-within`, `chords-finite`, `chords-count`; `line-sag` in `proofs/Lines`.
+use Rattle.std.specs.Prelude.{Ok}
 use mathlib.Core.Path.{◌≡◌, refl, sym, ap, ◌∙◌, subst}
 use mathlib.Core.Bool.{Bool, true, false, ◌&&◌}
-use mathlib.Core.List.{List, ◌++◌}
-use Prim.Native.Nat.{ℕ, zero, suc, ◌+◌, ◌-◌, ◌*◌, ◌/◌, ◌≤◌, ◌<◌}
+use mathlib.Core.List.{List}
+use Prim.Native.Nat.{ℕ, zero, suc, ◌+◌, ◌-◌, ◌*◌, ◌≤◌, ◌<◌}
 use native.Mathlib.Nat.{le_refl}
 use native.Mathlib.Omega.{arith}
 use borrow.Author.Tests.{eq-eqb, le-leb}
@@ -16,7 +17,6 @@ use Rattle.refusals.specs.Lent.{over}
 use Rattle.floats.specs.Numbers.{zero64, usable}
 use Rattle.stock.specs.Cell.{number_at}
 use Rattle.nose.specs.Nose.{segment_count, segment_good, good_to, segments_good}
-use Rattle.profile.specs.declared.Chopped.TheVariants.{Chords}
 use Rattle.profile.specs.Chords.{flat_of, Segmented}
 use Rattle.profile.proofs.Answers.{flat-length}
 use Rattle.profile.proofs.Sizes.{HeldList, zero_is}
@@ -50,7 +50,7 @@ all-good xs n u s (suc k) h =
     (s k (omega arith)))
 
 -- an accepted profile, its chords at most the limit and at most 1e6 in size: a nose of every good radius takes them
-pub chords-cut : {xs : List Float} {tol : Float} {n : ℕ} {before after : List Float} (rn : Float) → Segmented xs tol (Chords n) before after → HeldList xs → n ≤ segment_limit
+pub chords-cut : {xs : List Float} {tol : Float} {n : ℕ} {before after : List Float} (rn : Float) → Segmented xs tol (Ok n) before after → HeldList xs → n ≤ segment_limit
     → ((j : ℕ) → j < 5 * n → T (usable (get_or after j nan))) → T (usable rn) → T (le zero64 rn) → segments_good rn (take (5 * n) after) ≡ true
 unfolding segments_good over
 chords-cut {xs} {tol} {n} {before} {after} rn s held few u r p =

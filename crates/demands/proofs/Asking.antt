@@ -1,9 +1,9 @@
 -- One law for every rule: a rule that asks tests one after the other is refused exactly as the list of those tests says. Assumes nothing.
+use Rattle.std.specs.Prelude.{Option, None, Some}
 use mathlib.Core.Path.{◌≡◌, refl, sym, ap, ◌∙◌, subst}
 use mathlib.Core.Bool.{Bool, true, false}
 use mathlib.Core.List.{List, [], ◌∷◌, ◌++◌, map}
 use Prim.Native.Nat.{ℕ}
-use mathlib.Core.Option.{Option, none, some}
 use Rattle.refusals.specs.Paper.{Paper, Reason, answers, refuses, only, demand, demand_at, demand_none, placed, onward}
 use Rattle.stock.proofs.Count.{no_answer}
 use Rattle.demands.specs.Refused.{Asked, ask, ask_at, ask_none, number_alone, AllHold, Stops, Exactly, of_answer}
@@ -175,8 +175,8 @@ asks-of-at {p = p} {l = l} q b e test n k h = subst (λ x. Asks (demand_at (test
 -- and of a place that is found or not
 pub asks-found : {A : Type 0} {p : Paper A} {l : List Asked} (o : Option ℕ) (n : ℕ) → Asks p l → Asks (demand_none o n p) (ask_none o n ∷ l)
 unfolding refusal_of first_failing unless demand_none
-asks-found none n h = record { same = h.same }
-asks-found (some k) n h = record { same = refl }
+asks-found None n h = record { same = h.same }
+asks-found (Some k) n h = record { same = refl }
 
 -- a test that is placed
 pub placed-demand : {A : Type 0} (t : Bool) (n k : ℕ) (p : Paper A) → placed k (demand t n p) ≡ demand_at t n k (placed k p)

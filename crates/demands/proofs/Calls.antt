@@ -1,4 +1,5 @@
 -- The third demand over the calls themselves: what their promises say of a run of previews and commits through lent lists. Assumes nothing.
+use Rattle.std.specs.Prelude.{Ok}
 use mathlib.Core.Path.{◌≡◌, refl, sym, ap, ◌∙◌, subst}
 use mathlib.Core.Bool.{Bool, true, false}
 use mathlib.Core.List.Permᴰ
@@ -21,7 +22,8 @@ use Rattle.stock.specs.Cell.{cell_at, stock_of}
 use Rattle.stock.proofs.Count.{no_answer, same_answer}
 use Rattle.stock.proofs.Bins.{HeldSpec, HeldList}
 use Rattle.stock.proofs.Stored.{same-cells}
-use Rattle.reach.specs.Reach.{Reached, deeper, deep_of, sure_of, limit_of, with_pair, Act, act_cell}
+use Rattle.reach.specs.declared.Reach.{Reach}
+use Rattle.reach.specs.Reach.{deeper, deep_of, sure_of, limit_of, with_pair, Act, act_cell}
 use Rattle.reach.specs.Kinds.{PlainReach, PlainAct, OnSide, OnlyAt}
 use Rattle.reach.specs.Closed.{gather, lows_of, highs_of, closed, owns_at}
 use Rattle.reach.proofs.Sides.{Ordered}
@@ -32,11 +34,9 @@ use Rattle.stock.specs.declared.TurnStock.{TurnStock}
 use Rattle.stock.specs.declared.Stamp.{Stamp}
 use Rattle.stock.specs.Stock.{stamp_of, stock_from}
 use Rattle.changes.specs.declared.ChangeList.{ChangeList}
-use Rattle.changes.specs.declared.Previewed.TheVariants.{Listed}
 use Rattle.changes.specs.Change.{changes_to, room_of, count_of, stamped, Proposed}
 use Rattle.changes.proofs.Proposals.{same-listing}
 use Rattle.cuts.specs.Preview.{proposed}
-use Rattle.changes.specs.declared.Applied.TheVariants.{Stock}
 use Rattle.changes.specs.Commit.{put_all, Committed, apply_of, Applies}
 use Rattle.changes.proofs.Written.{same_outcome}
 use Rattle.changes.proofs.Stocks.{Good, stock-good, good-stock}
@@ -61,7 +61,7 @@ record Kept (k : Committed) (g : ℕ) (cs' : List Float) : Type 0 where
   cells : cs' ≡ k.cells
   generation : g ≡ k.generation
 
-kept : (spec : TurnStockSpec) (edition rings gen : ℕ) (t : Bool) (k : Committed) (g : ℕ) (cs cs' : List Float) → Applies (stock_from spec edition rings gen) (demand t 12 (answers k)) (Stock (stock_from spec edition rings g)) cs cs' → Kept k g cs'
+kept : (spec : TurnStockSpec) (edition rings gen : ℕ) (t : Bool) (k : Committed) (g : ℕ) (cs cs' : List Float) → Applies (stock_from spec edition rings gen) (demand t 12 (answers k)) (Ok (stock_from spec edition rings g)) cs cs' → Kept k g cs'
 unfolding demand
 kept spec edition rings gen true k g cs cs' a = record { cells = a.cells; generation = ap (λ (x : TurnStock). x.stamp.generation) (same_answer a.answer) }
 kept spec edition rings gen false k g cs cs' a = absurd (no_answer (only 12) (stock_from spec edition rings g) (sym a.answer))
@@ -74,8 +74,8 @@ pub record Called (spec : TurnStockSpec) (n : ℕ) (t : Cutter) (cs cs' : List F
   pub generation : g ≡ gen + 1
 
 pub called : {spec : TurnStockSpec} {edition rings n : ℕ} → HeldSpec spec → (t : Cutter) → HeldCutter t → {cs cs' : List Float} (bs : List Float) → Good spec n cs → (gen g : ℕ) (list : ChangeList) (is is' : List ℕ) (xs xs' : List Float)
-    → Proposed (stamp_of edition gen) (cutter_preview spec t cs (room_of (length is) (length xs))) (Listed list) is is' xs xs'
-    → Applies (stock_from spec edition rings gen) (apply_of (stock_from spec edition rings gen) cs bs list is' xs') (Stock (stock_from spec edition rings g)) cs cs' → Called spec n t cs cs' gen g
+    → Proposed (stamp_of edition gen) (cutter_preview spec t cs (room_of (length is) (length xs))) (Ok list) is is' xs xs'
+    → Applies (stock_from spec edition rings gen) (apply_of (stock_from spec edition rings gen) cs bs list is' xs') (Ok (stock_from spec edition rings g)) cs cs' → Called spec n t cs cs' gen g
 called {spec} {edition} {rings} {n} hs t ht {cs} {cs'} bs b gen g list is is' xs xs' p a =
     let stock = stock_from spec edition rings gen in
     let room = room_of (length is) (length xs) in
@@ -84,10 +84,10 @@ called {spec} {edition} {rings} {n} hs t ht {cs} {cs'} bs b gen g list is is' xs
     let y = answered (stamp_of edition gen) (cutter_preview spec t cs room) list p.answer in
     let s = tool-sound spec n hs b.count t ht (accepted-good spec t cs room y.0 y.1) in
     let cuts = act-cuts b (cutter_act spec t) s.plain in
-    let q = same-listing (stamp_of edition gen) (proposed (cutter_act spec t) cs room n) (cutter_preview spec t cs room) (Listed list) is is' xs xs' (sym (s.rule cs room (good-stock b))) p in
+    let q = same-listing (stamp_of edition gen) (proposed (cutter_act spec t) cs room n) (cutter_preview spec t cs room) (Ok list) is is' xs xs' (sym (s.rule cs room (good-stock b))) p in
     let e = lent_is stock cs bs (apply-matching stock (stock_from spec edition rings g) cs cs' bs list is' xs' a) list l is is' xs xs' q ∙ commit-is b f cuts gen in
     let k : Committed = record { cells = put_all cs l; generation = gen + 1 } in
-    let w = kept spec edition rings gen (ltb gen last_generation) k g cs cs' (same_outcome stock (demand (ltb gen last_generation) 12 (answers k)) (apply_of stock cs bs list is' xs') (Stock (stock_from spec edition rings g)) cs cs' (sym e) a) in
+    let w = kept spec edition rings gen (ltb gen last_generation) k g cs cs' (same_outcome stock (demand (ltb gen last_generation) 12 (answers k)) (apply_of stock cs bs list is' xs') (Ok (stock_from spec edition rings g)) cs cs' (sym e) a) in
     record {
       good = subst (Good spec n) (sym w.cells) (put-good b f cuts);
       bins = λ i h. ap (λ (xs : List Float). cell_at xs i) w.cells ∙ good-bins b f cuts i h;
@@ -117,14 +117,14 @@ after {spec} hs (cut {t} {l} {cs} {cs'} {bs} {bs'} {gen} {g} {list} {is} {is'} {
 -- ---- the closed form in words
 
 -- c' is c with two bounds of a side: the deepest of its deep bound and the lows, brought to the other where that lies deeper; and the deepest of its sure bound and the highs
-pub record LeftDeepest (σ : TurnSide) (c : TurnCell) (own : List Reached) (c' : TurnCell) : Type 0 where
+pub record LeftDeepest (σ : TurnSide) (c : TurnCell) (own : List Reach) (c' : TurnCell) : Type 0 where
   pub deep : Float
   pub sure : Float
   pub deepest-low : Deepest σ (deep_of σ c) (gather lows_of own) deep
   pub deepest-high : Deepest σ (sure_of σ c) (gather highs_of own) sure
   pub pair : c' ≡ with_pair σ (deeper σ deep sure) sure c
 
-pub left-deepest : (σ : TurnSide) (c : TurnCell) (own : List Reached) (c' : TurnCell) → Ordered σ c → Each PlainReach own → c' ≡ closed σ c own → LeftDeepest σ c own c'
+pub left-deepest : (σ : TurnSide) (c : TurnCell) (own : List Reach) (c' : TurnCell) → Ordered σ c → Each PlainReach own → c' ≡ closed σ c own → LeftDeepest σ c own c'
 unfolding closed
 left-deepest σ c own c' o ps e = record {
   deep = foldl (deeper σ) (deep_of σ c) (gather lows_of own);

@@ -1,13 +1,14 @@
 -- What `fill` leaves is a stock (`fresh-fits`), so that -0.0 is not stored there either; and the bounds of a cell that fits an accepted spec are finite (`cell-finite`), which `cell_fits` says by bore
 -- and outer radius alone. Assumes nothing.
+use Rattle.std.specs.Prelude.{Ok}
 use mathlib.Core.Path.{◌≡◌, refl, sym, ap, ◌∙◌, subst}
 use mathlib.Core.Logic.{◌⊎◌, inl, inr}
 use mathlib.Core.Bool.{true}
-use mathlib.Core.List.{List, ◌∷◌, [], ◌++◌}
+use mathlib.Core.List.{List, ◌++◌}
 use Prim.Native.Nat.{ℕ, zero, suc, ◌+◌, ◌*◌, ◌≤◌, ◌<◌}
 use native.Mathlib.Nat.{eq-or-lt_of_le}
 use native.Mathlib.Omega.{arith}
-use lib.ListN.{length, get_or, get_or-append}
+use lib.ListN.{length, get_or-append}
 use lib.Seq.{get_or-append-add}
 use lib.Ieee.{Float, binary64, nan}
 use Rattle.refusals.specs.Paper.{Paper, answers, refuses}
@@ -18,7 +19,6 @@ use Rattle.stock.specs.declared.TurnStockSpec.{TurnStockSpec}
 use Rattle.stock.specs.declared.TurnCell.{TurnCell}
 use Rattle.stock.specs.declared.RadiusBounds.{RadiusBounds}
 use Rattle.stock.specs.declared.TurnStock.{TurnStock}
-use Rattle.stock.specs.declared.Made.TheVariants.{Stock}
 use Rattle.stock.specs.Spec.{clean_spec, cells_of}
 use Rattle.stock.specs.Cell.{number_at, cell_at, four_of, cell_fits, stock_of, fresh_cell, cells_like, new_of, new_cells}
 use Rattle.stock.specs.Stock.{stock_made, Filled}
@@ -107,7 +107,7 @@ pub record FilledCells (spec : TurnStockSpec) (cs : List Float) : Type 0 where
   pub counted : cells_of spec ≡ answers bins
   pub fits : stock_of spec cs ≡ answers bins
 
-pub fill-fits : (spec : TurnStockSpec) (edition : ℕ) (k : TurnStock) (cs cs' : List Float) → HeldSpec spec → Filled spec edition (Stock k) cs cs' → FilledCells spec cs'
+pub fill-fits : (spec : TurnStockSpec) (edition : ℕ) (k : TurnStock) (cs cs' : List Float) → HeldSpec spec → Filled spec edition (Ok k) cs cs' → FilledCells spec cs'
 unfolding new_of
 fill-fits spec edition k cs cs' hs f = go (new_of spec (length cs)) refl f.answer f.cells
   where

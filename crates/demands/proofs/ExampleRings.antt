@@ -1,4 +1,5 @@
 -- The laws of rings, moves and jobs speak of runs that there are: a ring stored, a move accepted, a stock rebuilt, a job that is refused and one that is not. Assumes nothing.
+use Rattle.std.specs.Prelude.{Ok}
 use mathlib.Core.Path.{◌≡◌, refl}
 use mathlib.Core.List.{List, [], ◌∷◌, ◌++◌}
 use Prim.Native.Nat.{ℕ}
@@ -23,7 +24,6 @@ use Rattle.rings.specs.Ring.{kept, around, split, subtract, subtract_all, in_han
 use Rattle.rings.specs.Store.{rings_of, flat_of, store_as, ring_fits, apart_all, store_fits, count_fits, bad_from, bad_ring, raised_by}
 use Rattle.rings.specs.Remove.{room_for, added, added_all, count_of, remove_all_in, remove_rings, stored_next, remove_in, remove_ring, counts_of, rings_left_after}
 use Rattle.rings.specs.Tests.{tests_of, tests_for, tests_list, ring_tests}
-use Rattle.moves.specs.declared.Rebuilt.TheVariants as rebuilt
 use Rattle.moves.specs.Move.{generation_after, movable_of, rings_moved, taken_of, move_in, move_of, given_of, parts_of, Rebuilds}
 use Rattle.text.specs.Parts.{into_first, parted_at}
 use Rattle.text.specs.Same.{same_bytes}
@@ -33,8 +33,8 @@ use Rattle.job_words.specs.Kind.{at, all_numbers, numbers, bar_of, kind_of, line
 use Rattle.lines.specs.File.{pieces_of}
 use Rattle.job_run.specs.Job as Job
 use Rattle.job_run.specs.Job.{first_line, job_line}
-use Rattle.job_run.specs.Run.{State, state, fresh_run, answered}
-use Rattle.demands.specs.Run.{Store, RanRings, done, ring, Held, Move, RanMoves, no-moves, made_move}
+use Rattle.job_run.specs.Run.{state, fresh_run, answered}
+use Rattle.demands.specs.Run.{Store, RanRings, done, ring, Move, RanMoves, no-moves, made_move}
 use Rattle.demands.specs.Offending.{lines_on, wrong_with, Offends, NoneOffends}
 use Rattle.demands.proofs.Example.{bar, whole}
 
@@ -96,7 +96,7 @@ unfolding demand demand_none onward pick least_of greatest_of size_of minus_zero
 move-made = made_move {bs = bar_kept} {bs' = bar_kept} (record { left = record { answer = refl; cells = refl; rings = refl }; kept = refl }) no-moves
 
 -- and by `from_parts`
-pub parts-rebuilt : Rebuilds bar 3 whole.cells (parts_of bar whole.cells (length bar_kept) (zero64 ∷ six ∷ two ∷ six ∷ []) empty) (rebuilt.Stock (stock_from bar 3 1 0)) bar_kept bar_kept empty one
+pub parts-rebuilt : Rebuilds bar 3 whole.cells (parts_of bar whole.cells (length bar_kept) (zero64 ∷ six ∷ two ∷ six ∷ []) empty) (Ok (stock_from bar 3 1 0)) bar_kept bar_kept empty one
 unfolding demand demand_none onward pick least_of greatest_of size_of minus_zero clean_of over kept around split subtract subtract_all in_hand clip left rings_of flat_of store_as ring_fits apart_all store_fits count_fits bad_from bad_ring room_for added added_all remove_all_in remove_rings count_of fold_from block_with block_of blocks_to renew_of given_of parts_of clean_spec spec_good cells_of whole_up cell_fits fit_to cells_fit stock_of Ieee.of_bits Ieee.of_fields Ieee.odd Ieee.eq Ieee.ne Ieee.lt Ieee.le Ieee.div Ieee.sub Ieee.add Ieee.mul Ieee.neg Ieee.sum Ieee.round Ieee.units Ieee.of_int Ieee.size Ieee.span Ieee.climb Ieee.to_unsigned
 parts-rebuilt = record { answer = refl; kept = refl; store = refl }
 

@@ -1,4 +1,5 @@
 -- The numbers of a job line are finite: whole micrometres, at most 1,000,000,000 of them, divided by 1000. Assumes nothing.
+use Rattle.std.specs.Prelude.{None, Option, Some}
 use mathlib.Core.Path.{◌≡◌, refl, sym, ◌∙◌, subst}
 use mathlib.Core.Bool.{Bool, true, false}
 use mathlib.Core.List.{List, [], ◌∷◌}
@@ -21,10 +22,7 @@ use Rattle.floats.specs.Kinds.{Within}
 use Rattle.floats.proofs.Keys.{mag, mag-exact}
 use Rattle.floats.proofs.Within.{within-div}
 use Rattle.text.proofs.Chosen.{yes, no}
-use Rattle.text.specs.declared.Whole.{Whole}
-use Rattle.text.specs.declared.Whole.TheVariants.{Of, No}
 use Rattle.text.specs.Whole.{all_digits, spelt, is_whole, whole_of}
-use Rattle.job_words.specs.declared.number.Number.{Number}
 use Rattle.job_words.specs.Number.{positive, negative, field_number}
 use Rattle.job_words.specs.Kind.{mm_of, at}
 
@@ -74,35 +72,35 @@ divided x w =
 
 -- ---- a field
 
-abbrev Small : Whole → Type 0
-Small (Of v) = v ≤ 1000000000
-Small No = Unit {0}
+abbrev Small : Option ℕ → Type 0
+Small (Some v) = v ≤ 1000000000
+Small None = Unit {0}
 
 small-whole : (s : List ℕ) → Small (whole_of s)
 unfolding whole_of is_whole
 small-whole s = by (leb 1 (length s)) (leb (length s) 10) (all_digits s) (leb (spelt 0 s) 1000000000) refl
   where
-    by : (a b c d : Bool) → leb (spelt 0 s) 1000000000 ≡ d → Small (pick (pick a (pick b (pick c d false) false) false) (Of (spelt 0 s)) No)
+    by : (a b c d : Bool) → leb (spelt 0 s) 1000000000 ≡ d → Small (pick (pick a (pick b (pick c d false) false) false) (Some (spelt 0 s)) None)
     by false b c d e = simp (no) tt
     by true false c d e = simp (yes, no) tt
     by true true false d e = simp (yes, no) tt
     by true true true false e = simp (yes, no) tt
     by true true true true e = simp yes (leb-true _ _ e)
 
-abbrev FiniteNumber : Number → Type 0
+abbrev FiniteNumber : Option Float → Type 0
 FiniteNumber n = T (finite (mm_of n))
 
 zero-finite : T (finite (of_bits binary64 0))
 unfolding Ieee.of_bits Ieee.of_fields Ieee.odd
 zero-finite = tt
 
-positive-finite : (w : Whole) → Small w → FiniteNumber (positive w)
-positive-finite (Of v) h = divided (of_int binary64 (pos v)) (pos-within v h)
-positive-finite No h = zero-finite
+positive-finite : (w : Option ℕ) → Small w → FiniteNumber (positive w)
+positive-finite (Some v) h = divided (of_int binary64 (pos v)) (pos-within v h)
+positive-finite None h = zero-finite
 
-negative-finite : (w : Whole) → Small w → FiniteNumber (negative w)
-negative-finite (Of v) h = divided (of_int binary64 (neg_ℤ (pos v))) (neg-within v h)
-negative-finite No h = zero-finite
+negative-finite : (w : Option ℕ) → Small w → FiniteNumber (negative w)
+negative-finite (Some v) h = divided (of_int binary64 (neg_ℤ (pos v))) (neg-within v h)
+negative-finite None h = zero-finite
 
 number-finite : (f : List ℕ) → FiniteNumber (field_number f)
 unfolding field_number

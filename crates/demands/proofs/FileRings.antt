@@ -5,7 +5,7 @@ use mathlib.Core.List.{List, [], ◌∷◌, ◌++◌, append_assoc, append-nil}
 use Prim.Native.Nat.{ℕ, zero, suc, ◌+◌, ◌*◌, ◌/◌, ◌%◌, ◌≤◌, ◌<◌}
 use native.Mathlib.Omega.{arith}
 use native.Mathlib.Nat.{min-le_left}
-use lib.Dec.{T, leb, eqb}
+use lib.Dec.{T, leb}
 use lib.ListN.{length, take, get_or, length-append}
 use lib.Seq.{get_or-take, length-take-le}
 use lib.Ieee.{Float, nan, binary64, fits, is_nan, lt, le}
@@ -22,12 +22,12 @@ use Rattle.stock.specs.Spec.{clean_spec, spec_good}
 use Rattle.stock.specs.Cell.{stock_of}
 use Rattle.stock.proofs.Count.{and_both, checked, stocked}
 use Rattle.rings.specs.declared.Ring.{Ring}
-use Rattle.rings.specs.Ring.{ring, filled, apart, kept, subtract, subtract_all, in_hand, clip, left}
-use Rattle.rings.specs.Store.{ring_at, rings_of, bar_ring, room_for_rings, ring_fits, apart_all, store_fits, count_fits, finite_ring, all_good, rings_good, bad_ring}
+use Rattle.rings.specs.Ring.{filled, apart, kept, subtract, subtract_all, in_hand, clip, left}
+use Rattle.rings.specs.Store.{ring_at, rings_of, bar_ring, room_for_rings, ring_fits, apart_all, store_fits, count_fits, all_good, rings_good, bad_ring}
 use Rattle.rings.specs.Remove.{room_for, added, added_all, remove_all_in, remove_rings}
 use Rattle.rings.proofs.Adding.{added-yes}
 use Rattle.rings.proofs.Bad.{rings-none}
-use Rattle.rings.proofs.Fitting.{Fits, fits-of}
+use Rattle.rings.proofs.Fitting.{fits-of}
 use Rattle.rings.proofs.Flat.{same-ring, length-rings}
 use Rattle.rings.proofs.InHand.{subtract-apart}
 use Rattle.rings.proofs.Prefix.{apart-turns, store_fits-snoc}

@@ -1,5 +1,6 @@
 -- What the lent room holds after any read of a stock file, refused or not: of each cell's and each ring's line its numbers at its place, as far as the room reaches, and all else as it was. Assumes nothing.
-use Prim.Native.Nat.{ℕ, zero, suc, ◌+◌, ◌-◌, ◌*◌, ◌/◌, ◌^◌, ◌≤◌, ◌<◌, min}
+use Rattle.std.specs.Prelude.{Option, None, Some}
+use Prim.Native.Nat.{ℕ, suc, ◌+◌, ◌-◌, ◌*◌, ◌/◌, ◌^◌, ◌≤◌, ◌<◌, min}
 use native.Mathlib.Omega.{arith}
 use native.Mathlib.Nat.{min-le_left, min-le_right}
 use mathlib.Core.Path.{◌≡◌, refl, sym, ap, ◌∙◌, subst}
@@ -7,34 +8,31 @@ use mathlib.Core.Bool.{Bool, true, false, false≢true}
 use mathlib.Core.List.{List, [], ◌∷◌}
 use lib.Dec.{eqb, ltb}
 use lib.ListN.{length, get_or, set, length-set}
-use lib.Seq.{sets, length-sets, get_or-set_same, get_or-set_other}
+use lib.Seq.{sets, get_or-set_same, get_or-set_other}
 use lib.Ieee.{Float, nan}
 use borrow.Author.Tests.{eqb-true, eqb-false, ltb-true, ltb-false, lt-ltb}
 use Rattle.floats.specs.Pick.{pick, pick_true, pick-false}
-use Rattle.text.proofs.Parting.{some}
 use Rattle.lines.specs.File.{pieces_of, ended, line_on_bytes, over_pieces}
 use Rattle.stock_lines.specs.declared.Reading.{Reading}
 use Rattle.stock_lines.specs.declared.form.Four.{Four}
-use Rattle.stock_lines.specs.declared.form.Four.TheVariants.{Numbers, NoFour}
 use Rattle.stock_lines.specs.declared.form.First.{First}
-use Rattle.stock_lines.specs.declared.form.First.TheVariants.{Says, NoFirst}
 use Rattle.stock_lines.specs.declared.room.Took.{Took}
 use Rattle.stock_lines.specs.declared.room.Took.TheVariants.{Cell, Ring, End, NoLine}
-use Rattle.stock_lines.specs.Form.{form_of, line_of, four_of, cell_prefix}
+use Rattle.stock_lines.specs.Form.{form_of, line_of, four, four_of, cell_prefix}
 use Rattle.stock_lines.specs.First.{first_of}
 use Rattle.stock_lines.specs.Room.{kept, stored, taken, cell_at, ring_at, ring_turn, took_of, rings_left_after}
 use Rattle.stock_lines.specs.Reading.{State, state, next, count_to, refusing, begun, onward_to, went, on_body, on_line}
 use Rattle.stock_lines.proofs.Readings.{line_first, line-body, line-behind, count-more, count-full, begun-is}
-use Rattle.stock_file.specs.Read.{fresh_reading, stopped, on_long, on_end, file_in}
+use Rattle.stock_file.specs.Read.{fresh_reading, stopped, on_long, file_in}
 use Rattle.stock_file.specs.Write.{Opening, opening}
 use Rattle.stock_file.proofs.LineSteps.{most, reading}
 use Rattle.stock_file.proofs.Leaves.{Filled, Stays, line_stays, pieces-stay}
-use Rattle.stock_file.proofs.Spelt.{walk, stopped-walk, went_on}
+use Rattle.stock_file.proofs.Spelt.{walk, stopped-walk}
 use Rattle.stock_file.proofs.WriteAfter as kinds
 
 -- the four numbers at a place
-abbrev pub four_in : List Float → ℕ → Four
-four_in l i = Numbers (get_or l (4 * i) nan) (get_or l (4 * i + 1) nan) (get_or l (4 * i + 2) nan) (get_or l (4 * i + 3) nan)
+abbrev pub four_in : List Float → ℕ → Option Four
+four_in l i = four (get_or l (4 * i) nan) (get_or l (4 * i + 1) nan) (get_or l (4 * i + 2) nan) (get_or l (4 * i + 3) nan)
 
 -- A file of these pieces left this: n cells' and m rings' lines, each in its turn behind the first line, in the form that this names, m counted to 257. Where the room reaches, their numbers stand at their places, and of rings the first 256; every other number is as it was lent.
 pub record RoomHolds (cs rs : List Float) (ps : List (List ℕ)) (left : State) : Type 0 where
@@ -56,23 +54,23 @@ four-other l k i a b c d h =
     ∙ get_or-set_other (set l k a) (suc k) i b nan (λ e. omega arith)
     ∙ get_or-set_other l k i a nan (λ e. omega arith)
 
-stored-beyond : (limit : ℕ) (l : List Float) (k : ℕ) (f : Four) (i : ℕ) → 4 * min limit (length l / 4) ≤ i → get_or (stored limit l k f) i nan ≡ get_or l i nan
+stored-beyond : (limit : ℕ) (l : List Float) (k : ℕ) (f : Option Four) (i : ℕ) → 4 * min limit (length l / 4) ≤ i → get_or (stored limit l k f) i nan ≡ get_or l i nan
 unfolding stored kept
-stored-beyond limit l k NoFour i h = refl
-stored-beyond limit l k (Numbers a b c d) i h = by (ltb k limit) refl (ltb k (length l / 4)) refl
+stored-beyond limit l k None i h = refl
+stored-beyond limit l k (Some x) i h = by (ltb k limit) refl (ltb k (length l / 4)) refl
   where
     low : (x y : ℕ) → k < x → k < y → k < min x y
     low x y p q = omega (arith, p, q)
 
-    by : (t : Bool) → ltb k limit ≡ t → (u : Bool) → ltb k (length l / 4) ≡ u → get_or (pick (ltb k limit) (pick (ltb k (length l / 4)) (sets l (4 * k) (a ∷ b ∷ c ∷ d ∷ [])) l) l) i nan ≡ get_or l i nan
+    by : (t : Bool) → ltb k limit ≡ t → (u : Bool) → ltb k (length l / 4) ≡ u → get_or (pick (ltb k limit) (pick (ltb k (length l / 4)) (sets l (4 * k) (x.a ∷ x.b ∷ x.c ∷ x.d ∷ [])) l) l) i nan ≡ get_or l i nan
     by true e true f =
         let m : k < min limit (length l / 4) = low limit (length l / 4) (ltb-true _ _ e) (ltb-true _ _ f) in
-        ap (λ (x : List Float). get_or x i nan) (pick_true _ _ _ e ∙ pick_true _ _ _ f) ∙ four-other l (4 * k) i a b c d (omega arith)
+        ap (λ (x : List Float). get_or x i nan) (pick_true _ _ _ e ∙ pick_true _ _ _ f) ∙ four-other l (4 * k) i x.a x.b x.c x.d (omega arith)
     by true e false f = ap (λ (x : List Float). get_or x i nan) (pick_true _ _ _ e ∙ pick-false _ _ _ f)
     by false e u f = ap (λ (x : List Float). get_or x i nan) (pick-false _ _ _ e)
 
 -- nor beyond what the room reaches, whatever the limit
-room-beyond : (limit : ℕ) (l : List Float) (k : ℕ) (f : Four) (i : ℕ) → 4 * (length l / 4) ≤ i → get_or (stored limit l k f) i nan ≡ get_or l i nan
+room-beyond : (limit : ℕ) (l : List Float) (k : ℕ) (f : Option Four) (i : ℕ) → 4 * (length l / 4) ≤ i → get_or (stored limit l k f) i nan ≡ get_or l i nan
 room-beyond limit l k f i h = stored-beyond limit l k f i (omega (arith, h, min-le_right limit (length l / 4)))
 
 -- so it is after every line, and at the end
@@ -159,17 +157,17 @@ put-here l i x y z w h =
     }
 
 -- and stay there to the end
-stands : (limit n n' : ℕ) (l l' : List Float) (x y z w : Float) → n < limit → n < length l / 4 → Filled (n + 1) n' (stored limit l n (Numbers x y z w)) l' → Numbers x y z w ≡ four_in l' n
+stands : (limit n n' : ℕ) (l l' : List Float) (x y z w : Float) → n < limit → n < length l / 4 → Filled (n + 1) n' (stored limit l n (four x y z w)) l' → four x y z w ≡ four_in l' n
 unfolding stored kept
 stands limit n n' l l' x y z w h m f =
-    let q : stored limit l n (Numbers x y z w) ≡ sets l (4 * n) (x ∷ y ∷ z ∷ w ∷ []) = pick_true _ _ _ (lt-ltb _ _ h) ∙ pick_true _ _ _ (lt-ltb _ _ m) in
+    let q : stored limit l n (four x y z w) ≡ sets l (4 * n) (x ∷ y ∷ z ∷ w ∷ []) = pick_true _ _ _ (lt-ltb _ _ h) ∙ pick_true _ _ _ (lt-ltb _ _ m) in
     let p = put-here l (4 * n) x y z w (omega arith) in
     let at : (i : ℕ) → i < 4 * (n + 1) → get_or (sets l (4 * n) (x ∷ y ∷ z ∷ w ∷ [])) i nan ≡ get_or l' i nan = λ i g. ap (λ (v : List Float). get_or v i nan) (sym q) ∙ sym (f.before i g) in
     let e1 = sym p.first ∙ at (4 * n) (omega arith) in
     let e2 = sym p.second ∙ at (4 * n + 1) (omega arith) in
     let e3 = sym p.third ∙ at (4 * n + 2) (omega arith) in
     let e4 = sym p.fourth ∙ at (4 * n + 3) (omega arith) in
-    λ j. Numbers (e1 j) (e2 j) (e3 j) (e4 j)
+    λ j. four (e1 j) (e2 j) (e3 j) (e4 j)
 
 -- ---- lines behind the first
 
@@ -263,14 +261,14 @@ module _ (left : State) where
       at_first : (i : ℕ) → i ≡ 0 → get_or (p ∷ q ∷ ls) i [] ≡ p
       at_first i e = ap (λ (x : ℕ). get_or (p ∷ q ∷ ls) x []) e
 
-      a-cell : (x y z w : Float) → m ≡ 0 → n < (most b) → four_of (line_of (cell_prefix b.form n) 4 p) ≡ Numbers x y z w
-          → on_line st p ≡ state (reading b 1 (n + 1) m (l + 1)) (stored (most b) cs n (Numbers x y z w)) rs → walk (on_line st p) (q ∷ ls) ≡ left → Rest b.form n m cs rs (p ∷ q ∷ ls)
-      a-cell x y z w em lt four k e =
-          let st' : State = state (reading b 1 (n + 1) m (l + 1)) (stored (most b) cs n (Numbers x y z w)) rs in
+      a-cell : (x y z w : Float) → m ≡ 0 → n < (most b) → four_of (line_of (cell_prefix b.form n) 4 p) ≡ four x y z w
+          → on_line st p ≡ state (reading b 1 (n + 1) m (l + 1)) (stored (most b) cs n (four x y z w)) rs → walk (on_line st p) (q ∷ ls) ≡ left → Rest b.form n m cs rs (p ∷ q ∷ ls)
+      a-cell x y z w em lt held k e =
+          let st' : State = state (reading b 1 (n + 1) m (l + 1)) (stored (most b) cs n (four x y z w)) rs in
           let e' = on st' k e in
           let s = later st' e' in
           let g : n + 1 ≤ N = s.cells.grows in
-          let long : length (stored (most b) cs n (Numbers x y z w)) ≡ length cs = ap (λ (v : State). length v.cells) (sym k) ∙ (line_stays st p).cells.long in
+          let long : length (stored (most b) cs n (four x y z w)) ≡ length cs = ap (λ (v : State). length v.cells) (sym k) ∙ (line_stays st p).cells.long in
           let r = again (n + 1) m (l + 1) _ rs (omega arith) e' in
           record {
             cells = λ i h v u. by-cell i (eqb i n) refl h v u s long r;
@@ -279,25 +277,25 @@ module _ (left : State) where
             form = r.form;
           }
         where
-          by-cell : (i : ℕ) (t : Bool) → eqb i n ≡ t → n ≤ i → i < N → i < length cs / 4 → Stays (state (reading b 1 (n + 1) m (l + 1)) (stored (most b) cs n (Numbers x y z w)) rs) left → length (stored (most b) cs n (Numbers x y z w)) ≡ length cs
-              → Rest b.form (n + 1) m (stored (most b) cs n (Numbers x y z w)) rs (q ∷ ls) → four_of (line_of (cell_prefix b.form i) 4 (get_or (p ∷ q ∷ ls) (i - n) [])) ≡ four_in left.cells i
+          by-cell : (i : ℕ) (t : Bool) → eqb i n ≡ t → n ≤ i → i < N → i < length cs / 4 → Stays (state (reading b 1 (n + 1) m (l + 1)) (stored (most b) cs n (four x y z w)) rs) left → length (stored (most b) cs n (four x y z w)) ≡ length cs
+              → Rest b.form (n + 1) m (stored (most b) cs n (four x y z w)) rs (q ∷ ls) → four_of (line_of (cell_prefix b.form i) 4 (get_or (p ∷ q ∷ ls) (i - n) [])) ≡ four_in left.cells i
           by-cell i true e h v u s long r =
               let j : n ≡ i = sym (eqb-true _ _ e) in
               let o : i - n ≡ 0 = omega arith in
-              let first : four_of (line_of (cell_prefix b.form n) 4 p) ≡ four_in left.cells n = four ∙ stands (most b) n N cs left.cells x y z w lt (omega arith) s.cells in
+              let first : four_of (line_of (cell_prefix b.form n) 4 p) ≡ four_in left.cells n = held ∙ stands (most b) n N cs left.cells x y z w lt (omega arith) s.cells in
               ap (λ (c : List ℕ). four_of (line_of (cell_prefix b.form i) 4 c)) (at_first (i - n) o) ∙ subst (λ (c : ℕ). four_of (line_of (cell_prefix b.form c) 4 p) ≡ four_in left.cells c) j first
           by-cell i false e h v u s long r =
               let d : i ≡ n → ⊥ = eqb-false _ _ e in
               let o : i - n ≡ suc (i - (n + 1)) = omega arith in
               ap (λ (c : List ℕ). four_of (line_of (cell_prefix b.form i) 4 c)) (shift _ _ o) ∙ r.cells i (omega arith) v (subst (λ (c : ℕ). i < c / 4) (sym long) u)
 
-      a-ring : (x y z w : Float) → ring_at p ≡ Numbers x y z w
-          → on_line st p ≡ state (reading b 1 n (count_to 257 m) (l + 1)) cs (stored 256 rs m (Numbers x y z w)) → walk (on_line st p) (q ∷ ls) ≡ left → Rest b.form n m cs rs (p ∷ q ∷ ls)
-      a-ring x y z w four k e =
-          let st' : State = state (reading b 1 n (count_to 257 m) (l + 1)) cs (stored 256 rs m (Numbers x y z w)) in
+      a-ring : (x y z w : Float) → ring_at p ≡ four x y z w
+          → on_line st p ≡ state (reading b 1 n (count_to 257 m) (l + 1)) cs (stored 256 rs m (four x y z w)) → walk (on_line st p) (q ∷ ls) ≡ left → Rest b.form n m cs rs (p ∷ q ∷ ls)
+      a-ring x y z w held k e =
+          let st' : State = state (reading b 1 n (count_to 257 m) (l + 1)) cs (stored 256 rs m (four x y z w)) in
           let e' = on st' k e in
           let s = later st' e' in
-          let long : length (stored 256 rs m (Numbers x y z w)) ≡ length rs = ap (λ (v : State). length v.rings) (sym k) ∙ (line_stays st p).rings.long in
+          let long : length (stored 256 rs m (four x y z w)) ≡ length rs = ap (λ (v : State). length v.rings) (sym k) ∙ (line_stays st p).rings.long in
           let r = again n (count_to 257 m) (l + 1) cs _ (omega arith) e' in
           let same : N ≡ n = r.fixed (some-ring m) in
           record {
@@ -314,16 +312,16 @@ module _ (left : State) where
               by true f = subst (λ (c : ℕ). 0 < c) (count-more 257 m (ltb-true _ _ f)) (omega arith)
               by false f = let g : 257 ≤ m = ltb-false _ _ f in subst (λ (c : ℕ). 0 < c) (count-full 257 m g) (omega arith)
 
-          by-ring : (i : ℕ) (t : Bool) → eqb i m ≡ t → m ≤ i → i < M → i < min 256 (length rs / 4) → Stays (state (reading b 1 n (count_to 257 m) (l + 1)) cs (stored 256 rs m (Numbers x y z w))) left
-              → length (stored 256 rs m (Numbers x y z w)) ≡ length rs → Rest b.form n (count_to 257 m) cs (stored 256 rs m (Numbers x y z w)) (q ∷ ls) → N ≡ n → ring_at (get_or (p ∷ q ∷ ls) (N - n + (i - m)) []) ≡ four_in left.rings i
+          by-ring : (i : ℕ) (t : Bool) → eqb i m ≡ t → m ≤ i → i < M → i < min 256 (length rs / 4) → Stays (state (reading b 1 n (count_to 257 m) (l + 1)) cs (stored 256 rs m (four x y z w))) left
+              → length (stored 256 rs m (four x y z w)) ≡ length rs → Rest b.form n (count_to 257 m) cs (stored 256 rs m (four x y z w)) (q ∷ ls) → N ≡ n → ring_at (get_or (p ∷ q ∷ ls) (N - n + (i - m)) []) ≡ four_in left.rings i
           by-ring i true e h v u s long r same =
               let j : m ≡ i = sym (eqb-true _ _ e) in
               let lt : m < 256 = omega (arith, u, min-le_left 256 (length rs / 4)) in
               let room : m < length rs / 4 = omega (arith, u, min-le_right 256 (length rs / 4)) in
               let one : m + 1 ≡ count_to 257 m = count-more 257 m (omega arith) in
               let o : N - n + (i - m) ≡ 0 = omega arith in
-              let f : Filled (m + 1) M (stored 256 rs m (Numbers x y z w)) left.rings = subst (λ (c : ℕ). Filled c M (stored 256 rs m (Numbers x y z w)) left.rings) (sym one) s.rings in
-              ap ring_at (at_first _ o) ∙ subst (λ (c : ℕ). ring_at p ≡ four_in left.rings c) j (four ∙ stands 256 m M rs left.rings x y z w lt room f)
+              let f : Filled (m + 1) M (stored 256 rs m (four x y z w)) left.rings = subst (λ (c : ℕ). Filled c M (stored 256 rs m (four x y z w)) left.rings) (sym one) s.rings in
+              ap ring_at (at_first _ o) ∙ subst (λ (c : ℕ). ring_at p ≡ four_in left.rings c) j (held ∙ stands 256 m M rs left.rings x y z w lt room f)
           by-ring i false e h v u s long r same =
               let d : i ≡ m → ⊥ = eqb-false _ _ e in
               let lt : m < 257 = omega (arith, u, min-le_left 256 (length rs / 4)) in
@@ -380,14 +378,14 @@ module _ (left : State) where
           let c = long-counts (state fresh_reading cs rs) (counts (on_long (state fresh_reading cs rs)) (sym (ap (λ (x : State). walk x (q ∷ ls)) k ∙ stopped-walk (q ∷ ls) (on_long (state fresh_reading cs rs)) refl) ∙ e)) in
           nothing cs rs (p ∷ q ∷ ls) c.cells c.rings
 
-      by : (t : Bool) → ltb (length p) 128 ≡ t → (f : First) → first_of p ≡ f → Whole cs rs (p ∷ q ∷ ls)
+      by : (t : Bool) → ltb (length p) 128 ≡ t → (f : Option First) → first_of p ≡ f → Whole cs rs (p ∷ q ∷ ls)
       by false g f h = refused (pick-false _ _ _ refl ∙ pick-false _ _ _ g)
-      by true g NoFirst h = refused (pick-false _ _ _ refl ∙ pick_true _ _ _ g ∙ line_first (state fresh_reading cs rs) p refl ∙ ap (λ (x : First). state (begun fresh_reading x) cs rs) h)
-      by true g (Says form edition b) h =
-          let d : Opening = opening form edition b in
+      by true g None h = refused (pick-false _ _ _ refl ∙ pick_true _ _ _ g ∙ line_first (state fresh_reading cs rs) p refl ∙ ap (λ (x : Option First). state (begun fresh_reading x) cs rs) h)
+      by true g (Some f) h =
+          let d : Opening = opening f.form f.edition f.bar in
           let one : 1 ≡ next fresh_reading = omega arith in
           let k : line_on_bytes stopped on_line on_long (state fresh_reading cs rs) p ≡ state (reading d 1 0 0 1) cs rs =
-          pick-false _ _ _ refl ∙ pick_true _ _ _ g ∙ line_first (state fresh_reading cs rs) p refl ∙ ap (λ (r : Reading). state r cs rs) (sym (begun-is fresh_reading (first_of p) _ _ _ 1 h one)) in
+          pick-false _ _ _ refl ∙ pick_true _ _ _ g ∙ line_first (state fresh_reading cs rs) p refl ∙ ap (λ (r : Reading). state r cs rs) (sym (begun-is fresh_reading (first_of p) f 1 h one)) in
           let r = rest d (q ∷ ls) 0 0 1 cs rs (omega arith) (ap (λ (u : State). walk u (q ∷ ls)) (sym k) ∙ e) in (
             (λ i a c. let o : 1 + i ≡ suc (i - 0) = omega arith in ap (λ (u : ℕ). four_of (line_of (cell_prefix F i) 4 (get_or (p ∷ q ∷ ls) u []))) o ∙ ap (λ (u : ℕ). four_of (line_of (cell_prefix u i) 4 (get_or (p ∷ q ∷ ls) (suc (i - 0)) []))) (sym r.form) ∙ r.cells i (omega arith) a c),
             (λ i a c. let o : 1 + (N + i) ≡ suc (N - 0 + (i - 0)) = omega arith in ap (λ (u : ℕ). ring_at (get_or (p ∷ q ∷ ls) u [])) o ∙ r.rings i (omega arith) a c),

@@ -4,11 +4,11 @@
 --
 -- Below each law names the calls that it is of. `change_slices::propose` has the rule of the flat call, with the number of records as the room (`preview-tool-exactly`). `changes::list_of` and `moves::with_counts` refuse with the number that they are given. What the methods of an `Envelope` made by `new` answer is the rule of the flat call too (proofs/Profile): `envelope::held::Envelope::order`,
 -- `envelope::held::Envelope::radius_at`, `envelope::held::Envelope::radius_range`.
+use Rattle.std.specs.Prelude.{Option, None, Some}
 use mathlib.Core.Path.{◌≡◌, refl, sym, ap, ap₂, ◌∙◌, subst}
 use mathlib.Core.Logic.{inl, inr}
 use mathlib.Core.Bool.{Bool, true, false, not, ◌&&◌, ◌||◌, false≢true}
 use mathlib.Core.List.{List, [], ◌∷◌, ◌++◌}
-use mathlib.Core.Option.{Option, none, some}
 use Prim.Native.Nat.{ℕ, zero, suc, ◌*◌, ◌≤◌, ◌<◌, min}
 use native.Mathlib.Nat.{mul-pos, zero-lt-suc}
 use native.Mathlib.Omega.{arith}
@@ -18,7 +18,7 @@ use lib.ListN.{length}
 use lib.Ieee.{Float, nan, inf, fin, up, down, level, le, lt, eq, of_bits}
 use lib.Ieee.Bits.{is_true}
 use lib.Ieee.Fits.{up_pos}
-use Rattle.refusals.specs.Paper.{Paper, answers, refuses, demand, demand_at, placed, onward, demand-true, placed-answers, at}
+use Rattle.refusals.specs.Paper.{Paper, answers, demand, demand_at, placed, onward, demand-true, placed-answers}
 use Rattle.refusals.specs.Limits.{cell_limit, piece_limit, last_generation, last_place}
 use Rattle.floats.specs.Pick.{pick}
 use Rattle.floats.specs.Numbers.{◌+₆₄◌, ◌*₆₄◌, zero64, clean_of, usable}
@@ -71,7 +71,7 @@ use Rattle.blocks.specs.Renew.{renew_of}
 use Rattle.stock_lines.specs.declared.Reading.{Reading}
 use Rattle.stock_file.specs.Read.{spec_of, front_of, stock_in, told_as}
 use Rattle.stock_file.specs.Write.{line_count, line_for}
-use Rattle.side_by_side.specs.Compared.{Side, same_bar, both_in_hand, chunks_of, compared_of}
+use Rattle.side_by_side.specs.Compared.{Side, same_bar, both_in_hand, compared_of}
 use Rattle.profile.specs.Profile.{profile_good}
 use Rattle.profile.specs.Chords.{Chord, profile_chords, segments_of}
 use Rattle.profile.specs.Chords as profile
@@ -84,7 +84,7 @@ use Rattle.job_words.specs.Kind.{line_of}
 use Rattle.job_run.specs.declared.line.Job.{Job}
 use Rattle.job_run.specs.Job.{line_limit, cells_of_job, bar_line, made_cut, cut_line, removing_line, first_line, later_line, job_line}
 use Rattle.demands.specs.Refused.{Asked, ask, Exactly, root_asks, length_asks, count_good, spec_asks, bin_asks, new_asks, stock_asks, room_good, preview_cut_asks, preview_asks, preview_nose_asks, preview_polygon_asks, preview_tool_asks, each_asks, change_asks, pass_asks, commit_in_asks, asked_asks, commit_asks, own_asks, apply_asks, difference_asks, remove_asks, room_for_all, all_stored, remove_rings_asks, left_asks, given_asks, parts_asks, movable_asks, rings_moved_asks, move_in_asks, move_list_asks, asks_of_move, volume_asks, kept_asks, renew_asks, check_asks, propose_asks, points_asks, radius_asks, within_asks, bar_asks, cut_line_asks, first_line_asks, later_line_asks, line_asks, chords_fit, segments_asks, insert_asks, eroding_asks, file_asks, file_line_asks, compare_asks}
-use Rattle.demands.proofs.Asking.{refusal_of, Asks, exactly, exactly-as, asks_none, asks-more, asks_of, asks_at, asks-of-at, asks-found, placed-demand, asks-on, asks-then, asks-as, asks-holds, asks-fails, onward-demand, unless, first_failing}
+use Rattle.demands.proofs.Asking.{refusal_of, Asks, exactly, exactly-as, asks_none, asks-more, asks_of, asks_at, asks-of-at, asks-found, placed-demand, asks-on, asks-then, asks-as, asks-holds, asks-fails, onward-demand}
 
 -- ---- the root and the length
 
@@ -110,10 +110,10 @@ or_right false t e = e
 
 -- both zeros
 zeros : (s : Bool) (d u : ℕ) → level false (0 * 1 * d) s (0 * u * 1) ≡ true
-zeros s d u = ap₂ (λ (a b : ℕ). level false a s b) none none' ∙ at_zero s
+zeros s d u = ap₂ (λ (a b : ℕ). level false a s b) None none' ∙ at_zero s
   where
-    none : 0 * 1 * d ≡ 0
-    none = omega arith
+    None : 0 * 1 * d ≡ 0
+    None = omega arith
 
     none' : 0 * u * 1 ≡ 0
     none' = omega arith
@@ -147,8 +147,8 @@ length-exactly x y = exactly-as (length_of x y) (same (length-as-before x y)) (r
 
 count-asks : (most : ℕ) (o : Option ℕ) → Asks (counted most o) (ask (count_good most o) 2 ∷ [])
 unfolding demand
-count-asks most none = asks-more {p = answers 0} false 2 (λ _. asks_none 0)
-count-asks most (some n) = asks-more (not (eqb n 0) && leb n most) 2 (λ _. asks_none n)
+count-asks most None = asks-more {p = answers 0} false 2 (λ _. asks_none 0)
+count-asks most (Some n) = asks-more (not (eqb n 0) && leb n most) 2 (λ _. asks_none n)
 
 spec-asks : (spec : TurnStockSpec) → Asks (cells_of spec) (spec_asks spec)
 unfolding cells_of
@@ -619,8 +619,8 @@ line-exactly j s room cs rs = exactly (asks-more (ltb (length s) line_limit) 15 
 
 chords-asks : (room : ℕ) (o : Option (List Chord)) → Asks (profile.room_for room o) (ask (chords_fit room o) 18 ∷ [])
 unfolding profile.room_for demand
-chords-asks room none = asks-more {p = answers []} false 18 (λ _. asks_none [])
-chords-asks room (some l) = asks-more (leb (length l) room) 18 (λ _. asks_none l)
+chords-asks room None = asks-more {p = answers []} false 18 (λ _. asks_none [])
+chords-asks room (Some l) = asks-more (leb (length l) room) 18 (λ _. asks_none l)
 
 -- `segments`: 17, 18
 pub segments-exactly : (xs : List Float) (tol : Float) (room : ℕ) → Exactly (segments_of xs tol room) (segments_asks xs tol room)

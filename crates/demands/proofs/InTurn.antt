@@ -1,4 +1,5 @@
 -- What a preview proposes a commit on the same stock accepts, while generations last; and cuts, each previewed and committed in turn, leave the closed form. Assumes nothing.
+use Rattle.std.specs.Prelude.{Ok}
 use mathlib.Core.Path.{◌≡◌, refl, sym, ap, ◌∙◌}
 use mathlib.Core.Bool.{Bool, true}
 use mathlib.Core.List.{List, [], ◌∷◌, foldl}
@@ -27,7 +28,6 @@ use Rattle.reach.proofs.Removes.{ordered}
 use Rattle.reach.proofs.OneByOne.{cell_after, cuts-of-bin}
 use Rattle.stock.specs.declared.TurnStock.{TurnStock}
 use Rattle.changes.specs.declared.ChangeList.{ChangeList}
-use Rattle.changes.specs.declared.Previewed.TheVariants.{Listed}
 use Rattle.changes.specs.Change.{changes_to, room_of, Proposed}
 use Rattle.changes.proofs.Rising.{at_most}
 use Rattle.changes.proofs.Proposals.{of-stock, same-listing}
@@ -68,7 +68,7 @@ preview-commits k s hs cs bs hc m e room l p h = own-commit k cs bs l m ∙ own-
 -- The same through the lent lists. A preview answered a list and left is', xs' in the lists that it was lent; a commit of that list to the stock is then `turned`:
 -- the preview and the commit by the rules alone, refused or accepted.
 pub lent-turned : (k : TurnStock) {n : ℕ} {u : Step} → Sound k.spec n u → (cs bs : List Float) → Matching k.spec cs bs → stock_of k.spec cs ≡ answers n
-    → (list : ChangeList) (is is' : List ℕ) (xs xs' : List Float) → Proposed k.stamp (u.preview cs (room_of (length is) (length xs))) (Listed list) is is' xs xs'
+    → (list : ChangeList) (is is' : List ℕ) (xs xs' : List Float) → Proposed k.stamp (u.preview cs (room_of (length is) (length xs))) (Ok list) is is' xs xs'
     → apply_of k cs bs list is' xs' ≡ turned k.spec (room_of (length is) (length xs)) u (record { cells = cs; generation = k.stamp.generation })
 unfolding turned
 lent-turned k {n} {u} s cs bs m e list is is' xs xs' p =
@@ -76,19 +76,19 @@ lent-turned k {n} {u} s cs bs m e list is is' xs xs' p =
     let gen = k.stamp.generation in
     let room = room_of (length is) (length xs) in
     let l : List TurnChange = changes_to (act_cell u.act) cs n in
-    let q = same-listing k.stamp (proposed u.act cs room n) (u.preview cs room) (Listed list) is is' xs xs' (sym (s.rule cs room e)) p in
+    let q = same-listing k.stamp (proposed u.act cs room n) (u.preview cs room) (Ok list) is is' xs xs' (sym (s.rule cs room e)) p in
     let r : u.preview cs room ≡ answers l = s.rule cs room e ∙ demand-true _ _ _ (le-leb (length l) room (wrote l list.count is is' xs xs' (of-stock k.stamp (proposed u.act cs room n) list is is' xs xs' q).tally).room) in
     lent_is k cs bs m list l is is' xs xs' q ∙ sym (ap (λ (x : Paper (List TurnChange)). onward x (λ y. own_commit spec cs gen y)) r ∙ onward-answers _ _)
 
 -- And it is accepted while generations last: each cell is what the cut makes of it.
 pub lent-commits : (k : TurnStock) {n : ℕ} {u : Step} → Sound k.spec n u → HeldSpec k.spec → (cs bs : List Float) → HeldList cs → Matching k.spec cs bs → stock_of k.spec cs ≡ answers n
-    → (list : ChangeList) (is is' : List ℕ) (xs xs' : List Float) → k.stamp.generation < last_generation → Proposed k.stamp (u.preview cs (room_of (length is) (length xs))) (Listed list) is is' xs xs'
+    → (list : ChangeList) (is is' : List ℕ) (xs xs' : List Float) → k.stamp.generation < last_generation → Proposed k.stamp (u.preview cs (room_of (length is) (length xs))) (Ok list) is is' xs xs'
     → apply_of k cs bs list is' xs' ≡ answers (record { cells = put_all cs (changes_to (act_cell u.act) cs n); generation = k.stamp.generation + 1 })
 lent-commits k {n} {u} s hs cs bs hc m e list is is' xs xs' h p =
     let g = stock-good hs hc e in
     let room = room_of (length is) (length xs) in
     lent-accepts k bs m g (act_cell u.act) (act-cuts g u.act s.plain) list is is' xs xs' h
-    (same-listing k.stamp (proposed u.act cs room n) (u.preview cs room) (Listed list) is is' xs xs' (sym (s.rule cs room e)) p)
+    (same-listing k.stamp (proposed u.act cs room n) (u.preview cs room) (Ok list) is is' xs xs' (sym (s.rule cs room e)) p)
 
 -- ---- an act in its domain, whose numbers are plain, is sound
 -- the preview of an act in its domain proposes its changes

@@ -1,7 +1,7 @@
 -- The examples of Req 10's call for an insert, computed from the rules: a groove in a wheel, from both ends; an insert beside it, and past its deepest point; a tube that erosion leaves nothing of; points as far as they may be. Assumes nothing.
+use Rattle.std.specs.Prelude.{None, Some}
 use mathlib.Core.Path.{◌≡◌, refl}
 use mathlib.Core.List.{List, [], ◌∷◌}
-use mathlib.Core.Option.{none, some}
 use lib.Ieee
 use lib.Ieee.{Float, binary64, of_bits}
 use Rattle.refusals.specs.Paper.{answers, demand}
@@ -139,29 +139,29 @@ below = three ∷ minus-five ∷ four ∷ minus-five ∷ []
 
 abbrev Groove : Type 0
 Groove =
-    (excess_of wheel insert tenth ≡ answers (some two-nine))
-    × (penetration_of wheel insert tenth ≡ answers (some two-fifths))
-    × (eroded_of wheel three-half tenth ≡ answers (some five-nine))
-    × (excess_of turned insert tenth ≡ answers (some two-nine))
-    × (penetration_of turned insert tenth ≡ answers (some two-fifths))
-    × (eroded_of turned three-half tenth ≡ answers (some five-nine))
+    (excess_of wheel insert tenth ≡ answers (Some two-nine))
+    × (penetration_of wheel insert tenth ≡ answers (Some two-fifths))
+    × (eroded_of wheel three-half tenth ≡ answers (Some five-nine))
+    × (excess_of turned insert tenth ≡ answers (Some two-nine))
+    × (penetration_of turned insert tenth ≡ answers (Some two-fifths))
+    × (eroded_of turned three-half tenth ≡ answers (Some five-nine))
 
 abbrev Beside : Type 0
 Beside =
-    (penetration_of wheel point zero64 ≡ answers (some one))
-    × (excess_of wheel point zero64 ≡ answers (some minus_one))
-    × (excess_of wheel beside tenth ≡ answers none)
-    × (excess_of wheel deep tenth ≡ answers (some five-nine))
-    × (penetration_of wheel deep tenth ≡ answers none)
-    × (eroded_of wheel twentieth tenth ≡ answers none)
-    × (eroded_of wheel tenth tenth ≡ answers (some nine-nine))
+    (penetration_of wheel point zero64 ≡ answers (Some one))
+    × (excess_of wheel point zero64 ≡ answers (Some minus_one))
+    × (excess_of wheel beside tenth ≡ answers None)
+    × (excess_of wheel deep tenth ≡ answers (Some five-nine))
+    × (penetration_of wheel deep tenth ≡ answers None)
+    × (eroded_of wheel twentieth tenth ≡ answers None)
+    × (eroded_of wheel tenth tenth ≡ answers (Some nine-nine))
 
 abbrev Ends : Type 0
 Ends =
-    (penetration_of tube below tenth ≡ answers none)
-    × (penetration_of tube below twentieth ≡ answers (some five-twentieth))
-    × (eroded_of far zero64 million ≡ answers (some minus-999995))
-    × (eroded_of far million half ≡ answers none)
+    (penetration_of tube below tenth ≡ answers None)
+    × (penetration_of tube below twentieth ≡ answers (Some five-twentieth))
+    × (eroded_of far zero64 million ≡ answers (Some minus-999995))
+    × (eroded_of far million half ≡ answers None)
 
 pub insert-examples : Groove × Beside × Ends
 unfolding touched eroded_of touch_asks eroded_asks polygon_good points_good usable_to demand clean_of minus_zero pick most_to most_of bore_at sample_at both with_inside sampled_to moved_of offset_of edge_at further edges_to edges_of beyond touch_at with_candidate with_point points_to polygon_to touch_of span_of order_of rises_to falls_to all_to count_to u_at v_at highest_to segment_at higher across least_of greatest_of Ieee.of_bits Ieee.of_fields Ieee.odd Ieee.eq Ieee.lt Ieee.le Ieee.div Ieee.mul Ieee.sub Ieee.add Ieee.neg Ieee.sum Ieee.round Ieee.units Ieee.size Ieee.span Ieee.climb Ieee.fits

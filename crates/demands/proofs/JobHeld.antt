@@ -3,30 +3,27 @@
 use mathlib.Core.Path.{◌≡◌, refl, sym, ap, ◌∙◌, subst}
 use mathlib.Core.Bool.{Bool, true, false}
 use mathlib.Core.List.{List, [], ◌∷◌, ◌++◌, map, Permᴰ}
-use Prim.Native.Nat.{ℕ, zero, suc, ◌+◌, ◌*◌, ◌/◌, ◌%◌, ◌≤◌, ◌<◌}
+use Prim.Native.Nat.{ℕ, zero, suc, ◌+◌, ◌*◌, ◌/◌, ◌%◌, ◌<◌}
 use native.Mathlib.Nat.{mod-lt}
 use native.Mathlib.Omega.{arith}
-use borrow.Author.Tests.{lt-ltb, ltb-true, ltb-false, leb-true}
-use lib.Dec.{T, eqb, leb, ltb}
-use lib.ListN.{length, take, get_or, get_or-eq_default}
+use borrow.Author.Tests.{ltb-true, ltb-false, leb-true}
+use lib.Dec.{T, eqb, ltb}
+use lib.ListN.{length, take, get_or-eq_default}
 use lib.Seq.{length-take-le}
 use lib.Ieee.{Float, binary64, of_bits, nan, fits}
 use lib.Ieee.Fits.{nan-fits}
-use Rattle.refusals.specs.Paper.{Paper, answers, refuses, only, demand, onward}
-use Rattle.refusals.specs.Lent.{over}
+use Rattle.refusals.specs.Paper.{answers, only}
 use Rattle.floats.specs.Each.{Each}
 use Rattle.floats.specs.Pick.{pick, pick_true, pick-false}
-use Rattle.floats.specs.Numbers.{zero64}
 use Rattle.stock.specs.declared.TurnStockSpec.{TurnStockSpec}
-use Rattle.stock.specs.declared.TurnCell.{TurnCell}
 use Rattle.stock.specs.declared.TurnSide.{TurnSide}
 use Rattle.stock.specs.Spec.{clean_spec, cells_of}
-use Rattle.stock.specs.Cell.{cell_at, number_at, fresh_cell, cells_like, stock_of}
+use Rattle.stock.specs.Cell.{cell_at, number_at, fresh_cell, cells_like}
 use Rattle.stock.proofs.Count.{demanded, no_answer, same_answer}
 use Rattle.stock.proofs.Cells.{length-like}
 use Rattle.stock.proofs.Bins.{HeldSpec, HeldList}
 use Rattle.reach.proofs.Fit.{CellFit}
-use Rattle.changes.specs.Commit.{Committed, numbers_kept}
+use Rattle.changes.specs.Commit.{numbers_kept}
 use Rattle.changes.proofs.Stocks.{Good, stock-good}
 use Rattle.moves.proofs.Answered.{answered}
 use Rattle.rings.specs.declared.Ring.{Ring}
@@ -35,7 +32,7 @@ use Rattle.job_words.specs.declared.Line.{Line}
 use Rattle.job_words.specs.declared.Line.TheVariants.{Bar, Cutting, Removing, Arc, Bad}
 use Rattle.job_words.specs.Kind.{numbers, bar_of, nose_on, nose_of, thread_of, thread_inner_of, drill_of, ring_of, kind_of, line_of, fields_of}
 use Rattle.job_run.specs.declared.line.Job.{Job}
-use Rattle.job_run.specs.Job.{Stand, stand, full_room, bar_line, cut_line, removing_line, first_line, later_line, job_line}
+use Rattle.job_run.specs.Job.{Stand, full_room, bar_line, removing_line, first_line, later_line, job_line}
 use Rattle.lines.specs.File.{pieces_of}
 use Rattle.job_run.specs.Run as run
 use Rattle.job_run.specs.Run.{State, state, fresh_run, output_of, job_of}

@@ -1,10 +1,8 @@
 -- THE FIRST DEMAND, OF A JOB: it is refused at line m with k exactly when line m is the first that offends, and with k; it is answered exactly when none does. Assumes nothing.
+use Rattle.std.specs.Prelude.{Option, None, Some}
 use mathlib.Core.Path.{◌≡◌, refl, sym, ap, ◌∙◌, subst}
-use mathlib.Core.Logic.{inl, inr, ◌⊎◌}
 use mathlib.Core.Bool.{Bool, true, false, not, false≢true}
 use mathlib.Core.List.{List, [], ◌∷◌, ◌++◌}
-use mathlib.Core.Option.{Option}
-use mathlib.Core.Option as option
 use Prim.Native.Nat.{ℕ, suc, ◌+◌, ◌%◌, ◌^◌, ◌<◌}
 use native.Mathlib.Nat.{add-zero, zero-lt-suc}
 use native.Mathlib.Omega.{arith}
@@ -12,8 +10,6 @@ use borrow.Author.Tests.{eq-eqb, ne_eqb}
 use lib.Dec.{eqb, ltb}
 use lib.ListN.{length}
 use lib.Ieee.{Float}
-use Rattle.refusals.specs.declared.Refusal.TheVariants.{LineMalformed}
-use Rattle.refusals.specs.Number.{reason_of}
 use Rattle.refusals.specs.Limits.{last_generation}
 use Rattle.refusals.specs.Paper.{Paper, Reason, answers, refuses, demand, onward, onward-answers, onward-refuses, demand-true, demand-false, only}
 use Rattle.floats.specs.Each.{Each}
@@ -39,9 +35,9 @@ use Rattle.job_run.specs.declared.line.Job.{Job}
 use Rattle.job_run.specs.Job.{Stand, line_limit, full_room, cells_of_job, made_cut, cut_line, job_line}
 use Rattle.job_run.proofs.Carrying.{same_number}
 use Rattle.lines.specs.File.{pieces_of, ended, line_on_bytes, over_pieces}
-use Rattle.job_run.specs.Run.{State, state, next, refused_with, answered, on_line, on_long, is_empty, on_end, stopped, job_of}
+use Rattle.job_run.specs.Run.{State, next, refused_with, answered, on_line, on_long, is_empty, on_end, stopped, job_of}
 use Rattle.changes.specs.Change.{written_of}
-use Rattle.demands.specs.Refused.{Asked, ask, ask_none, Stops, Exactly, preview_cut_asks, each_asks, first_line_asks, later_line_asks, line_asks}
+use Rattle.demands.specs.Refused.{Asked, ask, ask_none, Exactly, preview_cut_asks, each_asks, first_line_asks, later_line_asks, line_asks}
 use Rattle.demands.specs.Tool.{single, cutter_act}
 use Rattle.demands.specs.Offending.{line_in, lines_on, wrong_with, Offends, NoneOffends}
 use Rattle.demands.proofs.Asking.{exactly, asks_none, asks-more, asks-on, asks-then, asks-as}
@@ -69,8 +65,8 @@ each-numbered s p cs k [] = tt
 each-numbered s p cs k (c ∷ l) = (zero-lt-suc 7, (zero-lt-suc 20, (zero-lt-suc 21, (zero-lt-suc 22, each-numbered s p cs (suc k) l))))
 
 found-numbered : (o : Option ℕ) (n : ℕ) → 0 < n → 0 < (ask_none o n).why.number
-found-numbered option.none n h = h
-found-numbered (option.some k) n h = h
+found-numbered None n h = h
+found-numbered (Some k) n h = h
 
 first-numbered : (l : Line) (cs : List Float) → Numbered (first_line_asks l cs)
 unfolding first_line_asks

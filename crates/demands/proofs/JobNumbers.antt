@@ -1,8 +1,8 @@
 -- Which numbers a job refuses with. After every line that is accepted its cells and its rings fit, so that neither 3 nor 4 arises; there is room for a change of every cell (6); the list of a line's preview has the stock's stamp (19); and what it proposes its commit accepts (7, 8, 21, 22, 23). Assumes nothing.
+use Rattle.std.specs.Prelude.{Option, None, Some}
 use mathlib.Core.Path.{◌≡◌, refl, sym, ap, ◌∙◌, subst}
-use mathlib.Core.Bool.{Bool, true, false, not}
+use mathlib.Core.Bool.{Bool, true, false}
 use mathlib.Core.List.{List, [], ◌∷◌, ◌++◌}
-use mathlib.Core.Option.{Option, none, some}
 use mathlib.Core.Logic.{◌⊎◌, inl, inr, ⊎_elim}
 use Prim.Native.Nat.{ℕ, zero, suc, ◌+◌, ◌*◌, ◌≤◌, ◌<◌}
 use native.Mathlib.Omega.{arith}
@@ -33,11 +33,8 @@ use Rattle.reach.proofs.Fit.{CellFit}
 use Rattle.numbers.specs.Whole.{whole_up}
 use Rattle.job_words.specs.declared.Line.{Line}
 use Rattle.job_words.specs.declared.Line.TheVariants as line
-use Rattle.job_words.specs.declared.number.Number.{Number}
 use Rattle.job_words.specs.Number.{positive, negative, field_number}
 use Rattle.job_words.specs.Kind.{most_cells, fields_of, mm_of, at, numbers, bar_of, nose_on, nose_of, thread_of, thread_inner_of, drill_of, ring_of, kind_of, line_of}
-use Rattle.text.specs.declared.Whole.{Whole}
-use Rattle.text.specs.declared.Whole.TheVariants.{Of, No}
 use Rattle.text.specs.Whole.{whole_of}
 use Rattle.cuts.specs.declared.Cut.{Cut}
 use Rattle.cuts.specs.declared.Cut.TheVariants as cut-case
@@ -69,16 +66,16 @@ use Rattle.demands.proofs.FieldNumbers.{either, at-finite}
 
 -- ---- what a line says is in values of f64
 
-abbrev HeldNumber : Number → Type 0
+abbrev HeldNumber : Option Float → Type 0
 HeldNumber n = T (fits binary64 (mm_of n))
 
-positive-held : (w : Whole) → HeldNumber (positive w)
-positive-held (Of v) = div-fits binary64 _ _
-positive-held No = of_bits-fits binary64 0
+positive-held : (w : Option ℕ) → HeldNumber (positive w)
+positive-held (Some v) = div-fits binary64 _ _
+positive-held None = of_bits-fits binary64 0
 
-negative-held : (w : Whole) → HeldNumber (negative w)
-negative-held (Of v) = div-fits binary64 _ _
-negative-held No = of_bits-fits binary64 0
+negative-held : (w : Option ℕ) → HeldNumber (negative w)
+negative-held (Some v) = div-fits binary64 _ _
+negative-held None = of_bits-fits binary64 0
 
 number-held : (f : List ℕ) → HeldNumber (field_number f)
 unfolding field_number
@@ -182,7 +179,7 @@ pub data JobNumber (g : ℕ) : ℕ → Type 0 where
 -- and a job's refusal has no place
 record JobReason (g : ℕ) (k : Reason) : Type 0 where
   number : JobNumber g k.number
-  placeless : k.place ≡ none
+  placeless : k.place ≡ None
 
 numbered : {g n : ℕ} → JobNumber g n → JobReason g (only n)
 numbered k = record { number = k; placeless = refl }
@@ -209,8 +206,8 @@ unfolding cells_of
 count-only g spec = only-demand g _ 1 _ (λ _. bar-outside) (go (whole_up (quotient (clean_spec spec)) cell_limit))
   where
     go : (o : Option ℕ) → Only g (counted (clean_spec spec).max_cells o)
-    go none = refused (numbered cells_over)
-    go (some n) = only-demand g _ 2 _ (λ _. cells_over) accepted
+    go None = refused (numbered cells_over)
+    go (Some n) = only-demand g _ 2 _ (λ _. cells_over) accepted
 
 -- ---- a job whose cells and rings fit
 
@@ -375,7 +372,7 @@ goes-line j s cs rs h long = goes-demand j.stock.stamp.generation _ 15 _ malform
 
 -- A JOB HAS NO PLACE: what refuses a line of a job has none, and none of the numbers that have one.
 pub record NoPlace (k : Reason) : Type 0 where
-  pub place : k.place ≡ none
+  pub place : k.place ≡ None
   pub number : has_place k.number ≡ false
 
 number-alone : {g n : ℕ} → JobNumber g n → has_place n ≡ false

@@ -1,19 +1,18 @@
 -- THE THIRD DEMAND, OF A JOB: lines that are cuts of one side, in whatever order, write the same output, where no line is refused. Assumes nothing.
+use Rattle.std.specs.Prelude.{None, Option, Some}
 use mathlib.Core.Path.{◌≡◌, refl, sym, ap, ap₂, ◌∙◌, subst}
 use mathlib.Core.Bool.{Bool, true, false}
 use mathlib.Core.List.Permᴰ
 use mathlib.Core.List.{List, [], ◌∷◌, ◌++◌, map, Permᴰ}
-use Prim.Native.Nat.{ℕ, zero, suc, ◌+◌, ◌*◌, ◌%◌, ◌^◌, ◌≤◌, ◌<◌}
+use Prim.Native.Nat.{ℕ, zero, suc, ◌+◌, ◌*◌, ◌%◌, ◌^◌}
 use native.Mathlib.Omega.{arith}
 use borrow.Author.Tests.{leb-true, leb-false}
-use lib.Dec.{T, eqb, leb, ltb}
-use lib.IntN.{ℤ}
-use lib.ListN.{length, take, drop, get_or, length-take, take-append-drop, drop_of_length-le}
+use lib.Dec.{T, eqb, leb}
+use lib.ListN.{length, take, drop, get_or, take-append-drop, drop_of_length-le}
 use lib.Seq.{length-take-le, take_all, take_at, drop_at}
 use lib.Ieee.{Float, binary64, of_bits, fits}
 use lib.Ieee.Fits.{div-fits}
-use Rattle.refusals.specs.Paper.{Paper, answers, refuses, only, demand, onward, onward-answers}
-use Rattle.refusals.specs.Limits.{last_generation}
+use Rattle.refusals.specs.Paper.{Paper, answers, refuses, only, onward, onward-answers}
 use Rattle.refusals.specs.Lent.{over}
 use Rattle.refusals.proofs.Written.{over-all}
 use Rattle.floats.specs.Each.{Each}
@@ -28,25 +27,21 @@ use Rattle.stock.specs.Stock.{stock_with}
 use Rattle.stock.proofs.Count.{demanded, no_answer, same_answer, stocked}
 use Rattle.stock.proofs.Bins.{HeldSpec, HeldList}
 use Rattle.changes.specs.Commit.{Committed, put_all, commit_in, own_commit}
-use Rattle.cuts.specs.declared.Cut.{Cut}
 use Rattle.cuts.specs.Preview.{preview_cut}
 use Rattle.cuts.specs.Tool.{preview_tool}
 use Rattle.cuts.proofs.Singles.{HeldCut}
 use Rattle.moves.proofs.Answered.{answered}
-use Rattle.text.specs.declared.Whole.{Whole}
-use Rattle.text.specs.declared.Whole.TheVariants.{Of, No}
 use Rattle.text.specs.Whole.{whole_of}
-use Rattle.job_words.specs.declared.number.Number.{Number}
 use Rattle.job_words.specs.declared.Line.{Line}
 use Rattle.job_words.specs.declared.Line.TheVariants as line
 use Rattle.job_words.specs.Number.{positive, negative, field_number}
 use Rattle.job_words.specs.Kind.{mm_of, at, numbers, bar_of, nose_on, nose_of, thread_of, thread_inner_of, drill_of, ring_of, kind_of, line_of, fields_of}
 use Rattle.job_run.specs.declared.line.Job.{Job}
-use Rattle.job_run.specs.Job.{Stand, stand, line_limit, full_room, cells_of_job, made_cut, cut_line, first_line, later_line, job_line}
+use Rattle.job_run.specs.Job.{Stand, stand, full_room, cells_of_job, made_cut, cut_line, first_line, later_line, job_line}
 use Rattle.lines.specs.File.{pieces_of}
 use Rattle.job_run.specs.Run as run
 use Rattle.job_run.specs.Run.{State, next, output_of, job_of}
-use Rattle.demands.specs.Tool.{Cutter, single, cutter_preview, HeldCutter, ToolsOf}
+use Rattle.demands.specs.Tool.{cutter_preview, HeldCutter, ToolsOf}
 use Rattle.demands.specs.Run.{RanUnasked, none-asked}
 use Rattle.demands.specs.Offending.{line_in, lines_on, NoneOffends, cut_in, IsCut, line_cutter, own_of}
 use Rattle.demands.proofs.Third.{perm-length}
@@ -64,13 +59,13 @@ unfolding field_number pick fits of_bits
 field-held [] = tt
 field-held (b ∷ l) = go (eqb b 45)
   where
-    below : (w : Whole) → T (fits binary64 (mm_of (negative w)))
-    below (Of v) = div-fits binary64 _ _
-    below No = tt
+    below : (w : Option ℕ) → T (fits binary64 (mm_of (negative w)))
+    below (Some v) = div-fits binary64 _ _
+    below None = tt
 
-    above : (w : Whole) → T (fits binary64 (mm_of (positive w)))
-    above (Of v) = div-fits binary64 _ _
-    above No = tt
+    above : (w : Option ℕ) → T (fits binary64 (mm_of (positive w)))
+    above (Some v) = div-fits binary64 _ _
+    above None = tt
 
     go : (t : Bool) → T (fits binary64 (mm_of (pick t (negative (whole_of l)) (positive (whole_of (b ∷ l))))))
     go true = below (whole_of l)

@@ -1,20 +1,17 @@
 -- THE KEPT NUMBERS ARE THOSE OF THE CELLS, ALWAYS (Req 09): from numbers that match, whatever commits, moves and rings were accepted, they match (`kept-through`), so that no later call gives 20
 -- (`matched-asks`) and a range is what the walk over its bins says (`matched-range`); two lists that are accepted are the same numbers (`matched-once`); a rebuild has them (`rebuilt-matching`), whatever stood there; and after a commit the same range shows nothing,
 -- or a band within the one before (`cut-ranges-less`). Assumes nothing.
+use Rattle.std.specs.Prelude.{Some, Ok}
 use mathlib.Core.Path.{◌≡◌, refl, sym, ap, ◌∙◌, subst}
 use mathlib.Core.Bool.{true}
 use mathlib.Core.List.{List, [], map}
 use mathlib.Core.Logic.{◌⊎◌, inl, inr}
-use mathlib.Core.Option.{some}
 use Prim.Native.Nat.{ℕ, ◌+◌, ◌<◌}
 use lib.Ieee.{Float}
 use Rattle.refusals.specs.Paper.{Paper, answers, refuses, onward, onward-answers}
 use Rattle.floats.specs.Numbers.{clean_of}
 use Rattle.stock.specs.declared.TurnStockSpec.{TurnStockSpec}
 use Rattle.stock.specs.declared.TurnStock.{TurnStock}
-use Rattle.stock.specs.declared.TurnCell.{TurnCell}
-use Rattle.stock.specs.declared.TurnChange.{TurnChange}
-use Rattle.stock.specs.declared.Stamp.{Stamp}
 use Rattle.stock.specs.Spec.{clean_spec}
 use Rattle.stock.specs.Cell.{cell_at, stock_of}
 use Rattle.stock.proofs.Bins.{HeldSpec, HeldList}
@@ -26,18 +23,14 @@ use Rattle.blocks.proofs.Laws.{range-less}
 use Rattle.queries.specs.declared.Band.{Band}
 use Rattle.queries.specs.Looked.{Nested}
 use Rattle.changes.specs.declared.ChangeList.{ChangeList}
-use Rattle.changes.specs.declared.Applied.TheVariants as commit
 use Rattle.changes.specs.Change.{changes_from}
 use Rattle.changes.specs.Commit.{Committed, put_all, asked_stock, commit_in, apply_of, cells_after, numbers_kept, AppliesKept}
 use Rattle.changes.proofs.Stamped.{Matching, own-asked}
 use Rattle.changes.proofs.Stocks.{stock-good}
 use Rattle.changes.proofs.Kept.{asked}
 use Rattle.rings.specs.declared.Ring.{Ring}
-use Rattle.rings.specs.declared.Removed.TheVariants as ring
 use Rattle.rings.specs.Remove.{count_of, remove_ring, Removes}
 use Rattle.rings.specs.Tests.{ring_tests}
-use Rattle.moves.specs.declared.Moved.TheVariants as move
-use Rattle.moves.specs.declared.Rebuilt.TheVariants as rebuilt
 use Rattle.moves.specs.Move.{Left, MovesKept, Rebuilds}
 use Rattle.moves.proofs.Answered.{answered}
 use Rattle.moves.proofs.Cells.{passed-stock, passed-removes}
@@ -71,7 +64,7 @@ own_held spec cs hs hc n e = own-matching hs (stock-good hs hc e) n e
 -- ---- what was accepted keeps them
 
 -- a move leaves the numbers of the cells then
-pub move-own : (k k' : TurnStock) (p : Paper Left) (cs cs' bs bs' xs xs' : List Float) → MovesKept k p (move.Stock k') cs cs' bs bs' xs xs' → bs' ≡ numbers_kept k.spec cs'
+pub move-own : (k k' : TurnStock) (p : Paper Left) (cs cs' bs bs' xs xs' : List Float) → MovesKept k p (Ok k') cs cs' bs bs' xs xs' → bs' ≡ numbers_kept k.spec cs'
 move-own k k' (answers m) cs cs' bs bs' xs xs' a = a.kept ∙ ap (numbers_kept k.spec) (sym a.left.cells)
 move-own k k' (refuses r) cs cs' bs bs' xs xs' a = absurd (no_answer r k' (sym a.left.answer))
 
@@ -85,7 +78,7 @@ fresh_on spec cs bs m e (inl f) = f
 fresh_on spec cs bs m e (inr f) = f.1 ∙ e ∙ ap (numbers_kept spec) (sym f.0)
 
 -- a ring keeps the spec
-ring-spec : (s s' : TurnStock) (xs xs' : List Float) {t : ℕ} (q : Ring) → Removes s xs (remove_ring s.spec xs s.rings s.stamp.generation q) (ring_tests s.spec xs s.rings q) (ring.Stock s' t) xs' → s'.spec ≡ s.spec
+ring-spec : (s s' : TurnStock) (xs xs' : List Float) {t : ℕ} (q : Ring) → Removes s xs (remove_ring s.spec xs s.rings s.stamp.generation q) (ring_tests s.spec xs s.rings q) (Ok (record { stock = s'; tests = t })) xs' → s'.spec ≡ s.spec
 ring-spec s s' xs xs' q a = (history-later (ringed {cs = []} {bs = []} q a nothing-called)).spec
 
 -- of a stock of the same spec
@@ -113,14 +106,14 @@ kept-through {k} {m} h hs hc mt = go (history-kept h)
     go (inr f) = λ n e. subst (λ (cs : List Float). matches_of (clean_spec k.stock.spec) n cs m.blocks ≡ true) (sym f.0) (subst (λ (bs : List Float). matches_of (clean_spec k.stock.spec) n k.cells bs ≡ true) (sym f.1) (mt n (ap (stock_of k.stock.spec) (sym f.0) ∙ e)))
 
 -- A REBUILD has them, whatever stood in the lent numbers
-pub rebuilt-matching : (spec : TurnStockSpec) (edition : ℕ) (cs : List Float) (p : Paper (List Ring)) (k : TurnStock) (bs bs' xs ys : List Float) → HeldSpec spec → HeldList cs → Rebuilds spec edition cs p (rebuilt.Stock k) bs bs' xs ys → Matching spec cs bs'
+pub rebuilt-matching : (spec : TurnStockSpec) (edition : ℕ) (cs : List Float) (p : Paper (List Ring)) (k : TurnStock) (bs bs' xs ys : List Float) → HeldSpec spec → HeldList cs → Rebuilds spec edition cs p (Ok k) bs bs' xs ys → Matching spec cs bs'
 unfolding count_of onward
 rebuilt-matching spec edition cs (answers l) k bs bs' xs ys hs hc a = subst (Matching spec cs) (sym a.kept) (own_held spec cs hs hc)
 rebuilt-matching spec edition cs (refuses r) k bs bs' xs ys hs hc a = absurd (no_answer r k (sym a.answer))
 
 -- ---- after a commit less is shown
-pub cut-ranges-less : (k k' : TurnStock) (cs cs' bs bs' : List Float) (list : ChangeList) (is : List ℕ) (xs : List Float) → AppliesKept k (apply_of k cs bs list is xs) (commit.Stock k') cs cs' bs bs' → HeldSpec k.spec → HeldList cs'
-    → (lo hi : Float) (b' : Band) → range_of k.spec cs' bs' lo hi ≡ answers (some b') → (b : Band) × (range_of k.spec cs bs lo hi ≡ answers (some b)) × Nested b' b
+pub cut-ranges-less : (k k' : TurnStock) (cs cs' bs bs' : List Float) (list : ChangeList) (is : List ℕ) (xs : List Float) → AppliesKept k (apply_of k cs bs list is xs) (Ok k') cs cs' bs bs' → HeldSpec k.spec → HeldList cs'
+    → (lo hi : Float) (b' : Band) → range_of k.spec cs' bs' lo hi ≡ answers (Some b') → (b : Band) × (range_of k.spec cs bs lo hi ≡ answers (Some b)) × Nested b' b
 unfolding apply_of commit_in
 cut-ranges-less k k' cs cs' bs bs' list is xs a hs hc lo hi b' f =
     let l = changes_from is xs list.count in

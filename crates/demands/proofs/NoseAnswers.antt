@@ -1,6 +1,6 @@
 -- In 01's domain every length and every root that a nose asks for answers. So the cases `normal_by .. (refuses n)` and `less_root r (refuses n)` of the rule are never taken: a side is missing
 -- for ends that are the same alone (`normal-none` of `nose`), and a circle where it does not reach the line alone. Assumes nothing.
-use mathlib.Core.Path.{◌≡◌, refl, sym, ap, ap₂, ◌∙◌, subst}
+use mathlib.Core.Path.{◌≡◌, ap₂}
 use mathlib.Core.Bool.{Bool, true, ◌&&◌}
 use mathlib.Core.List.{List}
 use Prim.Native.Nat.{ℕ, ◌+◌, ◌*◌, ◌<◌}
@@ -11,13 +11,12 @@ use lib.Ieee.Scale.{finite}
 use Rattle.refusals.specs.Paper.{Paper, answers}
 use Rattle.floats.specs.Numbers.{◌+₆₄◌, ◌-₆₄◌, ◌*₆₄◌, zero64, greatest_of, clean_of}
 use Rattle.floats.specs.Kinds.{Within}
-use Rattle.floats.proofs.Signed.{zero+, number-zero, number-finite}
+use Rattle.floats.proofs.Signed.{number-zero, number-finite}
 use Rattle.floats.proofs.Within.{finite-within, within-weaken, within-sub, within-add, within-mul}
 use Rattle.floats.proofs.Ratio.{gap_within}
 use Rattle.floats.proofs.Lattice.{greatest-ge-r}
 use Rattle.numbers.specs.Root.{root_of}
 use Rattle.numbers.specs.Length.{length_of}
-use Rattle.numbers.proofs.Units.{zero_is}
 use Rattle.numbers.proofs.Lengths.{length-answers}
 use Rattle.stock.specs.declared.TurnStockSpec.{TurnStockSpec}
 use Rattle.stock.specs.declared.TurnSide.{TurnSide}

@@ -1,8 +1,8 @@
 -- PASSES CHECKED (Req 13), as a reader asks it: when the answer is yes (`yes-exactly`), which cut or bin a no names (`cut-exactly`, `bin-exactly`), and what is left (`old-on-cut`, `old-on-bin`, `refused-leaves`, `yes-leaves`, `yes-answered`). Assumes nothing.
+use Rattle.std.specs.Prelude.{Option, None, Some, Result, Ok, Err}
 use mathlib.Core.Path.{◌≡◌, refl, sym, ap, ap₂, ◌∙◌, subst}
 use mathlib.Core.Bool.{Bool, true, false, false≢true}
 use mathlib.Core.List.{List, []}
-use mathlib.Core.Option.{Option, none, some}
 use Prim.Native.Nat.{ℕ, zero, suc, ◌<◌}
 use native.Mathlib.Nat.{not-suc-le-zero}
 use native.Mathlib.Omega.{arith}
@@ -20,27 +20,27 @@ use Rattle.stock.specs.Stock.{stock_with}
 use Rattle.stock.proofs.Count.{no_answer, same_answer}
 use Rattle.changes.specs.Commit.{Committed, numbers_kept}
 use Rattle.moves.proofs.Answered.{answered}
-use Rattle.passes.specs.declared.Checked.{Checked}
-use Rattle.passes.specs.declared.Checked.TheVariants as is
+use Rattle.passes.specs.declared.Verdict as verdict
+use Rattle.passes.specs.declared.Verdict.TheVariants as is
 use Rattle.passes.specs.Cuts.{Cuts, standing, pass_at, pass_turned, turned_to}
 use Rattle.passes.specs.Check.{meets, first_miss, Verdict, accepted, cut_at, bin_at, by_bins, by_cuts, verdict_of, checkable_of, check_of, Said, says_yes, says_cut, says_bin, checked_paper, said_by, said_of, cells_left, kept_left, Checks}
 use Rattle.passes.proofs.Loops.{stays, missed-at}
 
 -- ---- the first bin that does not meet its target
 
-no-some : (k : ℕ) → ◌≡◌ {A = Option ℕ} (some k) none → ⊥
+no-some : (k : ℕ) → ◌≡◌ {A = Option ℕ} (Some k) None → ⊥
 no-some k h = let z : ◌≡◌ {A = ℕ} 0 1 = cc in omega arith
 
-none_first : (a b : Option ℕ) → first_of a b ≡ none → (a ≡ none) × (b ≡ none)
-none_first none b e = (refl, e)
-none_first (some k) b e = absurd (no-some k e)
+none_first : (a b : Option ℕ) → first_of a b ≡ None → (a ≡ None) × (b ≡ None)
+none_first None b e = (refl, e)
+none_first (Some k) b e = absurd (no-some k e)
 
-pick-met : (t : Bool) (k : ℕ) → pick t none (some k) ≡ none → t ≡ true
+pick-met : (t : Bool) (k : ℕ) → pick t None (Some k) ≡ None → t ≡ true
 unfolding pick
 pick-met true k e = refl
 pick-met false k e = absurd (no-some k e)
 
-pick-missed : (t : Bool) (k i : ℕ) → pick t none (some k) ≡ some i → (t ≡ false) × (k ≡ i)
+pick-missed : (t : Bool) (k i : ℕ) → pick t None (Some k) ≡ Some i → (t ≡ false) × (k ≡ i)
 unfolding pick
 pick-missed true k i e = absurd (no-some i (sym e))
 pick-missed false k i e = (refl, cc)
@@ -57,31 +57,31 @@ module _ (ts cs : List Float) where
   met-one m i h f e false b = let z : m ≡ i = omega (arith, ltb-false i m b) in subst (λ (j : ℕ). meets ts cs j ≡ true) z e
 
   -- none is found: all meet
-  pub none-met : (n : ℕ) → first_miss ts cs n ≡ none → (i : ℕ) → i < n → meets ts cs i ≡ true
+  pub none-met : (n : ℕ) → first_miss ts cs n ≡ None → (i : ℕ) → i < n → meets ts cs i ≡ true
   unfolding first_miss
   none-met zero e i h = absurd (not-suc-le-zero h)
-  none-met (suc m) e i h = let b = none_first (first_miss ts cs m) (pick (meets ts cs m) none (some m)) e in met-one m i h (none-met m b.0) (pick-met (meets ts cs m) m b.1) (ltb i m) refl
+  none-met (suc m) e i h = let b = none_first (first_miss ts cs m) (pick (meets ts cs m) None (Some m)) e in met-one m i h (none-met m b.0) (pick-met (meets ts cs m) m b.1) (ltb i m) refl
 
   -- and the other way
-  pub met-none : (n : ℕ) → ((i : ℕ) → i < n → meets ts cs i ≡ true) → first_miss ts cs n ≡ none
+  pub met-none : (n : ℕ) → ((i : ℕ) → i < n → meets ts cs i ≡ true) → first_miss ts cs n ≡ None
   unfolding first_miss
   met-none zero f = refl
-  met-none (suc m) f = ap₂ first_of (met-none m (λ i h. f i (omega arith))) (pick_true _ none (some m) (f m (omega arith)))
+  met-none (suc m) f = ap₂ first_of (met-none m (λ i h. f i (omega arith))) (pick_true _ None (Some m) (f m (omega arith)))
 
-  missed_more : (m i : ℕ) (o : Option ℕ) → first_miss ts cs m ≡ o → (first_miss ts cs m ≡ some i → Missed m i) → first_of o (pick (meets ts cs m) none (some m)) ≡ some i → Missed (suc m) i
-  missed_more m i (some j) f rec h = let w = rec (f ∙ h) in record { inside = omega (arith, w.inside); before = w.before; here = w.here }
-  missed_more m i none f rec h =
+  missed_more : (m i : ℕ) (o : Option ℕ) → first_miss ts cs m ≡ o → (first_miss ts cs m ≡ Some i → Missed m i) → first_of o (pick (meets ts cs m) None (Some m)) ≡ Some i → Missed (suc m) i
+  missed_more m i (Some j) f rec h = let w = rec (f ∙ h) in record { inside = omega (arith, w.inside); before = w.before; here = w.here }
+  missed_more m i None f rec h =
       let b = pick-missed (meets ts cs m) m i h in
       subst (Missed (suc m)) b.1 (record { inside = omega arith; before = none-met m f; here = b.0 })
 
   -- the one that is found is the first
-  pub some-missed : (n i : ℕ) → first_miss ts cs n ≡ some i → Missed n i
+  pub some-missed : (n i : ℕ) → first_miss ts cs n ≡ Some i → Missed n i
   unfolding first_miss
   some-missed zero i e = absurd (no-some i (sym e))
   some-missed (suc m) i e = missed_more m i (first_miss ts cs m) refl (some-missed m i) e
 
   -- and the other way
-  pub missed-some : (n i : ℕ) → Missed n i → first_miss ts cs n ≡ some i
+  pub missed-some : (n i : ℕ) → Missed n i → first_miss ts cs n ≡ Some i
   missed-some n i w = missed-at ts cs i n w.inside (met-none i w.before) w.here
 
 -- ---- the first cut that is refused
@@ -131,27 +131,27 @@ module _ (spec : TurnStockSpec) (ls : Cuts) (c : Committed) where
 -- ---- the verdict, by the cuts and the bins
 
 module _ (ts : List Float) (n : ℕ) where
-  bins-yes : (d c : Committed) (o : Option ℕ) → by_bins d o ≡ accepted c → (d ≡ c) × (o ≡ none)
-  bins-yes d c none e = (cc, refl)
-  bins-yes d c (some i) e = let z : ◌≡◌ {A = ℕ} 0 1 = cc in absurd (omega arith)
+  bins-yes : (d c : Committed) (o : Option ℕ) → by_bins d o ≡ accepted c → (d ≡ c) × (o ≡ None)
+  bins-yes d c None e = (cc, refl)
+  bins-yes d c (Some i) e = let z : ◌≡◌ {A = ℕ} 0 1 = cc in absurd (omega arith)
 
-  cuts-yes : (c : Committed) (p : Paper Committed) → by_cuts ts n p ≡ accepted c → (p ≡ answers c) × (first_miss ts c.cells n ≡ none)
+  cuts-yes : (c : Committed) (p : Paper Committed) → by_cuts ts n p ≡ accepted c → (p ≡ answers c) × (first_miss ts c.cells n ≡ None)
   cuts-yes c (answers d) e = let b = bins-yes d c (first_miss ts d.cells n) e in (ap answers b.0, ap (λ (x : Committed). first_miss ts x.cells n) (sym b.0) ∙ b.1)
   cuts-yes c (refuses r) e = let z : ◌≡◌ {A = ℕ} 0 1 = cc in absurd (omega arith)
 
   bins-cut : (d : Committed) (o : Option ℕ) (j q : ℕ) → by_bins d o ≡ cut_at j q → ⊥
-  bins-cut d none j q e = let z : ◌≡◌ {A = ℕ} 0 1 = cc in omega arith
-  bins-cut d (some i) j q e = let z : ◌≡◌ {A = ℕ} 0 1 = cc in omega arith
+  bins-cut d None j q e = let z : ◌≡◌ {A = ℕ} 0 1 = cc in omega arith
+  bins-cut d (Some i) j q e = let z : ◌≡◌ {A = ℕ} 0 1 = cc in omega arith
 
   cuts-cut : (j q : ℕ) (p : Paper Committed) → by_cuts ts n p ≡ cut_at j q → (r : Reason) × (p ≡ refuses r) × (place_or 0 r.place ≡ j) × (r.number ≡ q)
   cuts-cut j q (answers d) e = absurd (bins-cut d (first_miss ts d.cells n) j q e)
   cuts-cut j q (refuses r) e = (r, refl, cc, cc)
 
-  bins-bin : (d : Committed) (i : ℕ) (o : Option ℕ) → by_bins d o ≡ bin_at i → o ≡ some i
-  bins-bin d i none e = let z : ◌≡◌ {A = ℕ} 0 1 = cc in absurd (omega arith)
-  bins-bin d i (some j) e = let h : j ≡ i = cc in ap some h
+  bins-bin : (d : Committed) (i : ℕ) (o : Option ℕ) → by_bins d o ≡ bin_at i → o ≡ Some i
+  bins-bin d i None e = let z : ◌≡◌ {A = ℕ} 0 1 = cc in absurd (omega arith)
+  bins-bin d i (Some j) e = let h : j ≡ i = cc in ap Some h
 
-  cuts-bin : (i : ℕ) (p : Paper Committed) → by_cuts ts n p ≡ bin_at i → (c : Committed) × (p ≡ answers c) × (first_miss ts c.cells n ≡ some i)
+  cuts-bin : (i : ℕ) (p : Paper Committed) → by_cuts ts n p ≡ bin_at i → (c : Committed) × (p ≡ answers c) × (first_miss ts c.cells n ≡ Some i)
   cuts-bin i (answers d) e = (d, refl, bins-bin d i (first_miss ts d.cells n) e)
   cuts-bin i (refuses r) e = let z : ◌≡◌ {A = ℕ} 0 1 = cc in absurd (omega arith)
 
@@ -250,26 +250,26 @@ same-yes : {s t : TurnStock} → says_yes s ≡ says_yes t → s ≡ t
 same-yes e = cc
 
 module _ (k : TurnStock) (cs es es' bs bs' : List Float) where
-  left-old : (p : Paper Verdict) (r : Checked) (s : Said) → checked_paper r ≡ answers s → is_no s ≡ true → Checks k cs p r es es' bs bs' → (es' ≡ cs) × (bs' ≡ numbers_kept k.spec cs)
+  left-old : (p : Paper Verdict) (r : Result verdict.Verdict Refusal) (s : Said) → checked_paper r ≡ answers s → is_no s ≡ true → Checks k cs p r es es' bs bs' → (es' ≡ cs) × (bs' ≡ numbers_kept k.spec cs)
   left-old (answers (accepted c)) r s e h w = absurd (false≢true (ap is_no (same_answer (sym w.answer ∙ e)) ∙ h))
   left-old (answers (cut_at j q)) r s e h w = (w.cells, w.kept)
   left-old (answers (bin_at i)) r s e h w = (w.cells, w.kept)
   left-old (refuses q) r s e h w = absurd (no_answer q s (sym w.answer ∙ e))
 
   -- THE OLD ON NO: where a cut or a bin is named the cells afterwards are the old ones, and the kept numbers are theirs
-  pub old-on-cut : (p : Paper Verdict) (j : ℕ) (q : Refusal) → Checks k cs p (is.CutFails j q) es es' bs bs' → (es' ≡ cs) × (bs' ≡ numbers_kept k.spec cs)
-  old-on-cut p j q w = left-old p (is.CutFails j q) (says_cut j (reason_of q).number) refl refl w
+  pub old-on-cut : (p : Paper Verdict) (j : ℕ) (q : Refusal) → Checks k cs p (Ok (is.CutFails j q)) es es' bs bs' → (es' ≡ cs) × (bs' ≡ numbers_kept k.spec cs)
+  old-on-cut p j q w = left-old p (Ok (is.CutFails j q)) (says_cut j (reason_of q).number) refl refl w
 
-  pub old-on-bin : (p : Paper Verdict) (i : ℕ) → Checks k cs p (is.BinFails i) es es' bs bs' → (es' ≡ cs) × (bs' ≡ numbers_kept k.spec cs)
-  old-on-bin p i w = left-old p (is.BinFails i) (says_bin i) refl refl w
+  pub old-on-bin : (p : Paper Verdict) (i : ℕ) → Checks k cs p (Ok (is.BinFails i)) es es' bs bs' → (es' ≡ cs) × (bs' ≡ numbers_kept k.spec cs)
+  old-on-bin p i w = left-old p (Ok (is.BinFails i)) (says_bin i) refl refl w
 
   -- a refusal leaves both as they were
-  pub refused-leaves : (p : Paper Verdict) (q : Refusal) → Checks k cs p (is.Refused q) es es' bs bs' → (es' ≡ es) × (bs' ≡ bs)
+  pub refused-leaves : (p : Paper Verdict) (q : Refusal) → Checks k cs p (Err q) es es' bs bs' → (es' ≡ es) × (bs' ≡ bs)
   refused-leaves (answers v) q w = absurd (no_answer (reason_of q) (said_by k v) w.answer)
   refused-leaves (refuses r) q w = (w.cells, w.kept)
 
   -- on yes the stock is the old one at the generation that the cuts leave, and the cells and the kept numbers are theirs
-  pub yes-leaves : (p : Paper Verdict) (s : TurnStock) → Checks k cs p (is.Yes s) es es' bs bs'
+  pub yes-leaves : (p : Paper Verdict) (s : TurnStock) → Checks k cs p (Ok (is.Yes s)) es es' bs bs'
       → (c : Committed) × (p ≡ answers (accepted c)) × (s ≡ stock_with k k.rings c.generation) × (es' ≡ c.cells) × (bs' ≡ numbers_kept k.spec c.cells)
   yes-leaves (answers (accepted c)) s w = (c, refl, same-yes (same_answer w.answer), w.cells, w.kept)
   yes-leaves (answers (cut_at j q)) s w = absurd (false≢true (ap is_no (same_answer w.answer)))
@@ -277,15 +277,15 @@ module _ (k : TurnStock) (cs es es' bs bs' : List Float) where
   yes-leaves (refuses q) s w = absurd (no_answer q (says_yes s) (sym w.answer))
 
   -- and where the rule says yes no other answer keeps the promise
-  pub yes-answered : (p : Paper Verdict) (c : Committed) (r : Checked) → p ≡ answers (accepted c) → Checks k cs p r es es' bs bs' → (r ≡ is.Yes (stock_with k k.rings c.generation)) × (es' ≡ c.cells) × (bs' ≡ numbers_kept k.spec c.cells)
+  pub yes-answered : (p : Paper Verdict) (c : Committed) (r : Result verdict.Verdict Refusal) → p ≡ answers (accepted c) → Checks k cs p r es es' bs bs' → (r ≡ Ok (is.Yes (stock_with k k.rings c.generation))) × (es' ≡ c.cells) × (bs' ≡ numbers_kept k.spec c.cells)
   yes-answered p c r e w = (
     said r (w.answer ∙ ap (said_of k) e),
     w.cells ∙ ap (λ (x : Paper Verdict). cells_left x cs es) e,
     w.kept ∙ ap (λ (x : Paper Verdict). kept_left k.spec x cs bs) e,
   )
     where
-      said : (x : Checked) → checked_paper x ≡ answers (says_yes (stock_with k k.rings c.generation)) → x ≡ is.Yes (stock_with k k.rings c.generation)
-      said (is.Yes s) h = ap is.Yes (same-yes (same_answer h))
-      said (is.CutFails j q) h = absurd (false≢true (sym (ap is_no (same_answer h))))
-      said (is.BinFails i) h = absurd (false≢true (sym (ap is_no (same_answer h))))
-      said (is.Refused q) h = absurd (no_answer (reason_of q) (says_yes (stock_with k k.rings c.generation)) h)
+      said : (x : Result verdict.Verdict Refusal) → checked_paper x ≡ answers (says_yes (stock_with k k.rings c.generation)) → x ≡ Ok (is.Yes (stock_with k k.rings c.generation))
+      said (Ok (is.Yes s)) h = ap (λ (x : TurnStock). Ok (is.Yes x)) (same-yes (same_answer h))
+      said (Ok (is.CutFails j q)) h = absurd (false≢true (sym (ap is_no (same_answer h))))
+      said (Ok (is.BinFails i)) h = absurd (false≢true (sym (ap is_no (same_answer h))))
+      said (Err q) h = absurd (no_answer (reason_of q) (says_yes (stock_with k k.rings c.generation)) h)

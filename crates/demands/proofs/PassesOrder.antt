@@ -1,16 +1,17 @@
 -- THE ORDER OF PROPOSED CUTS DOES NOT SHOW (Req 13, by demand 3): where all cuts are accepted, in any order they are, with the same cells and generation, and the same verdict (`yes-any-order`, `bin-any-order`);
 -- each bin is then left with the closed form of its outer pair, and its inner pair as it was (`yes-closed`, `yes-inner`). Assumes nothing.
+use Rattle.std.specs.Prelude.{Option, None, Some, Result, Ok}
 use mathlib.Core.Path.{◌≡◌, refl, sym, ap, ◌∙◌, subst}
 use mathlib.Core.Bool.{Bool, true, false, not, ◌&&◌, false≢true}
 use mathlib.Core.List.Permᴰ
 use mathlib.Core.List.{List, [], ◌∷◌, ◌++◌, map, map-append, foldl, foldl-append, Permᴰ}
-use mathlib.Core.Option.{Option, none, some}
 use Prim.Native.Nat.{ℕ, zero, suc, ◌+◌, ◌*◌, ◌≤◌, ◌<◌}
 use native.Mathlib.Omega.{arith}
 use borrow.Author.Tests.{eqb-true}
 use lib.Dec.{eqb, leb}
 use lib.ListN.{length, get_or}
 use lib.Ieee.{Float, nan, lt, le, eq, neg}
+use Rattle.refusals.specs.declared.Refusal.{Refusal}
 use Rattle.refusals.specs.Paper.{Paper, answers, refuses, placed, onward}
 use Rattle.refusals.specs.Limits.{cell_limit, segment_limit, last_generation}
 use Rattle.floats.specs.Each.{Each}
@@ -26,7 +27,8 @@ use Rattle.stock.specs.Spec.{clean_spec}
 use Rattle.stock.specs.Cell.{cell_at}
 use Rattle.stock.proofs.Count.{and_both, same_answer, checked, stocked}
 use Rattle.stock.proofs.Bins.{HeldSpec, HeldList}
-use Rattle.reach.specs.Reach.{Reached, with_pair, Act}
+use Rattle.reach.specs.declared.Reach.{Reach}
+use Rattle.reach.specs.Reach.{with_pair, Act}
 use Rattle.reach.specs.Kinds.{PlainAct, OnSide, OnlyAt}
 use Rattle.reach.specs.Closed.{closed, owns_at}
 use Rattle.nose.specs.Nose.{good_to, segment_count, segments_good, nose_act}
@@ -36,8 +38,8 @@ use Rattle.cuts.specs.declared.Tool.{Tool}
 use Rattle.cuts.specs.Cut.{clean_cut}
 use Rattle.cuts.specs.Tool.{tool_act, tool_good}
 use Rattle.passes.specs.Cuts.{Cuts, Pass, pass_limit, number_of, has_part, part_of, no_tool, is_swept, tool_of, is_inside, standing, pass_at, pass_turned, turned_to}
-use Rattle.passes.specs.declared.Checked.{Checked}
-use Rattle.passes.specs.declared.Checked.TheVariants as is
+use Rattle.passes.specs.declared.Verdict as verdict
+use Rattle.passes.specs.declared.Verdict.TheVariants as is
 use Rattle.passes.specs.Check.{outside_to, Verdict, accepted, cut_at, bin_at, verdict_of, checkable_of, check_of, Checks}
 use Rattle.demands.specs.Job.{Step, turned, turned_all}
 use Rattle.demands.specs.Tool.{Cutter, cutter_act, cutter_good, step_of, turned_tools, ToolsOf, ToolsJob}
@@ -145,10 +147,10 @@ module _ (spec : TurnStockSpec) (ls : Cuts) where
 
 -- what is answered, if anything is
 abbrev value_of : Paper Committed → Option Committed
-value_of (answers d) = some d
-value_of (refuses r) = none
+value_of (answers d) = Some d
+value_of (refuses r) = None
 
-value-is : (p : Paper Committed) (d : Committed) → value_of p ≡ some d → p ≡ answers d
+value-is : (p : Paper Committed) (d : Committed) → value_of p ≡ Some d → p ≡ answers d
 value-is (answers e) d h = let same : e ≡ d = cc in ap answers same
 value-is (refuses r) d h = let z : ◌≡◌ {A = ℕ} 0 1 = cc in absurd (omega arith)
 
@@ -184,7 +186,7 @@ module _ (spec : TurnStockSpec) (c : Committed) where
       ∙ ap value_of (sym (tools-more (cutters_to ls m) (cutter_at ls m)))
 
 -- the closed form of an outer pair leaves the inner pair
-closed-inner : (c : TurnCell) (own : List Reached) → (closed Outer c own).inner ≡ c.inner
+closed-inner : (c : TurnCell) (own : List Reach) → (closed Outer c own).inner ≡ c.inner
 unfolding closed with_pair
 closed-inner c own = refl
 
@@ -261,11 +263,11 @@ module _ (k : TurnStock) (cs bs ts : List Float) (room numbers : ℕ) (hs : Held
         (bin-exactly k cs bs ts ls' room numbers i).1 (record { bins = y.bins; asked = asked-any-order ls hl y.bins y.asked y.left y.turned ls' d; left = y.left; turned = turned-any-order ls hl y.bins y.asked y.left y.turned ls' d; missed = y.missed })
 
     -- by the promises of the two calls: where one answers yes the other answers the same, with the same cells and kept numbers, whatever its lists held
-    pub calls-any-order : (s : TurnStock) (r : Checked) (es es' fs fs' gs gs' js js' : List Float) → Checks k cs (check_of k cs bs ts ls room numbers) (is.Yes s) es es' fs fs' → Checks k cs (check_of k cs bs ts ls' room numbers) r gs gs' js js' → (r ≡ is.Yes s) × (gs' ≡ es') × (js' ≡ fs')
+    pub calls-any-order : (s : TurnStock) (r : Result verdict.Verdict Refusal) (es es' fs fs' gs gs' js js' : List Float) → Checks k cs (check_of k cs bs ts ls room numbers) (Ok (is.Yes s)) es es' fs fs' → Checks k cs (check_of k cs bs ts ls' room numbers) r gs gs' js js' → (r ≡ Ok (is.Yes s)) × (gs' ≡ es') × (js' ≡ fs')
     calls-any-order s r es es' fs fs' gs gs' js js' w w' =
         let v = yes-leaves k cs es es' fs fs' (check_of k cs bs ts ls room numbers) s w in
         let a = yes-answered k cs gs gs' js js' (check_of k cs bs ts ls' room numbers) v.0 r (yes-any-order v.0 v.1) w' in
-        (a.0 ∙ ap is.Yes (sym v.2), a.1 ∙ sym v.3, a.2 ∙ sym v.4)
+        (a.0 ∙ ap (λ (x : TurnStock). Ok (is.Yes x)) (sym v.2), a.1 ∙ sym v.3, a.2 ∙ sym v.4)
 
   -- so the answer is yes for both orders or for neither
   pub yes_both : (ls ls' : Cuts) → HeldCuts ls → HeldCuts ls' → Permᴰ (cutters_of ls) (cutters_of ls') → (c : Committed)

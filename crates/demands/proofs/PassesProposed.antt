@@ -1,5 +1,6 @@
 -- PROPOSED PASSES ARE ACCEPTED (Req 13), as far as that is promised: a proposed cut whose numbers are at most 1e6 in size is in its domain (`proposed-inside`), so that a check does not name it while generations last (`proposed-accepted`).
 -- That a proposal is a list of outside lines, no more than there may be, and so never refused with 25, has crate `passes` (proofs/Proposed). Assumes nothing.
+use Rattle.std.specs.Prelude.{Ok}
 use mathlib.Core.Path.{◌≡◌, refl, sym, ap, ◌∙◌, subst}
 use mathlib.Core.Bool.{true}
 use mathlib.Core.List.{List, [], ◌∷◌, ◌++◌}
@@ -33,7 +34,6 @@ use Rattle.moves.proofs.Answered.{answered}
 use Rattle.passes.specs.Cuts.{Cuts, Pass, pass_limit, number_of, pass_at, pass_turned}
 use Rattle.passes.specs.Check.{targets_good}
 use Rattle.passes.specs.declared.propose.Level.{Level}
-use Rattle.passes.specs.declared.propose.Proposal.TheVariants.{Passes}
 use Rattle.passes.specs.Propose.{pass_start, pass_end, level_over, levels_over, Open, last_of_run, with_bin, open_to, passes_of, nose_good, propose_of, pass_count, passes_in, six_of, sixes, Proposes}
 use Rattle.passes.proofs.Levels.{length-sixes}
 use Rattle.passes.proofs.Proposed.{proposed-line}
@@ -112,7 +112,7 @@ counted (answers l) k e = (l, refl, same_answer e)
 counted (refuses q) k e = absurd (no_answer q k (sym e))
 
 -- ---- THE CUTS OF A PROPOSAL of k passes, as a check is handed them: the first k kinds, and the numbers
-module _ (spec : TurnStockSpec) (cs ts : List Float) (rn : Float) (room k : ℕ) (ks ks' : List ℕ) (xs xs' : List Float) (ps ps' : List ℕ) (g : Proposes (propose_of spec cs ts rn room) (Passes k) ks ks' xs xs' ps ps')
+module _ (spec : TurnStockSpec) (cs ts : List Float) (rn : Float) (room k : ℕ) (ks ks' : List ℕ) (xs xs' : List Float) (ps ps' : List ℕ) (g : Proposes (propose_of spec cs ts rn room) (Ok k) ks ks' xs xs' ps ps')
     (ls : Cuts) (ek : ls.kinds ≡ take k ks') (en : ls.numbers ≡ xs') (j : ℕ) (h : j < k) where
   nose-sag : (le zero64 (number_of ls j 0) ≡ true) × (le zero64 (number_of ls j 1) ≡ true)
   nose-sag =

@@ -1,4 +1,5 @@
 -- THE CUTS OF A CHECK, as cuts by name made in turn (Req 13): the cells after them fit, so that the kept numbers match on yes (`blocks-match`), and a cut fails with 13, 5 or 12 and with no other number (`fails_by`, `never-six`). Assumes nothing.
+use Rattle.std.specs.Prelude.{Ok}
 use mathlib.Core.Path.{◌≡◌, refl, sym, ap, ap₂, ◌∙◌, subst}
 use mathlib.Core.Bool.{Bool, true, false, not, ◌&&◌, false≢true}
 use mathlib.Core.List.{List, [], ◌∷◌, ◌++◌}
@@ -43,7 +44,7 @@ use Rattle.cuts.specs.Preview.{proposed, preview_cut, preview_of}
 use Rattle.cuts.specs.Tool.{tool_act, tool_inside, tool_good, preview_tool}
 use Rattle.moves.proofs.Answered.{answered, unplaced}
 use Rattle.passes.specs.Cuts.{Cuts, Pass, number_of, has_part, part_of, is_swept, tool_of, standing, pass_at, pass_turned, turned_to}
-use Rattle.passes.specs.declared.Checked.TheVariants as is
+use Rattle.passes.specs.declared.Verdict.TheVariants as is
 use Rattle.passes.specs.Check.{targets_good, cuts_good, accepted, cut_at, checkable_of, check_of, Checks}
 use Rattle.demands.specs.Tool.{Cutter, cutter_act, cutter_good, HeldTool, HeldCutter}
 use Rattle.demands.proofs.Tools.{tool-sound, good-accepted, accepted-good}
@@ -347,7 +348,7 @@ module _ (k : TurnStock) (cs bs ts : List Float) (ls : Cuts) (room numbers : ℕ
       good-stock (taken-in-turn k.spec n hs ls hl (standing k cs) (good_start n a) (length ls.kinds) c y.turned).fits-then
 
   -- THE KEPT NUMBERS MATCH after a yes, so that 20 cannot follow: those that the call left are of the cells that it left
-  pub blocks-match : (s : TurnStock) (es es' fs fs' : List Float) → Checks k cs (check_of k cs bs ts ls room numbers) (is.Yes s) es es' fs fs' → Matching k.spec es' fs'
+  pub blocks-match : (s : TurnStock) (es es' fs fs' : List Float) → Checks k cs (check_of k cs bs ts ls room numbers) (Ok (is.Yes s)) es es' fs fs' → Matching k.spec es' fs'
   blocks-match s es es' fs fs' w =
       let v = yes-leaves k cs es es' fs fs' (check_of k cs bs ts ls room numbers) s w in
       let c = v.0 in

@@ -1,22 +1,23 @@
 -- Narrow look, full look, of the calls: whatever outcome meets the promise of `envelope::radius_at`, of `radius_range`, or of the method of that name of an `Envelope` made by `new`, it is refused exactly where the points or
 -- the query are outside the domain, and else it is the look at all segments in order (`full_there`, `full_range`; for a range where lo <= hi), though the calls look at a part alone. The numbers lent are values of f64. Assumes nothing.
+use Rattle.std.specs.Prelude.{Option, None, Some, Result}
 use mathlib.Core.Path.{◌≡◌, refl, sym, ap, subst, ◌∙◌}
 use mathlib.Core.Bool.{true, false, ◌&&◌}
 use mathlib.Core.List.{List, [], ◌∷◌}
-use mathlib.Core.Option.{Option, none, some}
 use lib.Dec.{T}
 use lib.Ieee
 use lib.IntN.{pos}
 use lib.Ieee.{Float, nan, inf, binary64, of_bits, fits, neg, le}
 use denote.Ref.{Bor}
+use Rattle.refusals.specs.declared.Refusal.{Refusal}
+use Rattle.refusals.specs.Number.{paper_of}
 use Rattle.refusals.specs.Paper.{Paper, answers, refuses, only, demand, demand-true}
 use Rattle.floats.specs.Pick.{pick, pick_true, pick-false}
 use Rattle.floats.specs.Numbers.{zero64, million, least_of, greatest_of, minus_zero, clean_of, usable, usable_to, all_to}
 use Rattle.stock.proofs.Bins.{HeldList}
 use Rattle.envelope.specs.declared.held.Envelope.{Envelope}
-use Rattle.envelope.specs.declared.RadiusAt.{RadiusAt}
-use Rattle.envelope.specs.declared.RadiusRange.{RadiusRange}
-use Rattle.envelope.specs.Envelope.{u_at, v_at, points_good, rises_to, falls_to, order_of, count_to, span, span_of, wider, across, segment_at, higher, highest_to, radius_at_of, radius_at_paper, Radii, taken, segment_over, segment_in, radii_to, radii_of, radius_range_of, radius_range_paper}
+use Rattle.envelope.specs.declared.Radii.{Radii}
+use Rattle.envelope.specs.Envelope.{u_at, v_at, points_good, rises_to, falls_to, order_of, count_to, span, span_of, wider, across, segment_at, higher, highest_to, radius_at_of, taken, segment_over, segment_in, radii_to, radii_of, radius_range_of}
 use Rattle.envelope.specs.Halving.{kept_of, RadiusAtKept, RadiusRangeKept}
 use Rattle.envelope.specs.Full.{points_of, neighbours, segments_of, full_there, full_range}
 use Rattle.envelope.proofs.Steps.{clean-le}
@@ -39,45 +40,45 @@ MadeOf ps e = (e.points ≡ ps) × (e.order ≡ kept_of ps.now)
 
 -- ---- the highest radius at u
 
-module _ (u : Float) (hu : T (fits binary64 u)) (r : RadiusAt) where
+module _ (u : Float) (hu : T (fits binary64 u)) (r : Result (Option Float) Refusal) where
   -- `radius_at`
-  pub radius-at-full : (ps : List Float) → HeldList ps → radius_at_paper r ≡ radius_at_of ps u → Settled (radius_at_paper r) (radius_asks ps u) (full_there ps (clean_of u))
+  pub radius-at-full : (ps : List Float) → HeldList ps → paper_of r ≡ radius_at_of ps u → Settled (paper_of r) (radius_asks ps u) (full_there ps (clean_of u))
   radius-at-full ps held e = follows e (radius-at-exactly ps u) (λ s. full_at ps held u hu ∙ demand-true (points_good ps && usable u) 14 _ s.0)
 
   -- the method of an envelope
   pub held-at-full : (ps : Bor (List Float)) → HeldList ps.now → (e : Envelope) → MadeOf ps e → RadiusAtKept e.points.now e.order u r
-      → Settled (radius_at_paper r) (radius_asks ps.now u) (full_there ps.now (clean_of u))
-  held-at-full ps held e m k = radius-at-full ps.now held (subst (λ (qs : Bor (List Float)). radius_at_paper r ≡ radius_at_of qs.now u) m.0 (k.ruled (m.1 ∙ ap (λ (qs : Bor (List Float)). kept_of qs.now) (sym m.0))))
+      → Settled (paper_of r) (radius_asks ps.now u) (full_there ps.now (clean_of u))
+  held-at-full ps held e m k = radius-at-full ps.now held (subst (λ (qs : Bor (List Float)). paper_of r ≡ radius_at_of qs.now u) m.0 (k.ruled (m.1 ∙ ap (λ (qs : Bor (List Float)). kept_of qs.now) (sym m.0))))
 
 -- ---- the lowest and the highest radius over lo..hi, where lo <= hi
 
-module _ (lo hi : Float) (hlo : T (fits binary64 lo)) (hhi : T (fits binary64 hi)) (r : RadiusRange) where
+module _ (lo hi : Float) (hlo : T (fits binary64 lo)) (hhi : T (fits binary64 hi)) (r : Result (Option Radii) Refusal) where
   -- what it answers whichever of the two is greater
-  either_way : (ps : List Float) → HeldList ps → AllHold (within_asks ps lo hi) → radius_range_of ps lo hi ≡ answers (pick (le lo hi) (full_range ps (clean_of lo) (clean_of hi)) none)
+  either_way : (ps : List Float) → HeldList ps → AllHold (within_asks ps lo hi) → radius_range_of ps lo hi ≡ answers (pick (le lo hi) (full_range ps (clean_of lo) (clean_of hi)) None)
   either_way ps held s =
-      full-range ps held lo hi hlo hhi ∙ demand-true (points_good ps && (usable lo && usable hi)) 14 _ s.0 ∙ ap (λ b. answers (pick b (full_range ps (clean_of lo) (clean_of hi)) none)) (clean-le lo hi hlo hhi)
+      full-range ps held lo hi hlo hhi ∙ demand-true (points_good ps && (usable lo && usable hi)) 14 _ s.0 ∙ ap (λ b. answers (pick b (full_range ps (clean_of lo) (clean_of hi)) None)) (clean-le lo hi hlo hhi)
 
   -- `radius_range`
-  pub radius-range-full : le lo hi ≡ true → (ps : List Float) → HeldList ps → radius_range_paper r ≡ radius_range_of ps lo hi → Settled (radius_range_paper r) (within_asks ps lo hi) (full_range ps (clean_of lo) (clean_of hi))
+  pub radius-range-full : le lo hi ≡ true → (ps : List Float) → HeldList ps → paper_of r ≡ radius_range_of ps lo hi → Settled (paper_of r) (within_asks ps lo hi) (full_range ps (clean_of lo) (clean_of hi))
   radius-range-full h ps held e = follows e (radius-range-exactly ps lo hi) (λ s. either_way ps held s ∙ ap answers (pick_true (le lo hi) _ _ h))
 
   -- where lo > hi, of which the full look says nothing: none
-  pub radius-range-turned : le lo hi ≡ false → (ps : List Float) → HeldList ps → radius_range_paper r ≡ radius_range_of ps lo hi → Settled (radius_range_paper r) (within_asks ps lo hi) none
+  pub radius-range-turned : le lo hi ≡ false → (ps : List Float) → HeldList ps → paper_of r ≡ radius_range_of ps lo hi → Settled (paper_of r) (within_asks ps lo hi) None
   radius-range-turned h ps held e = follows e (radius-range-exactly ps lo hi) (λ s. either_way ps held s ∙ ap answers (pick-false (le lo hi) _ _ h))
 
   -- the method of an envelope
   pub held-range-full : le lo hi ≡ true → (ps : Bor (List Float)) → HeldList ps.now → (e : Envelope) → MadeOf ps e → RadiusRangeKept e.points.now e.order lo hi r
-      → Settled (radius_range_paper r) (within_asks ps.now lo hi) (full_range ps.now (clean_of lo) (clean_of hi))
-  held-range-full h ps held e m k = radius-range-full h ps.now held (subst (λ (qs : Bor (List Float)). radius_range_paper r ≡ radius_range_of qs.now lo hi) m.0 (k.ruled (m.1 ∙ ap (λ (qs : Bor (List Float)). kept_of qs.now) (sym m.0))))
+      → Settled (paper_of r) (within_asks ps.now lo hi) (full_range ps.now (clean_of lo) (clean_of hi))
+  held-range-full h ps held e m k = radius-range-full h ps.now held (subst (λ (qs : Bor (List Float)). paper_of r ≡ radius_range_of qs.now lo hi) m.0 (k.ruled (m.1 ∙ ap (λ (qs : Bor (List Float)). kept_of qs.now) (sym m.0))))
 
 -- ---- where there is no segment
 -- no points
-pub no-points : (u lo hi : Float) → (full_there [] u ≡ none) × (full_range [] lo hi ≡ none)
+pub no-points : (u lo hi : Float) → (full_there [] u ≡ None) × (full_range [] lo hi ≡ None)
 unfolding full_there full_range segments_of neighbours points_of
 no-points u lo hi = (refl, refl)
 
 -- one point
-pub one-point : (a v u lo hi : Float) → (full_there (a ∷ v ∷ []) u ≡ none) × (full_range (a ∷ v ∷ []) lo hi ≡ none)
+pub one-point : (a v u lo hi : Float) → (full_there (a ∷ v ∷ []) u ≡ None) × (full_range (a ∷ v ∷ []) lo hi ≡ None)
 unfolding full_there full_range segments_of neighbours points_of
 one-point a v u lo hi = (refl, refl)
 
@@ -143,23 +144,23 @@ abbrev Over : List Float → Float → Float → Option Radii → Type 0
 Over ps lo hi x = (radius_range_of ps lo hi ≡ answers x) × (full_range ps (clean_of lo) (clean_of hi) ≡ x)
 
 abbrev from : Float → Float → Option Radii
-from a b = some (record { lowest = a; highest = b })
+from a b = Some (record { lowest = a; highest = b })
 
 -- between two points: no point is in the part, and the two beside it make the segment that matters
 abbrev Between : Type 0
-Between = (span_of peak three three ≡ span 2 2) × (wider (span_of peak three three) 3 ≡ span 1 3) × At peak three (some two) × Over peak three three (from two two)
+Between = (span_of peak three three ≡ span 2 2) × (wider (span_of peak three three) 3 ≡ span 1 3) × At peak three (Some two) × Over peak three three (from two two)
 
 -- a query wholly left or wholly right of the points, of chains that rise, that fall and that do neither
 abbrev Beside : Type 0
-Beside = At peak minus_one none × At peak five none × At falling minus_one none × At falling five none × Over peak minus_one minus_one none × Over falling five five none × Over back three four none
+Beside = At peak minus_one None × At peak five None × At falling minus_one None × At falling five None × Over peak minus_one minus_one None × Over falling five five None × Over back three four None
 
 -- lo = hi at the end that two segments share, and at the first and the last point
 abbrev AtEnds : Type 0
-AtEnds = At peak two (some three) × Over peak two two (from three three) × Over falling two two (from three three) × Over peak zero64 zero64 (from one one) × At falling zero64 (some one)
+AtEnds = At peak two (Some three) × Over peak two two (from three three) × Over falling two two (from three three) × Over peak zero64 zero64 (from one one) × At falling zero64 (Some one)
 
 -- u repeated at lo, at hi, and everywhere
 abbrev Repeated : Type 0
-Repeated = (order_of upright ≡ pos 1) × At stepped two (some five) × Over stepped two three (from three five) × Over stepped one two (from two five) × At upright two (some five) × At upright one none × Over upright one two (from one five)
+Repeated = (order_of upright ≡ pos 1) × At stepped two (Some five) × Over stepped two three (from three five) × Over stepped one two (from two five) × At upright two (Some five) × At upright one None × Over upright one two (from one five)
 
 -- NaN and infinity, as a query and as a point, and a number left over: 14
 abbrev Outside : Type 0
@@ -167,11 +168,11 @@ Outside = (radius_at_of peak nan ≡ refuses (only 14)) × (radius_range_of peak
 
 -- in no order every segment counts, one that runs back too
 abbrev InNoOrder : Type 0
-InNoOrder = At back one (some two) × Over back one one (from one two) × At back zero64 (some three)
+InNoOrder = At back one (Some two) × Over back one one (from one two) × At back zero64 (Some three)
 
 -- -0.0 as u, v, lo and hi; a subnormal u; u at -1e6 and at 1e6
 abbrev Edges : Type 0
-Edges = At short minus-zero (some zero64) × Over short minus-zero minus-zero (from zero64 zero64) × At short least (some two) × Over short minus-zero least (from zero64 two) × At long zero64 (some two) × Over long (neg million) million (from one three) × At long million (some three)
+Edges = At short minus-zero (Some zero64) × Over short minus-zero minus-zero (from zero64 zero64) × At short least (Some two) × Over short minus-zero least (from zero64 two) × At long zero64 (Some two) × Over long (neg million) million (from one three) × At long million (Some three)
 
 pub corners : Between × Beside × AtEnds × Repeated × InNoOrder × Edges × Outside
 unfolding radius_at_of radius_range_of radii_of demand points_good usable_to all_to clean_of pick span_of order_of rises_to falls_to count_to u_at v_at highest_to radii_to segment_at segment_in segment_over taken higher across least_of greatest_of minus_zero full_there full_range segments_of neighbours points_of Ieee.of_bits Ieee.of_fields Ieee.odd Ieee.eq Ieee.lt Ieee.le Ieee.div Ieee.mul Ieee.sub Ieee.add Ieee.neg Ieee.sum Ieee.round Ieee.units Ieee.size Ieee.span Ieee.climb Ieee.fits

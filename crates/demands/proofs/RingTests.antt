@@ -1,5 +1,6 @@
 -- Demand 3 of Req 14's ring work: the tests that each accepted ring takes are those of 01's steps, and how many they can be. The promises say that what a call tells is what is defined: `Removes` of `remove_ring`, `list_tests` of a list, `MovesTold` and `RebuildsTold` of a move and of
 -- a rebuild. Assumes nothing.
+use Rattle.std.specs.Prelude.{Ok}
 use Prim.Native.Nat.{ℕ, ◌*◌, ◌≤◌, ◌<◌}
 use native.Mathlib.Omega.{arith}
 use mathlib.Core.Path.{◌≡◌, refl, sym}
@@ -14,7 +15,6 @@ use Rattle.stock.specs.declared.TurnStock.{TurnStock}
 use Rattle.stock.specs.Spec.{clean_spec}
 use Rattle.stock.proofs.Count.{same_answer, no_answer, demanded}
 use Rattle.rings.specs.declared.Ring.{Ring}
-use Rattle.rings.specs.declared.Removed.TheVariants as removed
 use Rattle.rings.specs.Ring.{filled, kept, in_hand, clip, left}
 use Rattle.rings.specs.Store.{bar_ring, rings_of}
 use Rattle.rings.specs.Remove.{RingStore, room_for, added, remove_ring, Removes}
@@ -68,7 +68,7 @@ list-most e room ks (q ∷ qs) r h = go (added room ks (clip e q)) refl (λ l. l
     go (refuses n) a k = tt
 
 -- ---- what `remove_ring` tells of an accepted ring
-module _ (k k' : TurnStock) (xs ys : List Float) (q : Ring) (t : ℕ) (a : Removes k xs (remove_ring k.spec xs k.rings k.stamp.generation q) (ring_tests k.spec xs k.rings q) (removed.Stock k' t) ys) where
+module _ (k k' : TurnStock) (xs ys : List Float) (q : Ring) (t : ℕ) (a : Removes k xs (remove_ring k.spec xs k.rings k.stamp.generation q) (ring_tests k.spec xs k.rings q) (Ok (record { stock = k'; tests = t })) ys) where
   -- what is told is what is defined
   pub told-ring : t ≡ tests_for (bar_ring (clean_spec k.spec)) (rings_of k.rings xs) q
   unfolding ring_tests onward

@@ -1,5 +1,6 @@
 -- THE THIRD DEMAND, OF RINGS: in whatever order accepted rings come, the same points are covered, and no two stored rings share one. A point is any pair of numbers z, r;
 -- a ring covers it where z0 <= z < z1 and r0 <= r < r1. `Disjoint l` says that every point is in one ring of l at most. Assumes nothing.
+use Rattle.std.specs.Prelude.{Ok}
 use mathlib.Core.Path.{◌≡◌, refl, sym, ap, ap₂, ◌∙◌, subst}
 use mathlib.Core.Bool.{Bool, true, false, ◌||◌, or-false, or_assoc}
 use mathlib.Core.List.Permᴰ
@@ -18,8 +19,6 @@ use Rattle.changes.specs.declared.ChangeList.{ChangeList}
 use Rattle.stock.specs.Spec.{clean_spec, spec_good}
 use Rattle.stock.proofs.Count.{no_answer, same_answer}
 use Rattle.rings.specs.declared.Ring.{Ring}
-use Rattle.rings.specs.declared.Removed.TheVariants.{Stock}
-use Rattle.rings.specs.declared.StoredAs.TheVariants as stored
 use Rattle.rings.specs.Ring.{covers, covered, filled, clip}
 use Rattle.rings.specs.Points.{Disjoint}
 use Rattle.rings.specs.Store.{bar_ring, rings_of, store_as, count_fits, rings_good, raised_by}
@@ -29,8 +28,6 @@ use Rattle.rings.proofs.Flat.{rings-stored}
 use Rattle.rings.proofs.Fitting.{store-disjoint}
 use Rattle.rings.proofs.Covering.{covered-turns}
 use Rattle.rings.proofs.Taken.{ring-taken, ring-passes, ring-covers, rings-pass, rings-pass-again, rings-cover, rings-either-order}
-use Rattle.moves.specs.declared.Moved.TheVariants as moved
-use Rattle.moves.specs.declared.Rebuilt.TheVariants as rebuilt
 use Rattle.moves.specs.Move as moves
 use Rattle.moves.specs.Move.{Left, generation_after, move_of, parts_of, Moves, stock_stored, Rebuilds}
 use Rattle.moves.proofs.Accepted.{taken, passed-disjoint, raised-turns, move-disjoint, move-covers, either-cells, either-generation, either-covers}
@@ -53,7 +50,7 @@ record Took (spec : TurnStockSpec) (xs : List Float) (n g : ℕ) (q : Ring) (m h
   numbers : ys ≡ store_as xs store.rings
   generation : h ≡ store.generation
 
-took : {spec : TurnStockSpec} {edition : ℕ} {xs : List Float} {n g : ℕ} {q : Ring} {m h : ℕ} {ys : List Float} {u t : ℕ} → Removes (stock_from spec edition n g) xs (remove_ring spec xs n g q) u (Stock (stock_from spec edition m h) t) ys → Took spec xs n g q m h ys
+took : {spec : TurnStockSpec} {edition : ℕ} {xs : List Float} {n g : ℕ} {q : Ring} {m h : ℕ} {ys : List Float} {u t : ℕ} → Removes (stock_from spec edition n g) xs (remove_ring spec xs n g q) u (Ok (record { stock = stock_from spec edition m h; tests = t })) ys → Took spec xs n g q m h ys
 unfolding counts_of rings_left_after onward
 took {spec} {edition} {xs} {n} {g} {q} {m} {h} {ys} a = go (remove_ring spec xs n g q) refl a.answer a.store
   where
@@ -78,7 +75,7 @@ pub record ListBy (p : Paper (List Ring)) (m : ℕ) (ys : List Float) : Type 0 w
   pub rule : p ≡ answers rings
   pub held : rings_of m ys ≡ rings
 
-pub list-by : {xs ys : List Float} {p : Paper (List Ring)} {m : ℕ} → StoresAs xs p (stored.Rings m) ys → ListBy p m ys
+pub list-by : {xs ys : List Float} {p : Paper (List Ring)} {m : ℕ} → StoresAs xs p (Ok m) ys → ListBy p m ys
 unfolding rings.count_of onward
 list-by {xs} {ys} {p} {m} a = go p a.answer a.store
   where
@@ -86,7 +83,7 @@ list-by {xs} {ys} {p} {m} a = go p a.answer a.store
     go (refuses r) b c = absurd (no_answer r m (sym b))
     go (answers l) b c = record { rings = l; rule = refl; held = ap₂ rings_of (same_answer b) c ∙ rings-stored xs l }
 
-pub rebuilt-by : {spec : TurnStockSpec} {edition : ℕ} {cs bs bs' xs ys : List Float} {p : Paper (List Ring)} {a : TurnStock} → Rebuilds spec edition cs p (rebuilt.Stock a) bs bs' xs ys → ListBy p a.rings ys
+pub rebuilt-by : {spec : TurnStockSpec} {edition : ℕ} {cs bs bs' xs ys : List Float} {p : Paper (List Ring)} {a : TurnStock} → Rebuilds spec edition cs p (Ok a) bs bs' xs ys → ListBy p a.rings ys
 unfolding rings.count_of onward
 rebuilt-by {spec} {edition} {cs} {bs} {bs'} {xs} {ys} {p} {a} h = go p h.answer h.store
   where
@@ -103,7 +100,7 @@ pub record LeftBy (k k' : TurnStock) (p : Paper Left) (cs' ys : List Float) : Ty
   -- the stock's spec and its edition stay
   pub stock : k' ≡ stock_with k k'.rings left.generation
 
-pub left_by : {k k' : TurnStock} {cs cs' xs ys : List Float} {p : Paper Left} → Moves k p (moved.Stock k') cs cs' xs ys → LeftBy k k' p cs' ys
+pub left_by : {k k' : TurnStock} {cs cs' xs ys : List Float} {p : Paper Left} → Moves k p (Ok k') cs cs' xs ys → LeftBy k k' p cs' ys
 left_by {k} {k'} {cs} {cs'} {xs} {ys} {p} a = go p a.answer a.cells a.rings
   where
     go : (p : Paper Left) → answers k' ≡ stock_after k (moves.counts_of p) → cs' ≡ moves.moved_cells p cs → ys ≡ moves.moved_rings p xs → LeftBy k k' p cs' ys
@@ -180,15 +177,15 @@ module _ (spec : TurnStockSpec) (xs : List Float) (n : ℕ) (f : count_fits (bar
   list-either-order news news' l l' d h h' = rings-either-order spec xs n f news news' l l' d h h'
 
   -- the same of the lent numbers that the call leaves
-  pub list-call-covers : (news : List Float) (m : ℕ) (ys : List Float) → StoresAs xs (remove_rings spec xs n news) (stored.Rings m) ys → (z r : Float)
+  pub list-call-covers : (news : List Float) (m : ℕ) (ys : List Float) → StoresAs xs (remove_rings spec xs n news) (Ok m) ys → (z r : Float)
       → covered (rings_of m ys) z r ≡ (covered (rings_of n xs) z r || covered (map (clipped spec) (rings_of (length news / 4) news)) z r)
   list-call-covers news m ys a z r = let w = list-by a in ap (λ (l : List Ring). covered l z r) w.held ∙ list-covers news w.rings w.rule z r
 
-  pub list-call-disjoint : (news : List Float) (m : ℕ) (ys : List Float) → spec_good (clean_spec spec) ≡ true → rings_good news ≡ true → StoresAs xs (remove_rings spec xs n news) (stored.Rings m) ys → Disjoint (rings_of m ys)
+  pub list-call-disjoint : (news : List Float) (m : ℕ) (ys : List Float) → spec_good (clean_spec spec) ≡ true → rings_good news ≡ true → StoresAs xs (remove_rings spec xs n news) (Ok m) ys → Disjoint (rings_of m ys)
   list-call-disjoint news m ys g o a = let w = list-by a in subst Disjoint (sym w.held) (list-disjoint news w.rings g o w.rule)
 
-  pub list-call-either-order : (news news' : List Float) (m m' : ℕ) (ys ys' : List Float) → Permᴰ (rings_of (length news / 4) news) (rings_of (length news' / 4) news') → StoresAs xs (remove_rings spec xs n news) (stored.Rings m) ys
-      → StoresAs xs (remove_rings spec xs n news') (stored.Rings m') ys' → (z r : Float) → covered (rings_of m ys) z r ≡ covered (rings_of m' ys') z r
+  pub list-call-either-order : (news news' : List Float) (m m' : ℕ) (ys ys' : List Float) → Permᴰ (rings_of (length news / 4) news) (rings_of (length news' / 4) news') → StoresAs xs (remove_rings spec xs n news) (Ok m) ys
+      → StoresAs xs (remove_rings spec xs n news') (Ok m') ys' → (z r : Float) → covered (rings_of m ys) z r ≡ covered (rings_of m' ys') z r
   list-call-either-order news news' m m' ys ys' d a a' z r =
       let w = list-by a in
       let w' = list-by a' in
@@ -218,16 +215,16 @@ module _ (k : TurnStock) (cs bs xs : List Float) (list : ChangeList) (is : List 
     moved-either-order = either-covers k cs bs xs list is ys removed removed' a a' turn h h'
 
   -- the same of the lent numbers that the call leaves
-  pub moved-call-covers : (removed : List Float) (k' : TurnStock) (cs' xs' : List Float) → Moves k (move_of k cs bs xs list is ys removed) (moved.Stock k') cs cs' xs xs' → (z r : Float)
+  pub moved-call-covers : (removed : List Float) (k' : TurnStock) (cs' xs' : List Float) → Moves k (move_of k cs bs xs list is ys removed) (Ok k') cs cs' xs xs' → (z r : Float)
       → covered (rings_of k'.rings xs') z r ≡ (covered (rings_of k.rings xs) z r || covered (map (clipped k.spec) (rings_of (length removed / 4) removed)) z r)
   moved-call-covers removed k' cs' xs' a z r = let w = left_by a in ap (λ (l : List Ring). covered l z r) w.rings ∙ moved-covers removed w.left w.rule z r
 
-  pub moved-call-disjoint : (removed : List Float) (k' : TurnStock) (cs' xs' : List Float) → Moves k (move_of k cs bs xs list is ys removed) (moved.Stock k') cs cs' xs xs' → Disjoint (rings_of k'.rings xs')
+  pub moved-call-disjoint : (removed : List Float) (k' : TurnStock) (cs' xs' : List Float) → Moves k (move_of k cs bs xs list is ys removed) (Ok k') cs cs' xs xs' → Disjoint (rings_of k'.rings xs')
   moved-call-disjoint removed k' cs' xs' a = let w = left_by a in subst Disjoint (sym w.rings) (moved-disjoint removed w.left w.rule)
 
   -- either order of its rings leaves the same cells and the same generation, and the same points covered
   pub moved-call-either-order : (removed removed' : List Float) (k' k'' : TurnStock) (cs' cs'' xs' xs'' : List Float) → Permᴰ (rings_of (length removed / 4) removed) (rings_of (length removed' / 4) removed')
-      → Moves k (move_of k cs bs xs list is ys removed) (moved.Stock k') cs cs' xs xs' → Moves k (move_of k cs bs xs list is ys removed') (moved.Stock k'') cs cs'' xs xs''
+      → Moves k (move_of k cs bs xs list is ys removed) (Ok k') cs cs' xs xs' → Moves k (move_of k cs bs xs list is ys removed') (Ok k'') cs cs'' xs xs''
       → (cs' ≡ cs'') × (k'.stamp ≡ k''.stamp) × ((z r : Float) → covered (rings_of k'.rings xs') z r ≡ covered (rings_of k''.rings xs'') z r)
   moved-call-either-order removed removed' k' k'' cs' cs'' xs' xs'' d a a' =
       let w = left_by a in
@@ -326,14 +323,14 @@ module _ (spec : TurnStockSpec) (cs bs xs : List Float) where
   rebuilt-either-order given given' l l' d h h' = parts-either-order spec cs (length bs) xs given given' l l' d h h'
 
   -- the same of the lent numbers that the call leaves
-  pub rebuilt-call-covers : (edition : ℕ) (given : List Float) (b : TurnStock) (bs' ys : List Float) → Rebuilds spec edition cs (parts_of spec cs (length bs) given xs) (rebuilt.Stock b) bs bs' xs ys → (z r : Float) → covered (rings_of b.rings ys) z r ≡ covered (map (clipped spec) (rings_of (length given / 4) given)) z r
+  pub rebuilt-call-covers : (edition : ℕ) (given : List Float) (b : TurnStock) (bs' ys : List Float) → Rebuilds spec edition cs (parts_of spec cs (length bs) given xs) (Ok b) bs bs' xs ys → (z r : Float) → covered (rings_of b.rings ys) z r ≡ covered (map (clipped spec) (rings_of (length given / 4) given)) z r
   rebuilt-call-covers edition given b bs' ys a z r = let w = rebuilt-by a in ap (λ (l : List Ring). covered l z r) w.held ∙ rebuilt-covers given w.rings w.rule z r
 
-  pub rebuilt-call-disjoint : (edition : ℕ) (given : List Float) (b : TurnStock) (bs' ys : List Float) → Rebuilds spec edition cs (parts_of spec cs (length bs) given xs) (rebuilt.Stock b) bs bs' xs ys → Disjoint (rings_of b.rings ys)
+  pub rebuilt-call-disjoint : (edition : ℕ) (given : List Float) (b : TurnStock) (bs' ys : List Float) → Rebuilds spec edition cs (parts_of spec cs (length bs) given xs) (Ok b) bs bs' xs ys → Disjoint (rings_of b.rings ys)
   rebuilt-call-disjoint edition given b bs' ys a = let w = rebuilt-by a in subst Disjoint (sym w.held) (rebuilt-disjoint given w.rings w.rule)
 
-  pub rebuilt-call-either-order : (edition : ℕ) (given given' : List Float) (b b' : TurnStock) (bs₁ bs₂ ys ys' : List Float) → Permᴰ (rings_of (length given / 4) given) (rings_of (length given' / 4) given') → Rebuilds spec edition cs (parts_of spec cs (length bs) given xs) (rebuilt.Stock b) bs bs₁ xs ys
-      → Rebuilds spec edition cs (parts_of spec cs (length bs) given' xs) (rebuilt.Stock b') bs bs₂ xs ys' → (z r : Float) → covered (rings_of b.rings ys) z r ≡ covered (rings_of b'.rings ys') z r
+  pub rebuilt-call-either-order : (edition : ℕ) (given given' : List Float) (b b' : TurnStock) (bs₁ bs₂ ys ys' : List Float) → Permᴰ (rings_of (length given / 4) given) (rings_of (length given' / 4) given') → Rebuilds spec edition cs (parts_of spec cs (length bs) given xs) (Ok b) bs bs₁ xs ys
+      → Rebuilds spec edition cs (parts_of spec cs (length bs) given' xs) (Ok b') bs bs₂ xs ys' → (z r : Float) → covered (rings_of b.rings ys) z r ≡ covered (rings_of b'.rings ys') z r
   rebuilt-call-either-order edition given given' b b' bs₁ bs₂ ys ys' d a a' z r =
       let w = rebuilt-by a in
       let w' = rebuilt-by a' in

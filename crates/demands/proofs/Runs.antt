@@ -1,12 +1,14 @@
 -- The third demand over other runs of calls: over records, over commits that ask nothing again, and over calls whose answers are not known beforehand. Each is a run of
 -- `Ran`, so every law of proofs/Calls is of it too. Assumes nothing.
+use Rattle.std.specs.Prelude.{Ok, Result}
 use mathlib.Core.Path.{◌≡◌, refl, sym, ap, ap₂, ◌∙◌, subst}
 use mathlib.Core.Bool.{true}
 use mathlib.Core.List.{List, [], ◌∷◌, ◌++◌, Permᴰ}
-use Prim.Native.Nat.{ℕ, suc, ◌+◌, ◌*◌, ◌≤◌, ◌<◌, min}
+use Prim.Native.Nat.{ℕ, ◌+◌, ◌*◌, ◌≤◌, ◌<◌, min}
+use Rattle.refusals.specs.declared.Refused.{Refused}
+use Rattle.refusals.specs.Number.{paper_of, placed_of}
+use Rattle.refusals.specs.declared.Refusal.{Refusal}
 use native.Mathlib.Omega.{arith}
-use borrow.Author.Tests.{le-leb}
-use lib.Dec.{leb}
 use lib.ListN.{length, take, drop, replicate, length-replicate}
 use lib.Ieee.{Float}
 use Rattle.refusals.specs.Lent.{over}
@@ -22,19 +24,15 @@ use Rattle.stock.specs.Cell.{cell_at, stock_of}
 use Rattle.stock.proofs.Count.{no_answer, same_answer, stocked}
 use Rattle.stock.proofs.Bins.{HeldSpec, HeldList}
 use Rattle.reach.specs.Reach.{act_cell}
-use Rattle.changes.specs.declared.Previewed.{Previewed}
 use Rattle.stock.specs.declared.TurnStock.{TurnStock}
 use Rattle.stock.specs.declared.Stamp.{Stamp}
 use Rattle.stock.specs.Spec.{clean_spec, cells_of}
 use Rattle.stock.specs.Stock.{stamp_of, stock_from, stock_with}
 use Rattle.changes.specs.declared.ChangeList.{ChangeList}
-use Rattle.changes.specs.declared.Previewed.TheVariants.{Listed}
-use Rattle.changes.specs.Change.{changes_from, changes_to, room_of, settled, previewed_paper, stamped, count_of, written_of, indices_of, numbers_of, Proposed}
+use Rattle.changes.specs.Change.{changes_from, changes_to, room_of, settled, stamped, count_of, written_of, indices_of, numbers_of, Proposed}
 use Rattle.changes.proofs.Proposals.{listed, of-stock, same-listing}
-use Rattle.changes.specs.declared.Applied.{Applied}
-use Rattle.changes.specs.declared.Applied.TheVariants.{Stock}
 use Rattle.changes.proofs.Accepted.{commit-accepts, put-good}
-use Rattle.changes.specs.Commit.{Committed, put_all, commit_in, asked_stock, commit_of, own_commit, commit_held, apply_of, applied_paper, generation_of, stock_at, cells_after, Applies, numbers_kept, kept_after, AppliesKept}
+use Rattle.changes.specs.Commit.{Committed, put_all, commit_in, asked_stock, commit_of, own_commit, commit_held, apply_of, generation_of, stock_at, cells_after, Applies, numbers_kept, kept_after, AppliesKept}
 use Rattle.changes.proofs.Stamped.{Matching, own-commit}
 use Rattle.cuts.specs.Preview.{proposed}
 use Rattle.changes.proofs.Proposal.{wrote, room-kept, held-is, lent_is, lent-accepts, act-cuts}
@@ -77,22 +75,22 @@ module _ (spec : TurnStockSpec) (edition rings : ℕ) where
   abbrev list_at : ℕ → ℕ → ChangeList
   list_at gen c = record { count = c; stamp = stamp_of edition gen }
 
-  applied-as : (p : Paper Committed) (gen : ℕ) (k : Committed) (cs : List Float) → p ≡ answers k → Applies (stock gen) p (Stock (stock k.generation)) cs k.cells
+  applied-as : (p : Paper Committed) (gen : ℕ) (k : Committed) (cs : List Float) → p ≡ answers k → Applies (stock gen) p (Ok (stock k.generation)) cs k.cells
   applied-as p gen k cs e = record { answer = ap (λ (q : Paper Committed). stock_at (stock gen) (generation_of q)) (sym e); cells = ap (λ (q : Paper Committed). cells_after q cs) (sym e) }
 
   -- the same with its kept numbers
-  applied-kept : (p : Paper Committed) (gen : ℕ) (k : Committed) (cs bs : List Float) → p ≡ answers k → AppliesKept (stock gen) p (Stock (stock k.generation)) cs k.cells bs (numbers_kept spec k.cells)
+  applied-kept : (p : Paper Committed) (gen : ℕ) (k : Committed) (cs bs : List Float) → p ≡ answers k → AppliesKept (stock gen) p (Ok (stock k.generation)) cs k.cells bs (numbers_kept spec k.cells)
   applied-kept p gen k cs bs e = record { left = applied-as p gen k cs e; kept = ap (λ (q : Paper Committed). kept_after (stock gen) q bs) (sym e) }
 
   -- a commit that answered
-  applied-is : (p : Paper Committed) (gen g : ℕ) (cs cs' : List Float) → Applies (stock gen) p (Stock (stock g)) cs cs' → p ≡ answers (record { cells = cs'; generation = g })
+  applied-is : (p : Paper Committed) (gen g : ℕ) (cs cs' : List Float) → Applies (stock gen) p (Ok (stock g)) cs cs' → p ≡ answers (record { cells = cs'; generation = g })
   applied-is (answers k) gen g cs cs' a = λ i. answers (record { cells = sym a.cells i; generation = sym (ap (λ (x : TurnStock). x.stamp.generation) (same_answer a.answer)) i })
   applied-is (refuses n) gen g cs cs' a = absurd (no_answer n (stock g) (sym a.answer))
 
 -- a preview by its rule, into lists made for it: it is the call that proposes the changes, and that settles them
 record Lists (spec : TurnStockSpec) (edition : ℕ) (t : Cutter) (cs : List Float) (gen room : ℕ) (changes : List TurnChange) : Type 0 where
-  previewed : Proposed (stamp_of edition gen) (cutter_preview spec t cs (room_of (length (indices room)) (length (numbers room)))) (Listed (record { count = length changes; stamp = stamp_of edition gen })) (indices room) (over (indices_of changes) (indices room)) (numbers room) (over (numbers_of changes) (numbers room))
-  settles : Proposed (stamp_of edition gen) (settled (room_of (length (indices room)) (length (numbers room))) changes) (Listed (record { count = length changes; stamp = stamp_of edition gen })) (indices room) (over (indices_of changes) (indices room)) (numbers room) (over (numbers_of changes) (numbers room))
+  previewed : Proposed (stamp_of edition gen) (cutter_preview spec t cs (room_of (length (indices room)) (length (numbers room)))) (Ok (record { count = length changes; stamp = stamp_of edition gen })) (indices room) (over (indices_of changes) (indices room)) (numbers room) (over (numbers_of changes) (numbers room))
+  settles : Proposed (stamp_of edition gen) (settled (room_of (length (indices room)) (length (numbers room))) changes) (Ok (record { count = length changes; stamp = stamp_of edition gen })) (indices room) (over (indices_of changes) (indices room)) (numbers room) (over (numbers_of changes) (numbers room))
 
 lists : (spec : TurnStockSpec) (edition : ℕ) (t : Cutter) (cs : List Float) (gen room : ℕ) (changes : List TurnChange) → cutter_preview spec t cs room ≡ answers changes → Lists spec edition t cs gen room changes
 lists spec edition t cs gen room changes e =
@@ -114,8 +112,8 @@ record TwoCalls (spec : TurnStockSpec) (edition rings : ℕ) (t : Cutter) (cs bs
   second : List Float
   second_left : List Float
   space : room_of (length first) (length second) ≡ room
-  previewed : Proposed (stamp_of edition gen) (cutter_preview spec t cs (room_of (length first) (length second))) (Listed list) first first_left second second_left
-  committed : AppliesKept (stock_from spec edition rings gen) (apply_of (stock_from spec edition rings gen) cs bs list first_left second_left) (Stock (stock_from spec edition rings k.generation)) cs k.cells bs (numbers_kept spec k.cells)
+  previewed : Proposed (stamp_of edition gen) (cutter_preview spec t cs (room_of (length first) (length second))) (Ok list) first first_left second second_left
+  committed : AppliesKept (stock_from spec edition rings gen) (apply_of (stock_from spec edition rings gen) cs bs list first_left second_left) (Ok (stock_from spec edition rings k.generation)) cs k.cells bs (numbers_kept spec k.cells)
 
 two-calls : (spec : TurnStockSpec) (edition rings : ℕ) (t : Cutter) (cs bs : List Float) → Matching spec cs bs → (gen room : ℕ) (changes : List TurnChange) (k : Committed) → cutter_preview spec t cs room ≡ answers changes → own_commit spec cs gen changes ≡ answers k → TwoCalls spec edition rings t cs bs gen room k
 two-calls spec edition rings t cs bs m gen room changes k e f =
@@ -158,7 +156,7 @@ record Holds (st : Stamp) (p : Paper (List TurnChange)) (list : ChangeList) (rs 
   stamp : list.stamp ≡ st
   records : take list.count rs' ≡ changes
 
-holds : (st : Stamp) (p : Paper (List TurnChange)) (list : ChangeList) (rs rs' : List TurnChange) → Written st p (Listed list) rs rs' → Holds st p list rs rs'
+holds : (st : Stamp) (p : Paper (List TurnChange)) (list : ChangeList) (rs rs' : List TurnChange) → Written st p (Ok list) rs rs' → Holds st p list rs rs'
 holds st (refuses n) list rs rs' w = absurd (no_answer n list (sym w.answer))
 holds st (answers l) list rs rs' w =
     let e : list ≡ record { count = length l; stamp = st } = same_answer w.answer in
@@ -186,12 +184,12 @@ record Asked (spec : TurnStockSpec) (st : Stamp) (cs : List Float) (list : Chang
   stamp : list.stamp ≡ st
   room : list.count ≤ room_of (length is') (length xs')
 
-asked : (spec : TurnStockSpec) (st : Stamp) (t : Cutter) (cs : List Float) (list : ChangeList) (is is' : List ℕ) (xs xs' : List Float) → Proposed st (cutter_preview spec t cs (room_of (length is) (length xs))) (Listed list) is is' xs xs' → Asked spec st cs list is' xs'
+asked : (spec : TurnStockSpec) (st : Stamp) (t : Cutter) (cs : List Float) (list : ChangeList) (is is' : List ℕ) (xs xs' : List Float) → Proposed st (cutter_preview spec t cs (room_of (length is) (length xs))) (Ok list) is is' xs xs' → Asked spec st cs list is' xs'
 asked spec st t cs list is is' xs xs' p =
     let room = room_of (length is) (length xs) in
     let y = answered st (cutter_preview spec t cs room) list p.answer in
     let q = preview-is spec t cs room y.0 y.1 in
-    let o = of-stock st (settled room y.0) list is is' xs xs' (same-listing st (settled room y.0) (cutter_preview spec t cs room) (Listed list) is is' xs xs' (preview-settled spec t cs room y.0 y.1 ∙ sym y.1) p) in
+    let o = of-stock st (settled room y.0) list is is' xs xs' (same-listing st (settled room y.0) (cutter_preview spec t cs room) (Ok list) is is' xs xs' (preview-settled spec t cs room y.0 y.1 ∙ sym y.1) p) in
     let w = wrote y.0 list.count is is' xs xs' o.tally in
     record { bins = q.0; counted = q.1; stamp = o.stamp; room = rw (w.count, w.indices, w.numbers) (room-kept y.0 is xs w.room) }
 
@@ -229,27 +227,27 @@ unasked-ran {spec} {edition} {rings} {n} hs ht b (unasked-cut {t} {l} {cs} {cs'}
     let stock = stock_from spec edition rings gen in
     let bs = numbers_kept spec cs in
     let f = unasked-is spec edition rings gen n cs bs (own-matching hs b) list is' xs' (good-stock b) w.stamp w.room in
-    let c = same_outcome stock (apply_of stock cs bs list is' xs') (commit_held (clean_spec spec) n cs gen is' xs' list.count) (Stock (stock_from spec edition rings g)) cs cs' f a in
+    let c = same_outcome stock (apply_of stock cs bs list is' xs') (commit_held (clean_spec spec) n cs gen is' xs' list.count) (Ok (stock_from spec edition rings g)) cs cs' f a in
     let v = called hs t ht.0 bs b gen g list is is' xs xs' p c in
     cut {bs = bs} {bs' = kept_after stock (apply_of stock cs bs list is' xs') bs} p (record { left = c; kept = refl }) (unasked-ran hs ht.1 v.good r)
 
 -- ---- calls whose answers are not known beforehand: none is refused
 
 -- A PREVIEW IS ACCEPTED: whatever meets its promise, with room for every cell and the cut in its domain.
-pub preview-call-accepted : (st : Stamp) (spec : TurnStockSpec) (n : ℕ) (t : Cutter) (cs : List Float) (r : Previewed) (is is' : List ℕ) (xs xs' : List Float) → stock_of spec cs ≡ answers n → n ≤ room_of (length is) (length xs) → cutter_good t ≡ true
-    → Proposed st (cutter_preview spec t cs (room_of (length is) (length xs))) r is is' xs xs' → previewed_paper r ≡ answers (record { count = length (changes_to (act_cell (cutter_act spec t)) cs n); stamp = st })
+pub preview-call-accepted : (st : Stamp) (spec : TurnStockSpec) (n : ℕ) (t : Cutter) (cs : List Float) (r : Result ChangeList Refusal) (is is' : List ℕ) (xs xs' : List Float) → stock_of spec cs ≡ answers n → n ≤ room_of (length is) (length xs) → cutter_good t ≡ true
+    → Proposed st (cutter_preview spec t cs (room_of (length is) (length xs))) r is is' xs xs' → paper_of r ≡ answers (record { count = length (changes_to (act_cell (cutter_act spec t)) cs n); stamp = st })
 preview-call-accepted st spec n t cs r is is' xs xs' e h g p = p.answer ∙ ap (λ (q : Paper (List TurnChange)). stamped st (count_of q)) (good-accepted spec n t cs (room_of (length is) (length xs)) e h g)
 
 -- A COMMIT IS ACCEPTED: whatever meets its promise, of what a preview of the same stock left in the lists, with kept numbers that match, while generations last.
-pub commit-call-accepted : (k : TurnStock) (n : ℕ) (t : Cutter) → HeldSpec k.spec → HeldCutter t → (cs cs' bs : List Float) → Matching k.spec cs bs → Good k.spec n cs → (list : ChangeList) (r : Applied) (is is' : List ℕ) (xs xs' : List Float) → k.stamp.generation < last_generation
-    → Proposed k.stamp (cutter_preview k.spec t cs (room_of (length is) (length xs))) (Listed list) is is' xs xs' → Applies k (apply_of k cs bs list is' xs') r cs cs' → applied_paper r ≡ answers (stock_with k k.rings (k.stamp.generation + 1))
+pub commit-call-accepted : (k : TurnStock) (n : ℕ) (t : Cutter) → HeldSpec k.spec → HeldCutter t → (cs cs' bs : List Float) → Matching k.spec cs bs → Good k.spec n cs → (list : ChangeList) (r : Result TurnStock Refused) (is is' : List ℕ) (xs xs' : List Float) → k.stamp.generation < last_generation
+    → Proposed k.stamp (cutter_preview k.spec t cs (room_of (length is) (length xs))) (Ok list) is is' xs xs' → Applies k (apply_of k cs bs list is' xs') r cs cs' → placed_of r ≡ answers (stock_with k k.rings (k.stamp.generation + 1))
 commit-call-accepted k n t hs ht cs cs' bs m b list r is is' xs xs' h p a =
     let spec = k.spec in
     let room = room_of (length is) (length xs) in
     let y = answered k.stamp (cutter_preview spec t cs room) list p.answer in
     let s = tool-sound spec n hs b.count t ht (accepted-good spec t cs room y.0 y.1) in
     let act = cutter_act spec t in
-    let q = same-listing k.stamp (proposed act cs room n) (cutter_preview spec t cs room) (Listed list) is is' xs xs' (sym (s.rule cs room (good-stock b))) p in
+    let q = same-listing k.stamp (proposed act cs room n) (cutter_preview spec t cs room) (Ok list) is is' xs xs' (sym (s.rule cs room (good-stock b))) p in
     a.answer ∙ ap (λ (x : Paper Committed). stock_at k (generation_of x)) (lent-accepts k bs m b (act_cell act) (act-cuts b act s.plain) list is is' xs xs' h q)
 
 -- WHATEVER IS CALLED IS ACCEPTED, cut after cut: on a stock that is not refused, from kept numbers that match it, with cuts in their domain, room for every cell and generations to spare. So it is a run.
@@ -304,7 +302,7 @@ more-runs spec edition rings n room t l cs mt gen changes k s h e f r =
       ran = cut w.previewed w.committed r.ran;
       tried = made (subst (λ (x : ℕ). n ≤ x) (sym w.space) h) w.previewed w.committed r.tried;
       unasked = unasked-cut w.previewed
-          (same_outcome stock (commit_held (clean_spec spec) n cs gen is' xs' w.list.count) (apply_of stock cs bs w.list is' xs') (Stock (stock_from spec edition rings k.generation)) cs k.cells
+          (same_outcome stock (commit_held (clean_spec spec) n cs gen is' xs' w.list.count) (apply_of stock cs bs w.list is' xs') (Ok (stock_from spec edition rings k.generation)) cs k.cells
           (sym (unasked-is spec edition rings gen n cs bs mt w.list is' xs' s q.stamp q.room)) w.committed.left)
           r.unasked;
       records = records-cut {list = list} {rs = rs} {rs' = over changes rs}

@@ -13,6 +13,7 @@
 -- - A change count that does not equal the records written: `preview-writes` here. Edits: `every_bin_counted` of this crate, `equal_cells_counted` of crate `changes`.
 -- Of the chords of a profile (`segments`), the laws of crate `profile`: `chords-join`, `chords-ends`, `chords-within`, `chords-finite`, `chords-count` (`proofs/Laws`), `line-sag` (`proofs/Lines`),
 -- and `chords-cut` in `Arcs`. Edits of crate `profile`: `second_half_with_the_whole_bulge`, `refused_call_wrote`.
+use Rattle.std.specs.Prelude.{Ok}
 use mathlib.Core.Path.{◌≡◌, refl, sym, ap, ◌∙◌, subst}
 use mathlib.Core.Bool.{true, false, ◌||◌}
 use mathlib.Core.List.{List, map}
@@ -32,17 +33,15 @@ use Rattle.stock.specs.Spec.{clean_spec}
 use Rattle.stock.specs.Cell.{cell_at, stock_of}
 use Rattle.stock.specs.declared.TurnStock.{TurnStock}
 use Rattle.stock.specs.declared.Stamp.{Stamp}
-use Rattle.stock.specs.Stock.{same_stamp, stock_with}
+use Rattle.stock.specs.Stock.{stock_with}
 use Rattle.changes.specs.declared.ChangeList.{ChangeList}
 use Rattle.stock.proofs.Count.{demanded, no_answer, same_answer, stocked}
 use Rattle.stock.proofs.Bins.{HeldSpec, HeldList}
 use Rattle.stock.proofs.Stamps.{stamps-agree}
 use Rattle.reach.specs.Reach.{act_cell}
-use Rattle.changes.specs.declared.Previewed.TheVariants.{Listed}
-use Rattle.changes.specs.Change.{changes_to, changes_from, indices_of, numbers_of, room_of, stamped, count_of, Proposed}
+use Rattle.changes.specs.Change.{changes_to, changes_from, indices_of, numbers_of, room_of, Proposed}
 use Rattle.changes.proofs.ReadBack.{read_back}
 use Rattle.cuts.specs.Preview.{preview_of, preview_cut}
-use Rattle.changes.specs.declared.Applied.TheVariants as commit
 use Rattle.changes.specs.Commit.{Committed, put_all, commit_in, asked_stock, apply_of, generation_of, stock_at, cells_after, Applies}
 use Rattle.changes.specs.Difference.{other_cell, difference_of}
 use Rattle.changes.proofs.Stamped.{Matching}
@@ -54,7 +53,6 @@ use Rattle.changes.proofs.Becomes.{difference-is}
 use Rattle.rings.specs.declared.Ring.{Ring}
 use Rattle.rings.specs.Ring.{covered, clip}
 use Rattle.rings.specs.Store.{bar_ring, rings_of}
-use Rattle.moves.specs.declared.Moved.TheVariants.{Stock}
 use Rattle.moves.specs.Move.{Left, generation_after, move_of, Moves}
 use Rattle.moves.proofs.Answered.{answered}
 use Rattle.moves.proofs.Accepted.{taken}
@@ -113,7 +111,7 @@ record Read (st : Stamp) (p : Paper (List TurnChange)) (list : ChangeList) (is i
   indices : is' ≡ over (indices_of changes) is
   numbers : xs' ≡ over (numbers_of changes) xs
 
-read : {st : Stamp} {list : ChangeList} {is is' : List ℕ} {xs xs' : List Float} (p : Paper (List TurnChange)) → Proposed st p (Listed list) is is' xs xs' → Read st p list is is' xs xs'
+read : {st : Stamp} {list : ChangeList} {is is' : List ℕ} {xs xs' : List Float} (p : Paper (List TurnChange)) → Proposed st p (Ok list) is is' xs xs' → Read st p list is is' xs xs'
 read {st} {list} (refuses n) h = absurd (no_answer n list (sym h.answer))
 read {st} {list} {is} {is'} {xs} {xs'} (answers l) h =
     let v : list ≡ record { count = length l; stamp = st } = same_answer h.answer in
@@ -123,7 +121,7 @@ read {st} {list} {is} {is'} {xs} {xs'} (answers l) h =
     record { changes = l; answer = refl; stamp = ap (λ (y : ChangeList). y.stamp) v; count = e; records = (λ j. changes_from (i j) (x j) (e j)) ∙ read_back l is xs; indices = i; numbers = x }
 
 -- WHAT IT WRITES: a preview that answers a list leaves as many records as it counts, and those are the changes of the cut; the rest of the lists is as it was. The list has the stamp of the stock that was previewed.
-pub preview-writes : (k : TurnStock) (t : Cutter) (cs : List Float) (list : ChangeList) (is is' : List ℕ) (xs xs' : List Float) → Proposed k.stamp (cutter_preview k.spec t cs (room_of (length is) (length xs))) (Listed list) is is' xs xs'
+pub preview-writes : (k : TurnStock) (t : Cutter) (cs : List Float) (list : ChangeList) (is is' : List ℕ) (xs xs' : List Float) → Proposed k.stamp (cutter_preview k.spec t cs (room_of (length is) (length xs))) (Ok list) is is' xs xs'
     → Previews k.spec t cs list.count is is' xs xs' × (list.stamp ≡ k.stamp)
 preview-writes k t cs list is is' xs xs' h =
     let room = room_of (length is) (length xs) in
@@ -163,7 +161,7 @@ commit-writes k cs bs list is xs m h =
     )
 
 -- the same of the call: what it leaves in the lent cells, and the stock that it answers, whose edition and rings are as they were
-pub commit-call-writes : (k k' : TurnStock) (cs cs' bs : List Float) (list : ChangeList) (is : List ℕ) (xs : List Float) → Applies k (apply_of k cs bs list is xs) (commit.Stock k') cs cs'
+pub commit-call-writes : (k k' : TurnStock) (cs cs' bs : List Float) (list : ChangeList) (is : List ℕ) (xs : List Float) → Applies k (apply_of k cs bs list is xs) (Ok k') cs cs'
     → Writes (changes_from is xs list.count) cs cs' × (k' ≡ stock_with k k.rings (k.stamp.generation + 1)) × (list.stamp ≡ k.stamp)
 commit-call-writes k k' cs cs' bs list is xs a = go (apply_of k cs bs list is xs) refl a.answer a.cells
   where
@@ -176,7 +174,7 @@ commit-call-writes k k' cs cs' bs list is xs a = go (apply_of k cs bs list is xs
 
 -- PREVIEWS ALWAYS COMMIT: what a preview left in the lists, a commit of its list to the same stock accepts while generations last, with kept numbers that match the cells; each cell is then what the cut makes of it.
 pub previews-commit : (k : TurnStock) (n : ℕ) (t : Cutter) → HeldSpec k.spec → HeldCutter t → (cs bs : List Float) → HeldList cs → Matching k.spec cs bs → stock_of k.spec cs ≡ answers n
-    → (list : ChangeList) (is is' : List ℕ) (xs xs' : List Float) → k.stamp.generation < last_generation → Proposed k.stamp (cutter_preview k.spec t cs (room_of (length is) (length xs))) (Listed list) is is' xs xs'
+    → (list : ChangeList) (is is' : List ℕ) (xs xs' : List Float) → k.stamp.generation < last_generation → Proposed k.stamp (cutter_preview k.spec t cs (room_of (length is) (length xs))) (Ok list) is is' xs xs'
     → (m : Committed) × (apply_of k cs bs list is' xs' ≡ answers m) × (m.generation ≡ k.stamp.generation + 1) × ((i : ℕ) → i < n → cell_at m.cells i ≡ act_cell (cutter_act k.spec t) i (cell_at cs i))
 previews-commit k n t hs ht cs bs hc m e list is is' xs xs' h p =
     let spec = k.spec in
@@ -199,7 +197,7 @@ move-writes k cs bs xs list is ys removed a h =
     (subst (Writes (changes_from is ys list.count) cs) (sym t.cells) (changes-written k.spec cs t.bins (changes_from is ys list.count) t.counted t.pass), moved-covers k cs bs xs list is ys removed a h, t.rises)
 
 -- the same of the call: what it leaves in the lent cells and rings, and the stock that it answers, whose edition is as it was
-pub move-call-writes : (k k' : TurnStock) (cs cs' bs xs xs' : List Float) (list : ChangeList) (is : List ℕ) (ys : List Float) (removed : List Float) → Moves k (move_of k cs bs xs list is ys removed) (Stock k') cs cs' xs xs'
+pub move-call-writes : (k k' : TurnStock) (cs cs' bs xs xs' : List Float) (list : ChangeList) (is : List ℕ) (ys : List Float) (removed : List Float) → Moves k (move_of k cs bs xs list is ys removed) (Ok k') cs cs' xs xs'
     → Writes (changes_from is ys list.count) cs cs' × ((z r : Float) → covered (rings_of k'.rings xs') z r ≡ (covered (rings_of k.rings xs) z r || covered (map (clip (bar_ring (clean_spec k.spec))) (rings_of (length removed / 4) removed)) z r))
     × (k' ≡ stock_with k k'.rings (generation_after k.spec k.stamp.generation removed))
 move-call-writes k k' cs cs' bs xs xs' list is ys removed m =

@@ -1,4 +1,5 @@
 -- TWO STOCKS SIDE BY SIDE: what `side_by_side::compare` and `side_by_side::chunk` write is a report of every difference, and of nothing else. A store passes refusal 4's test where its file was read. Assumes nothing.
+use Rattle.std.specs.Prelude.{Result}
 use Prim.Native.Nat.{ℕ, ◌+◌}
 use mathlib.Core.Path.{◌≡◌, refl, sym, ap, ap₂, ◌∙◌}
 use mathlib.Core.Bool.{Bool, true, false, not, ◌&&◌, ◌||◌, false≢true}
@@ -7,6 +8,8 @@ use lib.Dec.{T, ltb}
 use lib.Ieee.{Float, lt, le, is_nan}
 use lib.Ieee.Bits.{is_true}
 use lib.Ieee.Fits.{and_i, and_l, and_r}
+use Rattle.refusals.specs.declared.Refused.{Refused}
+use Rattle.refusals.specs.Number.{placed_of}
 use Rattle.refusals.specs.Paper.{Paper, Reason, answers, refuses}
 use Rattle.floats.specs.Pick.{pick}
 use Rattle.floats.specs.Numbers.{least_of, greatest_of, clean_of}
@@ -30,7 +33,6 @@ use Rattle.changes.specs.Difference.{other_cell, difference_of}
 use Rattle.changes.proofs.Becomes.{difference-is}
 use Rattle.lines.specs.File.{joined}
 use Rattle.stock_file.specs.declared.Kept.{Kept}
-use Rattle.stock_file.specs.Read.{Stocked, kept_paper}
 use Rattle.stock_file.specs.InParts.{Finished}
 use Rattle.stock_file.proofs.Cut.{however-cut}
 use Rattle.side_by_side.specs.Compared.{Side, cell_text, bin_text, bin_texts, left_all, ring_texts, both_in_hand, chunks_of, compared_of}
@@ -98,19 +100,19 @@ compared-hand-turned a b = written.in-hand-turned a b
 
 -- THE ORDER of two files, of whatever forms and editions: the first's refusal, whatever the second is; then the second's; then 24 and 11 (`compare-exactly`, proofs/First)
 pub first-refused : (f g : Told) (r : Reason) → f.tells ≡ refuses r → files_text f g ≡ file_refused 1 (refuses r)
-first-refused f g r e = ap (λ (p : Paper Stocked). first_text p f g) e
+first-refused f g r e = ap (λ (p : Paper Kept). first_text p f g) e
 
-pub second-refused : (f g : Told) (k : Stocked) (r : Reason) → f.tells ≡ answers k → g.tells ≡ refuses r → files_text f g ≡ file_refused 2 (refuses r)
-second-refused f g k r e h = ap (λ (p : Paper Stocked). first_text p f g) e ∙ ap (λ (p : Paper Stocked). second_text k f p g) h
+pub second-refused : (f g : Told) (k : Kept) (r : Reason) → f.tells ≡ answers k → g.tells ≡ refuses r → files_text f g ≡ file_refused 2 (refuses r)
+second-refused f g k r e h = ap (λ (p : Paper Kept). first_text p f g) e ∙ ap (λ (p : Paper Kept). second_text k f p g) h
 
-pub both_told : (f g : Told) (k j : Stocked) → f.tells ≡ answers k → g.tells ≡ answers j → files_text f g ≡ compared_text (compared_of k.stock.spec (side_of k f) j.stock.spec (side_of j g))
-both_told f g k j e h = ap (λ (p : Paper Stocked). first_text p f g) e ∙ ap (λ (p : Paper Stocked). second_text k f p g) h
+pub both_told : (f g : Told) (k j : Kept) → f.tells ≡ answers k → g.tells ≡ answers j → files_text f g ≡ compared_text (compared_of k.stock.spec (side_of k f) j.stock.spec (side_of j g))
+both_told f g k j e h = ap (λ (p : Paper Kept). first_text p f g) e ∙ ap (λ (p : Paper Kept). second_text k f p g) h
 
-told_same : {p q : Paper Stocked} {a b c d : List Float} → p ≡ q → a ≡ b → c ≡ d → ◌≡◌ {A = Told} (record { tells = p; cells = a; rings = c }) (record { tells = q; cells = b; rings = d })
+told_same : {p q : Paper Kept} {a b c d : List Float} → p ≡ q → a ≡ b → c ≡ d → ◌≡◌ {A = Told} (record { tells = p; cells = a; rings = c }) (record { tells = q; cells = b; rings = d })
 told_same e f g = λ i. record { tells = e i; cells = f i; rings = g i }
 
 -- HOWEVER CUT: what two files tell and leave in any parts is what the whole files do
-pub compared-however-cut : {most : ℕ} {cs rs : List Float} {ps : List (List ℕ)} {r : Kept} (f : Finished most cs rs ps r) → ◌≡◌ {A = Told} (record { tells = kept_paper r; cells = f.left.job.cells; rings = f.left.job.rings }) (told_of most cs rs (joined ps))
+pub compared-however-cut : {most : ℕ} {cs rs : List Float} {ps : List (List ℕ)} {r : Result Kept Refused} (f : Finished most cs rs ps r) → ◌≡◌ {A = Told} (record { tells = placed_of r; cells = f.left.job.cells; rings = f.left.job.rings }) (told_of most cs rs (joined ps))
 compared-however-cut f =
     let h = however-cut f in
     told_same h.0 h.1 h.2

@@ -1,9 +1,12 @@
 -- A list and the stock that it is of (Req 08): with another stamp it is always refused (`stale-apply`, `stale-commit`, `stale-move`, `stale-records`); generations only rise and the edition is kept
 -- (`history-later`), so that a list whose stock has gone on is refused ever after (`never-again`), until a rebuild. Assumes nothing.
+use Rattle.std.specs.Prelude.{Ok, Result}
 use mathlib.Core.Path.{◌≡◌, refl, sym, ap, ◌∙◌}
 use mathlib.Core.Bool.{Bool, true, false, false≢true}
 use mathlib.Core.List.{List}
 use Prim.Native.Nat.{ℕ, ◌+◌, ◌/◌, ◌≤◌, ◌<◌}
+use Rattle.refusals.specs.Number.{placed_of}
+use Rattle.refusals.specs.declared.Refused.{Refused}
 use native.Mathlib.Omega.{arith}
 use lib.Dec.{leb}
 use lib.ListN.{length}
@@ -21,41 +24,36 @@ use Rattle.stock.proofs.Count.{demanded, no_answer, same_answer}
 use Rattle.stock.proofs.Stamps.{other-generation}
 use Rattle.blocks.specs.Block.{matches_of}
 use Rattle.changes.specs.declared.ChangeList.{ChangeList}
-use Rattle.changes.specs.declared.Applied.{Applied}
-use Rattle.changes.specs.declared.Applied.TheVariants as commit
 use Rattle.changes.specs.Change.{room_of, changes_from}
-use Rattle.changes.specs.Commit.{Committed, pass_all, put_all, commit_in, asked_stock, commit_of, apply_of, applied_paper, generation_of, stock_at, cells_after, kept_after, Applies, AppliesKept}
+use Rattle.changes.specs.Commit.{Committed, pass_all, put_all, commit_in, asked_stock, commit_of, apply_of, generation_of, stock_at, cells_after, kept_after, Applies, AppliesKept}
 use Rattle.changes.proofs.Stamped as stamped
 use Rattle.rings.specs.declared.Ring.{Ring}
-use Rattle.rings.specs.declared.Removed.TheVariants as ring
 use Rattle.rings.specs.Ring.{filled, clip}
 use Rattle.rings.specs.Store.{bar_ring, rings_of, count_fits, bad_ring, raised_by}
 use Rattle.rings.specs.Remove.{RingStore, counts_of, stock_after, remove_ring, Removes}
 use Rattle.rings.specs.Tests.{ring_tests}
 use Rattle.rings.proofs.Taken.{ring-taken}
-use Rattle.moves.specs.declared.Moved.{Moved}
-use Rattle.moves.specs.declared.Moved.TheVariants as move
 use Rattle.moves.specs.Move as moves
-use Rattle.moves.specs.Move.{Left, generation_after, movable_of, rings_moved, taken_of, move_in, move_of, moved_paper, Moves, MovesKept}
+use Rattle.moves.specs.Move.{Left, generation_after, movable_of, rings_moved, taken_of, move_in, move_of, Moves, MovesKept}
 use Rattle.moves.proofs.Answered.{answered}
 use Rattle.moves.proofs.Taking.{taken_in}
 use Rattle.change_slices.specs.Move.{move_list_of}
-use Rattle.demands.specs.History.{Owned, owned, History, nothing-called, committed, committed-records, moved, moved-records, ringed, commit_first, move_first, records_first}
+use Rattle.demands.specs.History.{Owned, History, nothing-called, committed, committed-records, moved, moved-records, ringed, commit_first, move_first, records_first}
 use Rattle.demands.proofs.Rings.{left_by}
 use Rattle.demands.proofs.Second.{commit-call-writes, move-call-writes}
 
 -- ---- another stamp: refused
 
 -- what a refused commit answers and leaves
-pub record StaleCommit (k : TurnStock) (cs : List Float) (r : Applied) (cs' bs bs' : List Float) : Type 0 where
+pub record StaleCommit (k : TurnStock) (cs : List Float) (r : Result TurnStock Refused) (cs' bs bs' : List Float) : Type 0 where
   pub reason : Reason
-  pub answer : applied_paper r ≡ refuses reason
+  pub answer : placed_of r ≡ refuses reason
   -- what is asked of the stock first, or 19
   pub first : commit_first k cs ≡ refuses reason
   pub cells : cs' ≡ cs
   pub blocks : bs' ≡ bs
 
-stale-by : (k : TurnStock) (cs cs' bs bs' : List Float) (p : Paper Committed) (r : Applied) → stamped.Stale k cs p → AppliesKept k p r cs cs' bs bs' → StaleCommit k cs r cs' bs bs'
+stale-by : (k : TurnStock) (cs cs' bs bs' : List Float) (p : Paper Committed) (r : Result TurnStock Refused) → stamped.Stale k cs p → AppliesKept k p r cs cs' bs bs' → StaleCommit k cs r cs' bs bs'
 stale-by k cs cs' bs bs' p r s a = record {
   reason = s.reason;
   answer = a.left.answer ∙ ap (λ (q : Paper Committed). stock_at k (generation_of q)) s.refused;
@@ -65,23 +63,23 @@ stale-by k cs cs' bs bs' p r s a = record {
 }
 
 -- A COMMIT of a list whose edition or generation is not the stock's is refused, with 19 or with one of the numbers that stand before it, and leaves the cells and the kept numbers: whatever they are, and whatever the changes are
-pub stale-apply : (k : TurnStock) (cs cs' bs bs' : List Float) (list : ChangeList) (is : List ℕ) (xs : List Float) (r : Applied) → same_stamp list.stamp k.stamp ≡ false → AppliesKept k (apply_of k cs bs list is xs) r cs cs' bs bs' → StaleCommit k cs r cs' bs bs'
+pub stale-apply : (k : TurnStock) (cs cs' bs bs' : List Float) (list : ChangeList) (is : List ℕ) (xs : List Float) (r : Result TurnStock Refused) → same_stamp list.stamp k.stamp ≡ false → AppliesKept k (apply_of k cs bs list is xs) r cs cs' bs bs' → StaleCommit k cs r cs' bs bs'
 stale-apply k cs cs' bs bs' list is xs r e a = stale-by k cs cs' bs bs' (apply_of k cs bs list is xs) r (stamped.stale-apply k cs bs list is xs e) a
 
 -- the same over records
-pub stale-commit : (k : TurnStock) (cs cs' bs bs' : List Float) (st : Stamp) (l : List TurnChange) (r : Applied) → same_stamp st k.stamp ≡ false → AppliesKept k (commit_of k cs bs st l) r cs cs' bs bs' → StaleCommit k cs r cs' bs bs'
+pub stale-commit : (k : TurnStock) (cs cs' bs bs' : List Float) (st : Stamp) (l : List TurnChange) (r : Result TurnStock Refused) → same_stamp st k.stamp ≡ false → AppliesKept k (commit_of k cs bs st l) r cs cs' bs bs' → StaleCommit k cs r cs' bs bs'
 stale-commit k cs cs' bs bs' st l r e a = stale-by k cs cs' bs bs' (commit_of k cs bs st l) r (stamped.stale-commit k cs bs st l e) a
 
 -- what a refused move answers and leaves
-pub record StaleMove (first : Paper Left) (r : Moved) (cs cs' bs bs' xs xs' : List Float) : Type 0 where
+pub record StaleMove (first : Paper Left) (r : Result TurnStock Refused) (cs cs' bs bs' xs xs' : List Float) : Type 0 where
   pub reason : Reason
-  pub answer : moved_paper r ≡ refuses reason
+  pub answer : placed_of r ≡ refuses reason
   pub before : first ≡ refuses reason
   pub cells : cs' ≡ cs
   pub blocks : bs' ≡ bs
   pub rings : xs' ≡ xs
 
-left_alone : (k : TurnStock) (p first : Paper Left) (r : Moved) (cs cs' bs bs' xs xs' : List Float) (n : Reason) → p ≡ refuses n → first ≡ refuses n → MovesKept k p r cs cs' bs bs' xs xs' → StaleMove first r cs cs' bs bs' xs xs'
+left_alone : (k : TurnStock) (p first : Paper Left) (r : Result TurnStock Refused) (cs cs' bs bs' xs xs' : List Float) (n : Reason) → p ≡ refuses n → first ≡ refuses n → MovesKept k p r cs cs' bs bs' xs xs' → StaleMove first r cs cs' bs bs' xs xs'
 left_alone k p first r cs cs' bs bs' xs xs' n e f a = record {
   reason = n;
   answer = a.left.answer ∙ ap (λ (q : Paper Left). stock_after k (moves.counts_of q)) e;
@@ -124,7 +122,7 @@ movable-stale k n cs bs xs st l removed e = go (count_fits (bar_ring (clean_spec
     go false false f = record { reason = only 4; refused = refl; before = refl }
 
 -- A MOVE of such a list is refused, with 19 or with one of the numbers that stand before it, and leaves the cells, the kept numbers and the rings
-pub stale-move : (k : TurnStock) (cs cs' bs bs' xs xs' : List Float) (list : ChangeList) (is : List ℕ) (ys removed : List Float) (r : Moved) → same_stamp list.stamp k.stamp ≡ false → MovesKept k (move_of k cs bs xs list is ys removed) r cs cs' bs bs' xs xs'
+pub stale-move : (k : TurnStock) (cs cs' bs bs' xs xs' : List Float) (list : ChangeList) (is : List ℕ) (ys removed : List Float) (r : Result TurnStock Refused) → same_stamp list.stamp k.stamp ≡ false → MovesKept k (move_of k cs bs xs list is ys removed) r cs cs' bs bs' xs xs'
     → StaleMove (move_first k cs xs list is ys) r cs cs' bs bs' xs xs'
 unfolding move_of
 stale-move k cs cs' bs bs' xs xs' list is ys removed r e a =
@@ -134,7 +132,7 @@ stale-move k cs cs' bs bs' xs xs' list is ys removed r e a =
     left_alone k (move_of k cs bs xs list is ys removed) (move_first k cs xs list is ys) r cs cs' bs bs' xs xs' s.reason s.refused s.before a
 
 -- the same over records
-pub stale-records : (k : TurnStock) (cs cs' bs bs' xs xs' : List Float) (st : Stamp) (l : List TurnChange) (removed : List Float) (r : Moved) → same_stamp st k.stamp ≡ false → MovesKept k (move_list_of k cs bs xs st l removed) r cs cs' bs bs' xs xs'
+pub stale-records : (k : TurnStock) (cs cs' bs bs' xs xs' : List Float) (st : Stamp) (l : List TurnChange) (removed : List Float) (r : Result TurnStock Refused) → same_stamp st k.stamp ≡ false → MovesKept k (move_list_of k cs bs xs st l removed) r cs cs' bs bs' xs xs'
     → StaleMove (records_first k cs xs) r cs cs' bs bs' xs xs'
 unfolding move_list_of
 stale-records k cs cs' bs bs' xs xs' st l removed r e a =
@@ -158,10 +156,10 @@ later-on : {s t u : TurnStock} → Later s t → Later t u → Later s u
 later-on a b = record { spec = b.spec ∙ a.spec; edition = b.edition ∙ a.edition; rises = let x = a.rises in let y = b.rises in omega arith }
 
 -- a commit raises the generation by 1
-pub apply-later : (s s' : TurnStock) (cs cs' bs : List Float) (list : ChangeList) (is : List ℕ) (xs : List Float) → Applies s (apply_of s cs bs list is xs) (commit.Stock s') cs cs' → s' ≡ stock_with s s.rings (s.stamp.generation + 1)
+pub apply-later : (s s' : TurnStock) (cs cs' bs : List Float) (list : ChangeList) (is : List ℕ) (xs : List Float) → Applies s (apply_of s cs bs list is xs) (Ok s') cs cs' → s' ≡ stock_with s s.rings (s.stamp.generation + 1)
 apply-later s s' cs cs' bs list is xs a = (commit-call-writes s s' cs cs' bs list is xs a).1
 
-pub commit-later : (s s' : TurnStock) (cs cs' bs : List Float) (st : Stamp) (l : List TurnChange) → Applies s (commit_of s cs bs st l) (commit.Stock s') cs cs' → s' ≡ stock_with s s.rings (s.stamp.generation + 1)
+pub commit-later : (s s' : TurnStock) (cs cs' bs : List Float) (st : Stamp) (l : List TurnChange) → Applies s (commit_of s cs bs st l) (Ok s') cs cs' → s' ≡ stock_with s s.rings (s.stamp.generation + 1)
 unfolding commit_of commit_in
 commit-later s s' cs cs' bs st l a = go (commit_of s cs bs st l) refl a.answer
   where
@@ -178,7 +176,7 @@ after-rises : (spec : TurnStockSpec) (g : ℕ) (removed : List Float) → g + 1 
 unfolding generation_after
 after-rises spec g removed = let x = raised_by (bar_ring (clean_spec spec)) (rings_of (length removed / 4) removed) in omega arith
 
-pub records-later : (s s' : TurnStock) (cs cs' bs xs xs' : List Float) (st : Stamp) (l : List TurnChange) (removed : List Float) → Moves s (move_list_of s cs bs xs st l removed) (move.Stock s') cs cs' xs xs'
+pub records-later : (s s' : TurnStock) (cs cs' bs xs xs' : List Float) (st : Stamp) (l : List TurnChange) (removed : List Float) → Moves s (move_list_of s cs bs xs st l removed) (Ok s') cs cs' xs xs'
     → s' ≡ stock_with s s'.rings (generation_after s.spec s.stamp.generation removed)
 unfolding move_list_of
 records-later s s' cs cs' bs xs xs' st l removed a =
@@ -187,7 +185,7 @@ records-later s s' cs cs' bs xs xs' st l removed a =
     t.stock ∙ ap (λ (g : ℕ). stock_with s s'.rings g) (taken_in s w.value cs bs xs st l removed t.left w.then).rises
 
 -- a ring leaves it, or raises it by 1
-ring-later : (s s' : TurnStock) (xs xs' : List Float) {t : ℕ} (q : Ring) → Removes s xs (remove_ring s.spec xs s.rings s.stamp.generation q) (ring_tests s.spec xs s.rings q) (ring.Stock s' t) xs' → Later s s'
+ring-later : (s s' : TurnStock) (xs xs' : List Float) {t : ℕ} (q : Ring) → Removes s xs (remove_ring s.spec xs s.rings s.stamp.generation q) (ring_tests s.spec xs s.rings q) (Ok (record { stock = s'; tests = t })) xs' → Later s s'
 unfolding counts_of onward pick
 ring-later s s' xs xs' q a = go (remove_ring s.spec xs s.rings g q) refl a.answer
   where

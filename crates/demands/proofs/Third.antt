@@ -1,13 +1,16 @@
 -- The third demand: cuts of one side, each previewed and committed in turn, leave the same cells in every order and however often each is made;
 -- cuts of both sides leave the same cell in each bin that one side only reaches. Assumes nothing.
+use Rattle.std.specs.Prelude.{Option, None, Some}
+use Rattle.std.proofs.lemmas.Option.{same_Some}
 use mathlib.Core.Path.{◌≡◌, refl, sym, ap, ◌∙◌, subst}
+use mathlib.Core.HLevel.{Discrete, hedberg}
 use mathlib.Core.Logic.{inl, ∥∥₁_elim}
 use mathlib.Core.List
 use mathlib.Core.List.Permᴰ
 use mathlib.Core.List.{List, [], ◌∷◌, Memᴰ, Permᴰ, Perm}
-use mathlib.Core.Option
 use Prim.Native.Nat.{ℕ, suc, ◌+◌, ◌≤◌, ◌<◌}
 use native.Mathlib.Nat.{ℕ_set}
+use native.Mathlib.Decide.{ℕ_discrete}
 use lib.ListN.{length}
 use lib.Ieee.{Float}
 use Rattle.refusals.specs.Paper.{Paper, Reason, Paper-set, answers}
@@ -96,10 +99,17 @@ committed-set k k' p q = λ i j. record {
   generation = ℕ_set k.generation k'.generation (ap (λ (m : Committed). m.generation) p) (ap (λ (m : Committed). m.generation) q) i j;
 }
 
+-- whether two places are the same is decided
+same_place : Discrete (Option ℕ)
+same_place None None = yes refl
+same_place None (Some k) = no (λ (h : ◌≡◌ {A = Option ℕ} None (Some k)). cc)
+same_place (Some j) None = no (λ (h : ◌≡◌ {A = Option ℕ} (Some j) None). cc)
+same_place (Some j) (Some k) = elim (ℕ_discrete j k) [ yes e ↦ yes (ap Some e) | no d ↦ no (λ h. d (same_Some j k h)) ]
+
 reason-set : IsSet Reason
 reason-set k k' p q = λ i j. record {
   number = ℕ_set k.number k'.number (ap (λ (m : Reason). m.number) p) (ap (λ (m : Reason). m.number) q) i j;
-  place = Option.is_set ℕ_set k.place k'.place (ap (λ (m : Reason). m.place) p) (ap (λ (m : Reason). m.place) q) i j;
+  place = hedberg same_place k.place k'.place (ap (λ (m : Reason). m.place) p) (ap (λ (m : Reason). m.place) q) i j;
 }
 
 -- EVERY ORDER, of cuts of one side, where the second list is known to be some order of the first

@@ -1,9 +1,10 @@
 -- WHICH CHANGE IT WAS (Req 04): a place that is given is in its list (`place-there`), it is the first that offends (`place-first`), and a list that was accepted on one stock is on another accepted or refused with 22 at the first bin that differs (`stale-is-22`). Assumes nothing.
+use Rattle.std.specs.Prelude.{Option, None, Some}
 use mathlib.Core.Path.{◌≡◌, refl, sym, ap, ap₂, ◌∙◌, subst}
 use mathlib.Core.Logic.{◌⊎◌, inl, inr}
 use mathlib.Core.Bool.{Bool, true, false, ◌&&◌, false≢true}
-use mathlib.Core.List.{List, [], ◌∷◌, ◌++◌}
-use mathlib.Core.Option.{Option, none, some, some-injective}
+use mathlib.Core.List.{List, [], ◌∷◌}
+use Rattle.std.proofs.lemmas.Option.{same_Some}
 use Prim.Native.Nat.{ℕ, zero, suc, ◌+◌, ◌/◌, ◌%◌, ◌≤◌, ◌<◌}
 use native.Mathlib.Numerals.{add-one}
 use native.Mathlib.Omega.{arith}
@@ -29,7 +30,7 @@ use Rattle.reach.specs.Reach.{act_cell}
 use Rattle.reach.proofs.Fit.{same_test}
 use Rattle.stock.proofs.Places.{none-some}
 use Rattle.changes.specs.Change.{change_of, change_at, changes_to, indices_of}
-use Rattle.changes.specs.Commit.{only_removes, applies_to, passes, each_from, fall_after, first_fall, pass_all, put_all, Committed, commit_in, commit_of, own_commit}
+use Rattle.changes.specs.Commit.{only_removes, applies_to, passes, each_from, fall_after, first_fall, pass_all, put_all, commit_in, commit_of, own_commit}
 use Rattle.changes.proofs.Stamped.{Matching, own-commit}
 use Rattle.changes.specs.Decide.{rises_after, rises}
 use Rattle.changes.specs.Difference.{other_cell, difference_of}
@@ -124,14 +125,14 @@ record FallsOn (i : ℕ) (l : List TurnChange) (k₀ k : ℕ) : Type 0 where
   rise : rises_after i (take on l) ≡ true
   falls : get_or (indices_of l) on 0 ≤ get_or (i ∷ indices_of l) on 0
 
-falls-on : (k₀ i k : ℕ) (l : List TurnChange) → fall_after k₀ i l ≡ some k → FallsOn i l k₀ k
+falls-on : (k₀ i k : ℕ) (l : List TurnChange) → fall_after k₀ i l ≡ Some k → FallsOn i l k₀ k
 unfolding fall_after pick rises_after
 falls-on k₀ i k [] e = absurd (none-some k e)
 falls-on k₀ i k (c ∷ l) e = go (ltb i c.index) refl e (falls-on (suc k₀) c.index k l)
   where
-    go : (t : Bool) → ltb i c.index ≡ t → pick t (fall_after (suc k₀) c.index l) (some k₀) ≡ some k → (fall_after (suc k₀) c.index l ≡ some k → FallsOn c.index l (suc k₀) k) → FallsOn i (c ∷ l) k₀ k
+    go : (t : Bool) → ltb i c.index ≡ t → pick t (fall_after (suc k₀) c.index l) (Some k₀) ≡ Some k → (fall_after (suc k₀) c.index l ≡ Some k → FallsOn c.index l (suc k₀) k) → FallsOn i (c ∷ l) k₀ k
     go false q f rec =
-        let z : k ≡ k₀ = sym (some-injective k₀ k f) in
+        let z : k ≡ k₀ = sym (same_Some k₀ k f) in
         record { on = 0; is = omega arith; there = omega arith; rise = refl; falls = ltb-false i c.index q }
     go true q f rec =
         let w = rec f in
@@ -143,7 +144,7 @@ falls-on k₀ i k (c ∷ l) e = go (ltb i c.index) refl e (falls-on (suc k₀) c
           falls = w.falls;
         }
 
-first-fall : (l : List TurnChange) (k : ℕ) → first_fall l ≡ some k → FirstFall l k
+first-fall : (l : List TurnChange) (k : ℕ) → first_fall l ≡ Some k → FirstFall l k
 unfolding first_fall rises
 first-fall [] k e = absurd (none-some k e)
 first-fall (c ∷ l) k e = go (falls-on 1 c.index k l e)
@@ -165,16 +166,16 @@ unfolding pass_all demand_none
 place-first s n cs l r h = go (first_fall l) refl h
   where
     go : (o : Option ℕ) → first_fall l ≡ o → demand_none o 7 (each_from s n cs 0 l) ≡ refuses r → PlaceFirst s n cs l r
-    go none e f =
+    go None e f =
         let w = named s n cs 0 l r f in
         let z : 0 + w.place ≡ w.place = omega arith in
         subst (PlaceFirst s n cs l) (sym (w.reason ∙ ap (at w.number) z)) (bad w.first)
-    go (some k) e f = subst (PlaceFirst s n cs l) (same-reason {A = Unit {0}} f) (falls (first-fall l k e))
+    go (Some k) e f = subst (PlaceFirst s n cs l) (same-reason {A = Unit {0}} f) (falls (first-fall l k e))
 
 -- it is a place of the list, and its number is one of the five
 pub record PlaceThere (l : List TurnChange) (r : Reason) : Type 0 where
   pub place : ℕ
-  pub is : r.place ≡ some place
+  pub is : r.place ≡ Some place
   pub there : place < length l
 
 pub place-there : (s : TurnStockSpec) (n : ℕ) (cs : List Float) (l : List TurnChange) (r : Reason) → pass_all s n cs l ≡ refuses r → PlaceThere l r
@@ -189,12 +190,12 @@ place-there s n cs l r h = go (place-first s n cs l r h)
 
 -- ---- rings: 10
 
-all-good : (k : ℕ) (l : List Ring) → bad_from k l ≡ none → all_good l ≡ true
+all-good : (k : ℕ) (l : List Ring) → bad_from k l ≡ None → all_good l ≡ true
 unfolding bad_from all_good pick
 all-good k [] e = refl
 all-good k (q ∷ l) e = go (good_ring q) refl e (all-good (suc k) l)
   where
-    go : (t : Bool) → good_ring q ≡ t → pick t (bad_from (suc k) l) (some k) ≡ none → (bad_from (suc k) l ≡ none → all_good l ≡ true) → (good_ring q && all_good l) ≡ true
+    go : (t : Bool) → good_ring q ≡ t → pick t (bad_from (suc k) l) (Some k) ≡ None → (bad_from (suc k) l ≡ None → all_good l ≡ true) → (good_ring q && all_good l) ≡ true
     go true g f rec = ap (λ (t : Bool). t && all_good l) g ∙ rec f
     go false g f rec = absurd (none-some k (sym f))
 
@@ -203,39 +204,39 @@ record BadAmong (xs : List Float) (n k : ℕ) : Type 0 where
   good : all_good (rings_of k xs) ≡ true
   bad : good_ring (ring_at xs k) ≡ false
 
-no-rings : (xs : List Float) → none ≡ bad_from 0 (rings_of 0 xs)
+no-rings : (xs : List Float) → None ≡ bad_from 0 (rings_of 0 xs)
 unfolding rings_of bad_from
 no-rings xs = refl
 
-bad-among : (xs : List Float) (n k : ℕ) → bad_from 0 (rings_of n xs) ≡ some k → BadAmong xs n k
+bad-among : (xs : List Float) (n k : ℕ) → bad_from 0 (rings_of n xs) ≡ Some k → BadAmong xs n k
 bad-among xs zero k e = absurd (none-some k (no-rings xs ∙ e))
 bad-among xs (suc n) k e = go (bad_from 0 (rings_of n xs)) refl (good_ring (ring_at xs n)) refl (bad-among xs n k)
   where
-    step : first_of (bad_from 0 (rings_of n xs)) (pick (good_ring (ring_at xs n)) none (some n)) ≡ some k
+    step : first_of (bad_from 0 (rings_of n xs)) (pick (good_ring (ring_at xs n)) None (Some n)) ≡ Some k
     step = sym (ap (λ (m : ℕ). bad_from 0 (rings_of m xs)) (sym (add-one n)) ∙ bad-next xs n) ∙ e
 
-    go : (o : Option ℕ) → bad_from 0 (rings_of n xs) ≡ o → (t : Bool) → good_ring (ring_at xs n) ≡ t → (bad_from 0 (rings_of n xs) ≡ some k → BadAmong xs n k) → BadAmong xs (suc n) k
-    go (some j) p t q rec =
-        let w = rec (p ∙ sym (ap (λ (o : Option ℕ). first_of o (pick (good_ring (ring_at xs n)) none (some n))) p) ∙ step) in
+    go : (o : Option ℕ) → bad_from 0 (rings_of n xs) ≡ o → (t : Bool) → good_ring (ring_at xs n) ≡ t → (bad_from 0 (rings_of n xs) ≡ Some k → BadAmong xs n k) → BadAmong xs (suc n) k
+    go (Some j) p t q rec =
+        let w = rec (p ∙ sym (ap (λ (o : Option ℕ). first_of o (pick (good_ring (ring_at xs n)) None (Some n))) p) ∙ step) in
         record { there = let y = w.there in omega arith; good = w.good; bad = w.bad }
-    go none p true q rec = absurd (none-some k (sym (ap₂ first_of p (pick_true (good_ring (ring_at xs n)) none (some n) q)) ∙ step))
-    go none p false q rec =
-        let z : n ≡ k = some-injective n k (sym (ap₂ first_of p (pick-false (good_ring (ring_at xs n)) none (some n) q)) ∙ step) in
+    go None p true q rec = absurd (none-some k (sym (ap₂ first_of p (pick_true (good_ring (ring_at xs n)) None (Some n) q)) ∙ step))
+    go None p false q rec =
+        let z : n ≡ k = same_Some n k (sym (ap₂ first_of p (pick-false (good_ring (ring_at xs n)) None (Some n) q)) ∙ step) in
         subst (BadAmong xs (suc n)) z (record { there = omega arith; good = all-good 0 (rings_of n xs) p; bad = q })
 
 -- THE RINGS OF A MOVE OR OF PARTS: the place is that of the first that is not good, or of the one broken off, length / 4 at most
-pub ring-first : (xs : List Float) (k : ℕ) → bad_ring xs ≡ some k → FirstBadRing xs k
+pub ring-first : (xs : List Float) (k : ℕ) → bad_ring xs ≡ Some k → FirstBadRing xs k
 unfolding bad_ring
 ring-first xs k e = go (bad_from 0 (rings_of (length xs / 4) xs)) refl (eqb (length xs % 4) 0) refl e
   where
-    go : (o : Option ℕ) → bad_from 0 (rings_of (length xs / 4) xs) ≡ o → (t : Bool) → eqb (length xs % 4) 0 ≡ t → first_of (bad_from 0 (rings_of (length xs / 4) xs)) (pick (eqb (length xs % 4) 0) none (some (length xs / 4))) ≡ some k → FirstBadRing xs k
-    go (some j) p t q f =
-        let w = bad-among xs (length xs / 4) k (p ∙ sym (ap (λ (o : Option ℕ). first_of o (pick (eqb (length xs % 4) 0) none (some (length xs / 4)))) p) ∙ f) in
+    go : (o : Option ℕ) → bad_from 0 (rings_of (length xs / 4) xs) ≡ o → (t : Bool) → eqb (length xs % 4) 0 ≡ t → first_of (bad_from 0 (rings_of (length xs / 4) xs)) (pick (eqb (length xs % 4) 0) None (Some (length xs / 4))) ≡ Some k → FirstBadRing xs k
+    go (Some j) p t q f =
+        let w = bad-among xs (length xs / 4) k (p ∙ sym (ap (λ (o : Option ℕ). first_of o (pick (eqb (length xs % 4) 0) None (Some (length xs / 4)))) p) ∙ f) in
         let y = w.there in
         record { there = omega arith; good = w.good; bad = λ _. w.bad; broken = λ a _. omega arith }
-    go none p true q f = absurd (none-some k (sym (ap₂ first_of p (pick_true (eqb (length xs % 4) 0) none (some (length xs / 4)) q)) ∙ f))
-    go none p false q f =
-        let z : length xs / 4 ≡ k = some-injective (length xs / 4) k (sym (ap₂ first_of p (pick-false (eqb (length xs % 4) 0) none (some (length xs / 4)) q)) ∙ f) in
+    go None p true q f = absurd (none-some k (sym (ap₂ first_of p (pick_true (eqb (length xs % 4) 0) None (Some (length xs / 4)) q)) ∙ f))
+    go None p false q f =
+        let z : length xs / 4 ≡ k = same_Some (length xs / 4) k (sym (ap₂ first_of p (pick-false (eqb (length xs % 4) 0) None (Some (length xs / 4)) q)) ∙ f) in
         subst (FirstBadRing xs) z (record { there = omega arith; good = all-good 0 (rings_of (length xs / 4) xs) p; bad = λ h. absurd (omega arith); broken = λ _ b. false≢true (sym q ∙ eq-eqb (length xs % 4) 0 b) })
 
 -- ---- a list that was accepted on one stock, on another
@@ -381,7 +382,7 @@ pub stale-is-22 : (stock : TurnStock) (n : ℕ) (cs ds bs : List Float) → Matc
 unfolding pass_all
 stale-is-22 stock n cs ds bs mt l h st g = go (stale-each (clean_spec stock.spec) n ds 0 l (each_fits (clean_spec stock.spec) n cs 0 l d.1))
   where
-    d : (first_fall l ≡ none) × (each_from (clean_spec stock.spec) n cs 0 l ≡ answers tt)
+    d : (first_fall l ≡ None) × (each_from (clean_spec stock.spec) n cs 0 l ≡ answers tt)
     d = none-demanded (first_fall l) 7 (each_from (clean_spec stock.spec) n cs 0 l) tt h
 
     go : Stale (clean_spec stock.spec) n ds 0 l → (commit_of stock ds bs stock.stamp l ≡ answers (record { cells = put_all ds l; generation = stock.stamp.generation + 1 })) ⊎ ((k : ℕ) × (commit_of stock ds bs stock.stamp l ≡ refuses (at 22 k)) × StaleAt ds l k)
@@ -414,7 +415,7 @@ unfolding changes_to change_at
 all_fit s n f cs fits zero h = tt
 all_fit s n f cs fits (suc k) h = each_append (Fit s n) (changes_to f cs k) (change_at f cs k) (all_fit s n f cs fits k (omega arith)) (one-fits s n k f cs h (fits k h) (same_cell (cell_at cs k) (f k (cell_at cs k))))
 
-whole : (s : TurnStockSpec) (n : ℕ) (ds : List Float) (l : List TurnChange) → first_fall l ≡ none → (p : Paper (Unit {0})) → each_from s n ds 0 l ≡ p → pass_all s n ds l ≡ p
+whole : (s : TurnStockSpec) (n : ℕ) (ds : List Float) (l : List TurnChange) → first_fall l ≡ None → (p : Paper (Unit {0})) → each_from s n ds 0 l ≡ p → pass_all s n ds l ≡ p
 unfolding pass_all
 whole s n ds l f p q = demand_none-none _ _ _ f ∙ q
 
@@ -423,14 +424,14 @@ pub difference-stale : (stock : TurnStock) (cs es ds bs : List Float) → Matchi
 difference-stale stock cs es ds bs mt n room l e first st g =
     let is = difference-is stock.spec cs es n room l first e in
     let fits = stock-fits stock.spec es n (second-stock stock.spec cs es n room l first e) in
-    let none-falls : first_fall l ≡ none = ap first_fall is ∙ rises-none _ (rises-test 0 n (changes_to (other_cell es) cs n) (rising (other_cell es) cs n)) in
+    let none-falls : first_fall l ≡ None = ap first_fall is ∙ rises-none _ (rises-test 0 n (changes_to (other_cell es) cs n) (rising (other_cell es) cs n)) in
     go none-falls (subst (Either (clean_spec stock.spec) n ds 0) (sym is) (either-each (clean_spec stock.spec) n ds 0 (changes_to (other_cell es) cs n) (all_fit (clean_spec stock.spec) n (other_cell es) cs fits n (omega arith))))
   where
-    by : (k : ℕ) → first_fall l ≡ none → (each_from (clean_spec stock.spec) n ds 0 l ≡ refuses (at 22 k)) ⊎ (each_from (clean_spec stock.spec) n ds 0 l ≡ refuses (at 23 k)) → (commit_of stock ds bs stock.stamp l ≡ refuses (at 22 k)) ⊎ (commit_of stock ds bs stock.stamp l ≡ refuses (at 23 k))
+    by : (k : ℕ) → first_fall l ≡ None → (each_from (clean_spec stock.spec) n ds 0 l ≡ refuses (at 22 k)) ⊎ (each_from (clean_spec stock.spec) n ds 0 l ≡ refuses (at 23 k)) → (commit_of stock ds bs stock.stamp l ≡ refuses (at 22 k)) ⊎ (commit_of stock ds bs stock.stamp l ≡ refuses (at 23 k))
     by k f (inl q) = inl (commit-stops stock n ds bs mt l st (at 22 k) (whole (clean_spec stock.spec) n ds l f (refuses (at 22 k)) q))
     by k f (inr q) = inr (commit-stops stock n ds bs mt l st (at 23 k) (whole (clean_spec stock.spec) n ds l f (refuses (at 23 k)) q))
 
-    go : first_fall l ≡ none → Either (clean_spec stock.spec) n ds 0 l → (commit_of stock ds bs stock.stamp l ≡ answers (record { cells = put_all ds l; generation = stock.stamp.generation + 1 })) ⊎ ((k : ℕ) × ((commit_of stock ds bs stock.stamp l ≡ refuses (at 22 k)) ⊎ (commit_of stock ds bs stock.stamp l ≡ refuses (at 23 k))))
+    go : first_fall l ≡ None → Either (clean_spec stock.spec) n ds 0 l → (commit_of stock ds bs stock.stamp l ≡ answers (record { cells = put_all ds l; generation = stock.stamp.generation + 1 })) ⊎ ((k : ℕ) × ((commit_of stock ds bs stock.stamp l ≡ refuses (at 22 k)) ⊎ (commit_of stock ds bs stock.stamp l ≡ refuses (at 23 k))))
     go f (inl q) = inl (commit-goes stock n ds bs mt l st g (whole (clean_spec stock.spec) n ds l f (answers tt) q))
     go f (inr w) = inr (w.0, by w.0 f w.1)
 
@@ -451,10 +452,10 @@ difference-adds stock cs es bs mt n room l hs hc e first g =
     let is = difference-is stock.spec cs es n room l first e in
     let fits = stock-fits stock.spec es n (second-stock stock.spec cs es n room l first e) in
     let b = stock-good hs hc first in
-    let none-falls : first_fall l ≡ none = ap first_fall is ∙ rises-none _ (rises-test 0 n (changes_to (other_cell es) cs n) (rising (other_cell es) cs n)) in
+    let none-falls : first_fall l ≡ None = ap first_fall is ∙ rises-none _ (rises-test 0 n (changes_to (other_cell es) cs n) (rising (other_cell es) cs n)) in
     go none-falls (subst (Adds (clean_spec stock.spec) n cs 0) (sym is) (adds-each (clean_spec stock.spec) n cs 0 (changes_to (other_cell es) cs n) (all_held (clean_spec stock.spec) n (other_cell es) cs fits (λ i p. same_test (clean_spec stock.spec) (cell_at cs i) (b.fit i p)) n (omega arith))))
   where
-    go : first_fall l ≡ none → Adds (clean_spec stock.spec) n cs 0 l → (commit_of stock cs bs stock.stamp l ≡ answers (record { cells = put_all cs l; generation = stock.stamp.generation + 1 })) ⊎ ((k : ℕ) × (commit_of stock cs bs stock.stamp l ≡ refuses (at 23 k)) × AddsAt l k)
+    go : first_fall l ≡ None → Adds (clean_spec stock.spec) n cs 0 l → (commit_of stock cs bs stock.stamp l ≡ answers (record { cells = put_all cs l; generation = stock.stamp.generation + 1 })) ⊎ ((k : ℕ) × (commit_of stock cs bs stock.stamp l ≡ refuses (at 23 k)) × AddsAt l k)
     go f (inl q) = inl (commit-goes stock n cs bs mt l first g (whole (clean_spec stock.spec) n cs l f (answers tt) q))
     go f (inr w) =
         let z : 0 + w.0 ≡ w.0 = omega arith in

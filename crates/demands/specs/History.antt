@@ -1,5 +1,5 @@
 -- What was called of a stock, one call after the other; and a list that is not of the stock as it stands. Assumes nothing.
-use Rattle.std.specs.Prelude.{◌≡◌, List, ℕ, leb, length, Float}
+use Rattle.std.specs.Prelude.{List, ℕ, leb, length, Float, Ok}
 use Rattle.refusals.specs.Paper.{Paper, refuses, only, demand, onward}
 use Rattle.stock.specs.declared.Stamp.{Stamp}
 use Rattle.stock.specs.declared.TurnStock.{TurnStock}
@@ -7,15 +7,12 @@ use Rattle.stock.specs.declared.TurnChange.{TurnChange}
 use Rattle.stock.specs.Spec.{clean_spec}
 use Rattle.stock.specs.Cell.{stock_of}
 use Rattle.changes.specs.declared.ChangeList.{ChangeList}
-use Rattle.changes.specs.declared.Applied.TheVariants as commit
 use Rattle.changes.specs.Change.{room_of}
 use Rattle.changes.specs.Commit.{Committed, commit_of, apply_of, AppliesKept}
 use Rattle.rings.specs.declared.Ring.{Ring}
-use Rattle.rings.specs.declared.Removed.TheVariants as ring
 use Rattle.rings.specs.Store.{bar_ring, count_fits}
 use Rattle.rings.specs.Remove.{remove_ring, Removes}
 use Rattle.rings.specs.Tests.{ring_tests}
-use Rattle.moves.specs.declared.Moved.TheVariants as move
 use Rattle.moves.specs.Move.{Left, move_of, MovesKept}
 use Rattle.change_slices.specs.Move.{move_list_of}
 
@@ -33,13 +30,13 @@ owned k cs bs rs = record { stock = k; cells = cs; blocks = bs; rings = rs }
 -- and left the lent numbers, by its promise. A rebuild is none of them.
 pub data History : Owned → Owned → Type 0 where
   nothing-called : {k : Owned} → History k k
-  committed : {s s' : TurnStock} {cs cs' bs bs' rs : List Float} {m : Owned} (list : ChangeList) (is : List ℕ) (xs : List Float) → AppliesKept s (apply_of s cs bs list is xs) (commit.Stock s') cs cs' bs bs' → History (owned s' cs' bs' rs) m → History (owned s cs bs rs) m
-  committed-records : {s s' : TurnStock} {cs cs' bs bs' rs : List Float} {m : Owned} (st : Stamp) (l : List TurnChange) → AppliesKept s (commit_of s cs bs st l) (commit.Stock s') cs cs' bs bs' → History (owned s' cs' bs' rs) m → History (owned s cs bs rs) m
-  moved : {s s' : TurnStock} {cs cs' bs bs' rs rs' : List Float} {m : Owned} (list : ChangeList) (is : List ℕ) (xs removed : List Float) → MovesKept s (move_of s cs bs rs list is xs removed) (move.Stock s') cs cs' bs bs' rs rs'
+  committed : {s s' : TurnStock} {cs cs' bs bs' rs : List Float} {m : Owned} (list : ChangeList) (is : List ℕ) (xs : List Float) → AppliesKept s (apply_of s cs bs list is xs) (Ok s') cs cs' bs bs' → History (owned s' cs' bs' rs) m → History (owned s cs bs rs) m
+  committed-records : {s s' : TurnStock} {cs cs' bs bs' rs : List Float} {m : Owned} (st : Stamp) (l : List TurnChange) → AppliesKept s (commit_of s cs bs st l) (Ok s') cs cs' bs bs' → History (owned s' cs' bs' rs) m → History (owned s cs bs rs) m
+  moved : {s s' : TurnStock} {cs cs' bs bs' rs rs' : List Float} {m : Owned} (list : ChangeList) (is : List ℕ) (xs removed : List Float) → MovesKept s (move_of s cs bs rs list is xs removed) (Ok s') cs cs' bs bs' rs rs'
       → History (owned s' cs' bs' rs') m → History (owned s cs bs rs) m
-  moved-records : {s s' : TurnStock} {cs cs' bs bs' rs rs' : List Float} {m : Owned} (st : Stamp) (l : List TurnChange) (removed : List Float) → MovesKept s (move_list_of s cs bs rs st l removed) (move.Stock s') cs cs' bs bs' rs rs'
+  moved-records : {s s' : TurnStock} {cs cs' bs bs' rs rs' : List Float} {m : Owned} (st : Stamp) (l : List TurnChange) (removed : List Float) → MovesKept s (move_list_of s cs bs rs st l removed) (Ok s') cs cs' bs bs' rs rs'
       → History (owned s' cs' bs' rs') m → History (owned s cs bs rs) m
-  ringed : {s s' : TurnStock} {cs bs rs rs' : List Float} {m : Owned} {t : ℕ} (q : Ring) → Removes s rs (remove_ring s.spec rs s.rings s.stamp.generation q) (ring_tests s.spec rs s.rings q) (ring.Stock s' t) rs' → History (owned s' cs bs rs') m → History (owned s cs bs rs) m
+  ringed : {s s' : TurnStock} {cs bs rs rs' : List Float} {m : Owned} {t : ℕ} (q : Ring) → Removes s rs (remove_ring s.spec rs s.rings s.stamp.generation q) (ring_tests s.spec rs s.rings q) (Ok (record { stock = s'; tests = t })) rs' → History (owned s' cs bs rs') m → History (owned s cs bs rs) m
 
 -- ---- what a list of another stamp is refused with
 

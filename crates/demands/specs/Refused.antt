@@ -1,6 +1,5 @@
 -- What each call's refusals turn on: the tests that its rule asks, in 01's order, each with the reason that it refuses with. Assumes nothing.
-use Rattle.std.specs.Prelude.{◌≡◌, Bool, true, false, not, ◌&&◌, ◌||◌, List, [], ◌∷◌, ◌++◌, ℕ, suc, ◌*◌, ◌/◌, eqb, leb, ltb, length, Float}
-use Rattle.std.proofs.Math.Option.{Option, none, some}
+use Rattle.std.specs.Prelude.{◌≡◌, Bool, true, false, not, ◌&&◌, ◌||◌, List, [], ◌∷◌, ◌++◌, ℕ, suc, ◌*◌, ◌/◌, eqb, leb, ltb, length, Float, Option, None, Some}
 use Rattle.std.specs.Float.Ieee.{le}
 use Rattle.std.specs.Float.Ieee.Scale.{finite}
 use Rattle.refusals.specs.Paper.{Paper, Reason, answers, refuses, only, at}
@@ -69,8 +68,8 @@ ask_at t n k = record { holds = t; why = at n k }
 
 -- no place is found; else the refusal has the number n, and that place
 abbrev pub ask_none : Option ℕ → ℕ → Asked
-ask_none none n = ask true n
-ask_none (some k) n = ask_at false n k
+ask_none None n = ask true n
+ask_none (Some k) n = ask_at false n k
 
 -- a test whose refusal tells its number alone
 abbrev pub number_alone : Asked → Asked
@@ -117,8 +116,8 @@ length_asks x y = root_asks (x *₆₄ x +₆₄ y *₆₄ y)
 
 -- n is there (finite, and not over 4,096), not 0, and not over max_cells
 abbrev pub count_good : ℕ → Option ℕ → Bool
-count_good most none = false
-count_good most (some n) = not (eqb n 0) && leb n most
+count_good most None = false
+count_good most (Some n) = not (eqb n 0) && leb n most
 
 -- 1, 2
 abbrev pub spec_asks : TurnStockSpec → List Asked
@@ -379,8 +378,8 @@ line_asks j s room cs rs = ask (ltb (length s) line_limit) 15 ∷ pick (eqb j.ce
 
 -- ten halvings reached the tolerance, and there is room for the chords
 abbrev pub chords_fit : ℕ → Option (List Chord) → Bool
-chords_fit room none = false
-chords_fit room (some l) = leb (length l) room
+chords_fit room None = false
+chords_fit room (Some l) = leb (length l) room
 
 -- the chords of a profile, into a room
 abbrev pub segments_asks : List Float → Float → ℕ → List Asked

@@ -1,5 +1,5 @@
 -- Which change and which ring a refusal means: what stands before its place, and what stands at it (Req 04). Assumes nothing.
-use Rattle.std.specs.Prelude.{◌≡◌, true, false, List, [], ◌∷◌, ◌++◌, ℕ, suc, ◌/◌, ◌%◌, ◌≤◌, ◌<◌, length, get_or, take, Float}
+use Rattle.std.specs.Prelude.{◌≡◌, true, false, List, ◌∷◌, ◌++◌, ℕ, suc, ◌/◌, ◌%◌, ◌≤◌, ◌<◌, length, get_or, take, Float}
 use Rattle.refusals.specs.Paper.{answers, refuses, only}
 use Rattle.floats.specs.Each.{Each}
 use Rattle.stock.specs.declared.TurnStockSpec.{TurnStockSpec}

@@ -1,9 +1,9 @@
 -- A segment whose lent u's both lie before lo, or both behind hi, adds nothing: it is such a segment when they are read clean. Assumes nothing.
+use Rattle.std.specs.Prelude.{Option, None, Some}
 use mathlib.Core.Path.{◌≡◌, refl, ap, ◌∙◌}
 use mathlib.Core.Bool.{Bool, true, false, not, false≢true}
 use mathlib.Core.Logic.{◌⊎◌, inl, inr}
 use mathlib.Core.List.{List}
-use mathlib.Core.Option.{Option, none, some}
 use Prim.Native.Nat.{ℕ, ◌+◌, ◌*◌}
 use native.Mathlib.Omega.{arith}
 use lib.Dec.{T}
@@ -17,7 +17,8 @@ use Rattle.floats.proofs.Bools.{so}
 use Rattle.floats.proofs.Order.{to-lt, of_lt, number-of}
 use Rattle.floats.proofs.Cleared.{clean-key, clean-plain}
 use Rattle.envelope.specs.declared.segments.Found.{Found}
-use Rattle.envelope.specs.Envelope.{u_at, point_at, higher, segment_at, Radii, segment_in}
+use Rattle.envelope.specs.declared.Radii.{Radii}
+use Rattle.envelope.specs.Envelope.{u_at, point_at, higher, segment_at, segment_in}
 use Rattle.envelope.specs.Halving.{aside, found_radii}
 use Rattle.envelope.proofs.Loops.{segment}
 use Rattle.envelope.proofs.Narrow.{Apart, adds-nothing, adds-no-higher}
@@ -104,14 +105,14 @@ none-higher ps held i u fu h r = adds-no-higher (number (sides ps held i u u fu 
     number (inr d) = left-number u (get_or ps (2 * i) nan) fu (held (2 * i)) d.0
 
 -- ---- the radii found so far
-pub found_none : (r : Found) → r.many ≡ 0 → found_radii r ≡ none
+pub found_none : (r : Found) → r.many ≡ 0 → found_radii r ≡ None
 unfolding found_radii
 found_none r e = pick_true _ _ _ (eq-eqb _ _ e)
 
-pub found_some : (r : Found) → (r.many ≡ 0 → ⊥) → found_radii r ≡ some (record { lowest = r.lowest; highest = r.highest })
+pub found_some : (r : Found) → (r.many ≡ 0 → ⊥) → found_radii r ≡ Some (record { lowest = r.lowest; highest = r.highest })
 unfolding found_radii
 found_some r e = pick-false _ _ _ (ne_eqb _ _ e)
 
-pub found-one : (x y : Float) → found_radii (record { many = 1; lowest = x; highest = y }) ≡ some (record { lowest = x; highest = y })
+pub found-one : (x y : Float) → found_radii (record { many = 1; lowest = x; highest = y }) ≡ Some (record { lowest = x; highest = y })
 unfolding found_radii pick
 found-one x y = refl

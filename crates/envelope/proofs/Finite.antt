@@ -1,8 +1,8 @@
 -- What is answered: every radius is a finite number, at most 2 ^ 22 in size, and not -0.0. Assumes nothing.
+use Rattle.std.specs.Prelude.{Option, None, Some}
 use mathlib.Core.Path.{◌≡◌, refl, sym, subst}
 use mathlib.Core.Bool.{Bool, true, false, not, ◌&&◌, ◌||◌}
 use mathlib.Core.List.{List}
-use mathlib.Core.Option.{Option, none, some}
 use Prim.Native.Nat.{ℕ, zero, suc, ◌+◌, ◌-◌, ◌*◌, ◌<◌}
 use native.Mathlib.Omega.{arith}
 use lib.Dec.{T}
@@ -20,7 +20,8 @@ use Rattle.floats.proofs.Zeros.{add-plain}
 use Rattle.refusals.specs.Paper.{answers, demand, only}
 use Rattle.envelope.specs.declared.segments.Point.{Point}
 use Rattle.envelope.specs.declared.Span.{Span}
-use Rattle.envelope.specs.Envelope.{u_at, v_at, count, points_good, span_of, wider, across, segment_at, higher, highest_to, highest_in, highest_at, radius_at_of, Radii, taken, segment_over, segment_in, radii_to, radii_in, radii_of, radius_range_of}
+use Rattle.envelope.specs.declared.Radii.{Radii}
+use Rattle.envelope.specs.Envelope.{u_at, v_at, count, points_good, span_of, wider, across, segment_at, higher, highest_to, highest_in, highest_at, radius_at_of, taken, segment_over, segment_in, radii_to, radii_in, radii_of, radius_range_of}
 use Rattle.envelope.proofs.Chain.{both}
 use Rattle.floats.proofs.Bools.{so}
 use Rattle.envelope.proofs.Rules.{usable-plain, good-usable, refused-not}
@@ -51,23 +52,23 @@ hasnt e = subst (λ b. T (not b)) (sym e) tt
 
 -- ---- a radius, or two, where there is one
 abbrev pub Held : Option Float → Type 0
-Held none = Unit {0}
-Held (some x) = Sized 22 x
+Held None = Unit {0}
+Held (Some x) = Sized 22 x
 
 abbrev Holds : Option Radii → Type 0
-Holds none = Unit {0}
-Holds (some r) = Sized 22 r.lowest × Sized 22 r.highest
+Holds None = Unit {0}
+Holds (Some r) = Sized 22 r.lowest × Sized 22 r.highest
 
 higher-sized : (a b : Option Float) → Held a → Held b → Held (higher a b)
 unfolding higher
-higher-sized none b h g = g
-higher-sized (some x) none h g = h
-higher-sized (some x) (some y) h g = greatest-keeps (λ z. Sized 22 z) h g
+higher-sized None b h g = g
+higher-sized (Some x) None h g = h
+higher-sized (Some x) (Some y) h g = greatest-keeps (λ z. Sized 22 z) h g
 
 taken-sized : (r : Option Radii) → Holds r → {v : Float} → Sized 22 v → Holds (taken r v)
 unfolding taken
-taken-sized none h s = (s, s)
-taken-sized (some r) h s = (least-keeps (λ z. Sized 22 z) h.0 s, greatest-keeps (λ z. Sized 22 z) h.1 s)
+taken-sized None h s = (s, s)
+taken-sized (Some r) h s = (least-keeps (λ z. Sized 22 z) h.0 s, greatest-keeps (λ z. Sized 22 z) h.1 s)
 
 -- ---- the line from p to q, at a z between them
 module _ {p q : Point} (pu : Sized 20 p.u) (pv : Sized 20 p.v) (qu : Sized 20 q.u) (qv : Sized 20 q.v) where
@@ -89,7 +90,7 @@ module _ {p q : Point} (pu : Sized 20 p.u) (pv : Sized 20 p.v) (qu : Sized 20 q.
   unfolding segment_at pick
   segment-at-sized {z = z} s = go (lt z (least_of p.u q.u)) (lt (greatest_of p.u q.u) z) (eq q.u p.u) refl refl refl
     where
-      go : (a b c : Bool) → lt z (least_of p.u q.u) ≡ a → lt (greatest_of p.u q.u) z ≡ b → eq q.u p.u ≡ c → Held (pick (a || b) none (some (pick c (greatest_of p.v q.v) (across p q z))))
+      go : (a b c : Bool) → lt z (least_of p.u q.u) ≡ a → lt (greatest_of p.u q.u) z ≡ b → eq q.u p.u ≡ c → Held (pick (a || b) None (Some (pick c (greatest_of p.v q.v) (across p q z))))
       go true b c ea eb ec = tt
       go false true c ea eb ec = tt
       go false false true ea eb ec = greatest-keeps (λ x. Sized 22 x) (weaken pv) (weaken qv)
@@ -152,15 +153,15 @@ module _ (ps : List Float) (held : (i : ℕ) → T (fits binary64 (get_or ps i n
   highest-at-sized g {u = u} s = highest-sized ps held g s _ _ (inner (span_of ps u u) (count ps))
 
   -- the highest radius at u
-  pub radius-at-sized : (u : Float) → T (fits binary64 u) → (x : Float) → radius_at_of ps u ≡ answers (some x) → Sized 22 x
+  pub radius-at-sized : (u : Float) → T (fits binary64 u) → (x : Float) → radius_at_of ps u ≡ answers (Some x) → Sized 22 x
   unfolding radius_at_of demand
   radius-at-sized u fu x e = go (points_good ps && usable u) refl e
     where
-      go : (b : Bool) → (points_good ps && usable u) ≡ b → demand b 14 (answers (highest_in ps (wider (span_of ps (clean_of u) (clean_of u)) (count ps)) (clean_of u))) ≡ answers (some x) → Sized 22 x
+      go : (b : Bool) → (points_good ps && usable u) ≡ b → demand b 14 (answers (highest_in ps (wider (span_of ps (clean_of u) (clean_of u)) (count ps)) (clean_of u))) ≡ answers (Some x) → Sized 22 x
       go true d e =
           let g = both (points_good ps) (usable u) d in
           let s = span_of ps (clean_of u) (clean_of u) in
-          let r : highest_in ps (wider s (count ps)) (clean_of u) ≡ some x = cc in
+          let r : highest_in ps (wider s (count ps)) (clean_of u) ≡ Some x = cc in
           rw r at (highest-sized ps held g.0 (usable-sized u fu g.1).within _ _ (inner s (count ps)))
       go false d e = absurd (refused-not (only 14) _ e)
 
@@ -168,21 +169,21 @@ module _ (ps : List Float) (held : (i : ℕ) → T (fits binary64 (get_or ps i n
   unfolding radii_of pick
   over_sized g {lo} {hi} sl sh = at (le lo hi)
     where
-      at : (b : Bool) → Holds (pick b (radii_in ps (wider (span_of ps lo hi) (count ps)) lo hi) none)
+      at : (b : Bool) → Holds (pick b (radii_in ps (wider (span_of ps lo hi) (count ps)) lo hi) None)
       at true =
           let s = span_of ps lo hi in
           radii-sized ps held g sl sh _ _ (inner s (count ps))
       at false = tt
 
   -- the lowest and the highest radius over lo..hi
-  pub radius-range-sized : (lo hi : Float) → T (fits binary64 lo) → T (fits binary64 hi) → (r : Radii) → radius_range_of ps lo hi ≡ answers (some r) → Sized 22 r.lowest × Sized 22 r.highest
+  pub radius-range-sized : (lo hi : Float) → T (fits binary64 lo) → T (fits binary64 hi) → (r : Radii) → radius_range_of ps lo hi ≡ answers (Some r) → Sized 22 r.lowest × Sized 22 r.highest
   unfolding radius_range_of demand
   radius-range-sized lo hi flo fhi x e = go (points_good ps && (usable lo && usable hi)) refl e
     where
-      go : (b : Bool) → (points_good ps && (usable lo && usable hi)) ≡ b → demand b 14 (answers (radii_of ps (clean_of lo) (clean_of hi))) ≡ answers (some x) → Sized 22 x.lowest × Sized 22 x.highest
+      go : (b : Bool) → (points_good ps && (usable lo && usable hi)) ≡ b → demand b 14 (answers (radii_of ps (clean_of lo) (clean_of hi))) ≡ answers (Some x) → Sized 22 x.lowest × Sized 22 x.highest
       go true d e =
           let g = both (points_good ps) (usable lo && usable hi) d in
           let h = both (usable lo) (usable hi) g.1 in
-          let r : radii_of ps (clean_of lo) (clean_of hi) ≡ some x = cc in
+          let r : radii_of ps (clean_of lo) (clean_of hi) ≡ Some x = cc in
           rw r at (over_sized g.0 (usable-sized lo flo h.0) (usable-sized hi fhi h.1))
       go false d e = absurd (refused-not (only 14) _ e)

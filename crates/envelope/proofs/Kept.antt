@@ -143,28 +143,22 @@ module _ (ps : List Float) (z : ℤ) (lo hi : Float) where
       go true = straight-lies (halved_span ps z lo hi) (count ps) (span_fits ps z lo hi).1
       go false = (omega arith, omega arith)
 
--- a span by its first point and how many
-pub by-many : (s : Span) (n : ℕ) → Lies s n → span s.start (s.start + (s.end - s.start)) ≡ s
-by-many s n h =
-    let e : s.start + (s.end - s.start) ≡ s.end = omega arith in
-    rw e
-
 module _ (ps : List Float) (z : ℤ) (lo hi : Float) where
   -- what `span_kept` answers lies among the points
-  pub within-fits : (a n : ℕ) → answers (span a (a + n)) ≡ kept_within ps z lo hi → a + n ≤ count ps
+  pub within-lies : (s : Span) → answers s ≡ kept_within ps z lo hi → Lies s (count ps)
   unfolding kept_within demand
-  within-fits a n = go (accepted z && (usable lo && usable hi)) (part_lies ps z (clean_of lo) (clean_of hi))
+  within-lies s = go (accepted z && (usable lo && usable hi)) (part_lies ps z (clean_of lo) (clean_of hi))
     where
-      go : (b : Bool) → Lies (halved_part ps z (clean_of lo) (clean_of hi)) (count ps) → answers (span a (a + n)) ≡ demand b 14 (answers (halved_part ps z (clean_of lo) (clean_of hi))) → a + n ≤ count ps
+      go : (b : Bool) → Lies (halved_part ps z (clean_of lo) (clean_of hi)) (count ps) → answers s ≡ demand b 14 (answers (halved_part ps z (clean_of lo) (clean_of hi))) → Lies s (count ps)
       go true l e =
-          let s : halved_part ps z (clean_of lo) (clean_of hi) ≡ span a (a + n) = cc in
-          rw s at l.1
-      go false l e = let x : ◌≡◌ {A = ℕ} 0 1 = cc in omega arith
+          let g : halved_part ps z (clean_of lo) (clean_of hi) ≡ s = cc in
+          rw g at l
+      go false l e = let x : ◌≡◌ {A = ℕ} 0 1 = cc in absurd (omega arith)
 
-  pub within-numbers : (a n : ℕ) → answers (span a (a + n)) ≡ kept_within ps z lo hi → take (2 * a + 2 * n - 2 * a) (drop (2 * a) ps) ≡ part_numbers ps (kept_within ps z lo hi)
+  pub within-numbers : (s : Span) → answers s ≡ kept_within ps z lo hi → take (2 * s.end - 2 * s.start) (drop (2 * s.start) ps) ≡ part_numbers ps (kept_within ps z lo hi)
   unfolding part_numbers
-  within-numbers a n e =
-      let g : 2 * a + 2 * n - 2 * a ≡ 2 * (a + n - a) = omega arith in
+  within-numbers s e =
+      let g : 2 * s.end - 2 * s.start ≡ 2 * (s.end - s.start) = omega arith in
       rw (← e, g)
 
   pub within_none : (n : Reason) → refuses n ≡ kept_within ps z lo hi → [] ≡ part_numbers ps (kept_within ps z lo hi)

@@ -1,11 +1,11 @@
 -- Narrow look, full look. `narrow-full`: whatever is gathered from segment to segment, where a segment wholly below lo or wholly above hi adds nothing, the part that a query narrows to, one point
 -- wider on each side, gives what all segments in order give. It is said once, of any step and of the part by the order's number, so of chains that rise, that fall and that do neither. `radius_at` and
 -- `radius_range` are two such steps. `points-full` says the same of points and the part itself. Assumes nothing.
+use Rattle.std.specs.Prelude.{Option, None, Some}
 use mathlib.Core.Path.{◌≡◌, refl, sym, ap, ◌∙◌}
 use mathlib.Core.Bool.{Bool, true, false, ◌||◌}
 use mathlib.Core.Logic.{◌⊎◌, inl, inr}
 use mathlib.Core.List.{List, foldl}
-use mathlib.Core.Option.{Option, none, some}
 use Prim.Native.Nat.{ℕ, zero, suc, ◌+◌, ◌-◌, ◌≤◌, ◌<◌}
 use native.Mathlib.Omega.{arith}
 use lib.Dec.{T}
@@ -20,7 +20,8 @@ use Rattle.refusals.specs.Paper.{answers}
 use Rattle.envelope.specs.declared.segments.Point.{Point}
 use Rattle.envelope.specs.declared.Span.{Span}
 use Rattle.envelope.specs.declared.Test.TheVariants.{Below, AtMost, Above, AtLeast}
-use Rattle.envelope.specs.Envelope.{u_at, point_at, count, rises, falls, order_of, how_many, span, all_points, span_of, part_numbers, wider, segment_at, higher, highest_to, highest_in, Radii, segment_over, segment_in, radii_to, radii_in}
+use Rattle.envelope.specs.declared.Radii.{Radii}
+use Rattle.envelope.specs.Envelope.{u_at, point_at, count, rises, falls, order_of, how_many, span, all_points, span_of, part_numbers, wider, segment_at, higher, highest_to, highest_in, segment_over, segment_in, radii_to, radii_in}
 use Rattle.envelope.specs.Halving.{halved_span}
 use Rattle.envelope.specs.Full.{points_of, Segment, segments_of, full_there, full_range}
 use Rattle.envelope.proofs.Chain.{is}
@@ -172,11 +173,11 @@ module _ {lo hi : Float} (nlo : Number binary64 lo) (nhi : Number binary64 hi) {
 
 -- nor at u
 module _ {u : Float} (nu : Number binary64 u) {g : Segment} (a : Apart u u g) where
-  nowhere : segment_at g.from g.to u ≡ none
+  nowhere : segment_at g.from g.to u ≡ None
   unfolding segment_at pick
   nowhere = go a.side
     where
-      go : (T (lt g.from.u u) × T (lt g.to.u u)) ⊎ (T (lt u g.from.u) × T (lt u g.to.u)) → segment_at g.from g.to u ≡ none
+      go : (T (lt g.from.u u) × T (lt g.to.u u)) ⊎ (T (lt u g.from.u) × T (lt u g.to.u)) → segment_at g.from g.to u ≡ None
       go (inl d) =
           let p = a.from in
           let q = a.to in
@@ -188,10 +189,10 @@ module _ {u : Float} (nu : Number binary64 u) {g : Segment} (a : Apart u u g) wh
           let e = is (lt u (least_of g.from.u g.to.u)) ((lt-key binary64 u (least_of g.from.u g.to.u) nu (least-number p q)).1 (omega (arith, (lt-key binary64 u g.from.u nu p).0 d.0, (lt-key binary64 u g.to.u nu q).0 d.1, key-least p q))) in
           rw e
 
-  adds_none : (r : Option Float) → higher r none ≡ r
+  adds_none : (r : Option Float) → higher r None ≡ r
   unfolding higher
-  adds_none none = refl
-  adds_none (some x) = refl
+  adds_none None = refl
+  adds_none (Some x) = refl
 
   pub adds-no-higher : (r : Option Float) → higher r (segment_at g.from g.to u) ≡ r
   adds-no-higher r = ap (higher r) nowhere ∙ adds_none r
@@ -204,12 +205,12 @@ module _ (ps : List Float) (num : Numbered ps) where
       let w = wider (span_of ps lo hi) (count ps) in
       sym (part-segments ps w (omega arith) f a) ∙ (rw (span-counted ps num lo hi nlo nhi) at (narrow-full ps num (order_of ps) refl lo hi nlo nhi f h a))
 
-  highest-loop : (u : Float) (a k : ℕ) → highest_to ps u a k ≡ loop (λ r i. higher r (segment_at (point_at ps i) (point_at ps (i + 1)) u)) none a k
+  highest-loop : (u : Float) (a k : ℕ) → highest_to ps u a k ≡ loop (λ r i. higher r (segment_at (point_at ps i) (point_at ps (i + 1)) u)) None a k
   unfolding highest_to loop
   highest-loop u a zero = refl
   highest-loop u a (suc k) = rw (highest-loop u a k)
 
-  radii-loop : (lo hi : Float) (a k : ℕ) → radii_to ps lo hi a k ≡ loop (λ r i. segment_in r (point_at ps i) (point_at ps (i + 1)) lo hi) none a k
+  radii-loop : (lo hi : Float) (a k : ℕ) → radii_to ps lo hi a k ≡ loop (λ r i. segment_in r (point_at ps i) (point_at ps (i + 1)) lo hi) None a k
   unfolding radii_to loop
   radii-loop lo hi a zero = refl
   radii-loop lo hi a (suc k) = rw (radii-loop lo hi a k)
@@ -217,9 +218,9 @@ module _ (ps : List Float) (num : Numbered ps) where
   -- at u
   pub highest-full : (u : Float) → Number binary64 u → highest_in ps (wider (span_of ps u u) (count ps)) u ≡ full_there ps u
   unfolding full_there
-  highest-full u nu = highest-loop u _ _ ∙ looked u u nu nu (λ r g. higher r (segment_at g.from g.to u)) (λ r g a. adds-no-higher nu a r) none
+  highest-full u nu = highest-loop u _ _ ∙ looked u u nu nu (λ r g. higher r (segment_at g.from g.to u)) (λ r g a. adds-no-higher nu a r) None
 
   -- over lo..hi
   pub radii-full : (lo hi : Float) → Number binary64 lo → Number binary64 hi → le lo hi ≡ true → radii_in ps (wider (span_of ps lo hi) (count ps)) lo hi ≡ full_range ps lo hi
   unfolding full_range
-  radii-full lo hi nlo nhi h = radii-loop lo hi _ _ ∙ looked lo hi nlo nhi (λ r g. segment_in r g.from g.to lo hi) (λ r g a. adds-nothing nlo nhi a h r) none
+  radii-full lo hi nlo nhi h = radii-loop lo hi _ _ ∙ looked lo hi nlo nhi (λ r g. segment_in r g.from g.to lo hi) (λ r g a. adds-nothing nlo nhi a h r) None

@@ -1,9 +1,9 @@
 -- The rules: what the code finds over points and the number kept beside them is what the rules of `Envelope` say of the points, and the narrow look answers as the full look. Assumes nothing.
+use Rattle.std.specs.Prelude.{Option, None}
 use mathlib.Core.Path.{◌≡◌, refl, ap, ◌∙◌, subst}
 use mathlib.Core.Bool.{Bool, true, false, ◌&&◌}
 use mathlib.Core.Logic.{◌↔◌}
 use mathlib.Core.List.{List}
-use mathlib.Core.Option.{Option, none}
 use Prim.Native.Nat.{ℕ, ◌+◌, ◌*◌, ◌%◌, ◌<◌, ◌≤◌}
 use native.Mathlib.Omega.{arith}
 use lib.Dec.{T, eqb, leb}
@@ -20,7 +20,8 @@ use Rattle.floats.proofs.Within.{number-l}
 use Rattle.refusals.specs.Paper.{Paper, Reason, answers, refuses, only, demand}
 use Rattle.envelope.specs.declared.Span.{Span}
 use Rattle.refusals.specs.Limits.{envelope_limit}
-use Rattle.envelope.specs.Envelope.{u_at, v_at, count, points_good, rises, falls, order_of, ordered_of, span, span_of, part_of, within_of, part_numbers, wider, highest_in, highest_at, radius_at_of, Radii, radii_in, radii_of, radius_range_of}
+use Rattle.envelope.specs.declared.Radii.{Radii}
+use Rattle.envelope.specs.Envelope.{u_at, v_at, count, points_good, rises, falls, order_of, ordered_of, span, span_of, part_of, within_of, part_numbers, wider, highest_in, highest_at, radius_at_of, radii_in, radii_of, radius_range_of}
 use Rattle.envelope.specs.Halving.{is_z, kept_of, Kept, Ruled, accepted, kept_order, halved_span, straight, halved_part, kept_within, halved_at, kept_at, halved_radii, kept_range}
 use Rattle.envelope.specs.Full.{full_there, full_range}
 use Rattle.envelope.proofs.Kept.{Lies}
@@ -118,7 +119,7 @@ module _ (ps : List Float) (held : (i : ℕ) → T (fits binary64 (get_or ps i n
     unfolding kept_range radius_range_of halved_radii radii_of
     range-rule =
         kept_rule ps (λ z. halved_radii ps z (clean_of lo) (clean_of hi)) (radii_of ps (clean_of lo) (clean_of hi)) (usable lo && usable hi)
-        (λ good e. ap (λ s. pick (le (clean_of lo) (clean_of hi)) (radii_in ps (wider s (count ps)) (clean_of lo) (clean_of hi)) none) (counted good (clean_of lo) (clean_of hi) (number-lo e) (number-hi e)))
+        (λ good e. ap (λ s. pick (le (clean_of lo) (clean_of hi)) (radii_in ps (wider s (count ps)) (clean_of lo) (clean_of hi)) None) (counted good (clean_of lo) (clean_of hi) (number-lo e) (number-hi e)))
 
   at-rule : (u : Float) → T (fits binary64 u) → kept_at ps (kept_of ps) u ≡ radius_at_of ps u
   unfolding kept_at radius_at_of halved_at
@@ -196,13 +197,13 @@ module _ (ps : List Float) (held : (i : ℕ) → T (fits binary64 (get_or ps i n
 
   -- where lo <= hi, the lowest and the highest radius are those over all segments in order
   pub full-range : (lo hi : Float) → T (fits binary64 lo) → T (fits binary64 hi)
-      → radius_range_of ps lo hi ≡ demand (points_good ps && (usable lo && usable hi)) 14 (answers (pick (le (clean_of lo) (clean_of hi)) (full_range ps (clean_of lo) (clean_of hi)) none))
+      → radius_range_of ps lo hi ≡ demand (points_good ps && (usable lo && usable hi)) 14 (answers (pick (le (clean_of lo) (clean_of hi)) (full_range ps (clean_of lo) (clean_of hi)) None))
   unfolding radius_range_of radii_of
   full-range lo hi flo fhi =
       same_answer (points_good ps && (usable lo && usable hi)) _ _
       (λ e. let g = both (points_good ps) (usable lo && usable hi) e in go g.0 (number-lo ps held lo hi flo fhi g.1) (number-hi ps held lo hi flo fhi g.1) (le (clean_of lo) (clean_of hi)) refl)
     where
       go : points_good ps ≡ true → Number binary64 (clean_of lo) → Number binary64 (clean_of hi) → (b : Bool) → le (clean_of lo) (clean_of hi) ≡ b
-          → pick b (radii_in ps (wider (span_of ps (clean_of lo) (clean_of hi)) (count ps)) (clean_of lo) (clean_of hi)) none ≡ pick b (full_range ps (clean_of lo) (clean_of hi)) none
-      go good nlo nhi true h = ap (λ r. pick true r none) (radii-full ps (u-number ps good held) (clean_of lo) (clean_of hi) nlo nhi h)
+          → pick b (radii_in ps (wider (span_of ps (clean_of lo) (clean_of hi)) (count ps)) (clean_of lo) (clean_of hi)) None ≡ pick b (full_range ps (clean_of lo) (clean_of hi)) None
+      go good nlo nhi true h = ap (λ r. pick true r None) (radii-full ps (u-number ps good held) (clean_of lo) (clean_of hi) nlo nhi h)
       go good nlo nhi false h = unfold pick in refl

@@ -1,8 +1,8 @@
 -- The envelope of a profile: a chain of points (u, v), lent flat as u, v, u, v, .., its order, the part of it between two bounds, and its radius over u. Assumes nothing.
-use Rattle.std.specs.Prelude.{Bool, ◌&&◌, ◌||◌, List, [], ℕ, zero, suc, ◌+◌, ◌*◌, ◌/◌, ◌%◌, ◌-◌, min, leb, eqb, length, get_or, take, drop, ℤ, pos, negsuc, Float}
-use Rattle.std.proofs.Math.Option.{Option, none, some}
+use Rattle.std.specs.Prelude.{Bool, ◌&&◌, ◌||◌, List, [], ℕ, zero, suc, ◌+◌, ◌*◌, ◌/◌, ◌%◌, ◌-◌, min, leb, eqb, length, get_or, take, drop, ℤ, pos, negsuc, Float, Option, None, Some, Err, Ok, Result}
 use Rattle.std.specs.Float.{nan}
 use Rattle.std.specs.Float.Ieee.{le, lt, eq}
+use Rattle.refusals.specs.declared.Refusal.{Refusal}
 use Rattle.floats.specs.Pick.{pick}
 use Rattle.floats.specs.Numbers.{◌+₆₄◌, ◌-₆₄◌, ◌*₆₄◌, ◌/₆₄◌, least_of, greatest_of, clean_of, usable, usable_to, all_to}
 use Rattle.refusals.specs.Number.{reason_of}
@@ -10,18 +10,9 @@ use Rattle.refusals.specs.Limits.{envelope_limit}
 use Rattle.refusals.specs.Paper.{Paper, answers, refuses, demand, onward}
 use Rattle.envelope.specs.declared.segments.Point.{Point}
 use Rattle.envelope.specs.declared.Span.{Span}
+use Rattle.envelope.specs.declared.Radii.{Radii}
 use Rattle.envelope.specs.declared.Test.{Test}
 use Rattle.envelope.specs.declared.Test.TheVariants.{Below, AtMost, Above, AtLeast}
-use Rattle.envelope.specs.declared.Ordered.{Ordered}
-use Rattle.envelope.specs.declared.Ordered.TheVariants as ordered
-use Rattle.envelope.specs.declared.Spanned.{Spanned}
-use Rattle.envelope.specs.declared.Spanned.TheVariants as spanned
-use Rattle.envelope.specs.declared.Looked.{Looked}
-use Rattle.envelope.specs.declared.Looked.TheVariants as looked
-use Rattle.envelope.specs.declared.RadiusAt.{RadiusAt}
-use Rattle.envelope.specs.declared.RadiusAt.TheVariants as radius-at
-use Rattle.envelope.specs.declared.RadiusRange.{RadiusRange}
-use Rattle.envelope.specs.declared.RadiusRange.TheVariants as radius-range
 
 -- ---- the points
 -- how many there are
@@ -70,11 +61,6 @@ order_of ps = pick (rises ps) (pos 1) (pick (falls ps) (negsuc 0) (pos 0))
 unfoldable pub ordered_of : List Float → Paper ℤ
 ordered_of ps = demand (points_good ps) 14 (answers (order_of ps))
 
--- what the answer of `order_of` says, case by case
-abbrev pub ordered_paper : Ordered → Paper ℤ
-ordered_paper (ordered.Order o) = answers o
-ordered_paper (ordered.Refused c) = refuses (reason_of c)
-
 -- ---- the part between two bounds
 -- what a u is tested for against a bound
 abbrev pub passes : Test → Float → Float → Bool
@@ -120,19 +106,9 @@ unfoldable pub part_numbers : List Float → Paper Span → List Float
 part_numbers ps (answers s) = take (2 * (s.end - s.start)) (drop (2 * s.start) ps)
 part_numbers ps (refuses n) = []
 
--- what the answer of `within_span` says, case by case: the first point, and how many
-abbrev pub spanned_paper : Spanned → Paper Span
-spanned_paper (spanned.Part a n) = answers (span a (a + n))
-spanned_paper (spanned.Refused c) = refuses (reason_of c)
-
 -- whether the part is refused
 unfoldable pub within_refusal_of : List Float → Float → Float → Paper (Unit {0})
 within_refusal_of ps lo hi = onward (within_of ps lo hi) (λ s. answers tt)
-
--- what the answer of `within_refusal` says, case by case
-abbrev pub looked_paper : Looked → Paper (Unit {0})
-looked_paper looked.Fine = answers tt
-looked_paper (looked.Refused c) = refuses (reason_of c)
 
 -- ---- the radius
 -- the v at u on the line from p to q
@@ -147,18 +123,18 @@ wider s n = span (s.start - 1) (min (s.end + 1) n)
 -- the segment from p to q at u: none beyond its ends, the greater end of an upright one
 unfoldable pub segment_at : Point → Point → Float → Option Float
 segment_at p q u =
-    pick (lt u (least_of p.u q.u) || lt (greatest_of p.u q.u) u) none
-    (some (pick (eq q.u p.u) (greatest_of p.v q.v) (across p q u)))
+    pick (lt u (least_of p.u q.u) || lt (greatest_of p.u q.u) u) None
+    (Some (pick (eq q.u p.u) (greatest_of p.v q.v) (across p q u)))
 
 -- the greater of two radii, where there are two
 unfoldable pub higher : Option Float → Option Float → Option Float
-higher none r = r
-higher (some a) none = some a
-higher (some a) (some b) = some (greatest_of a b)
+higher None r = r
+higher (Some a) None = Some a
+higher (Some a) (Some b) = Some (greatest_of a b)
 
 -- over the k segments from point a on, in order
 unfoldable pub highest_to : List Float → Float → ℕ → ℕ → Option Float
-highest_to ps u a zero = none
+highest_to ps u a zero = None
 highest_to ps u a (suc k) = higher (highest_to ps u a k) (segment_at (point_at ps (a + k)) (point_at ps (a + k + 1)) u)
 
 -- over the segments between the points of a span
@@ -173,21 +149,11 @@ highest_at ps u = highest_in ps (wider (span_of ps u u) (count ps)) u
 unfoldable pub radius_at_of : List Float → Float → Paper (Option Float)
 radius_at_of ps u = demand (points_good ps && usable u) 14 (answers (highest_at ps (clean_of u)))
 
--- what the answer of `radius_at` says, case by case
-abbrev pub radius_at_paper : RadiusAt → Paper (Option Float)
-radius_at_paper (radius-at.At x) = answers (some x)
-radius_at_paper radius-at.Nowhere = answers none
-radius_at_paper (radius-at.Refused c) = refuses (reason_of c)
-
 -- ---- the lowest and the highest radius over lo..hi
-pub record Radii : Type 0 where
-  pub lowest : Float
-  pub highest : Float
-
 -- the radii with one more among them
 unfoldable pub taken : Option Radii → Float → Option Radii
-taken none v = some (record { lowest = v; highest = v })
-taken (some r) v = some (record { lowest = least_of r.lowest v; highest = greatest_of r.highest v })
+taken None v = Some (record { lowest = v; highest = v })
+taken (Some r) v = Some (record { lowest = least_of r.lowest v; highest = greatest_of r.highest v })
 
 -- the radii with those of the segment from p to q between a and b: both ends of an upright one, and of another those at a and at b
 unfoldable pub segment_over : Option Radii → Point → Point → Float → Float → Option Radii
@@ -201,7 +167,7 @@ segment_in r p q lo hi = segment_over r p q (greatest_of (least_of p.u q.u) lo) 
 
 -- over the k segments from point a on, in order
 unfoldable pub radii_to : List Float → Float → Float → ℕ → ℕ → Option Radii
-radii_to ps lo hi a zero = none
+radii_to ps lo hi a zero = None
 radii_to ps lo hi a (suc k) = segment_in (radii_to ps lo hi a k) (point_at ps (a + k)) (point_at ps (a + k + 1)) lo hi
 
 -- over the segments between the points of a span
@@ -210,14 +176,8 @@ radii_in ps s lo hi = radii_to ps lo hi s.start (s.end - s.start - 1)
 
 -- over the part between lo and hi, one point wider on each side; none where lo > hi
 unfoldable pub radii_of : List Float → Float → Float → Option Radii
-radii_of ps lo hi = pick (le lo hi) (radii_in ps (wider (span_of ps lo hi) (count ps)) lo hi) none
+radii_of ps lo hi = pick (le lo hi) (radii_in ps (wider (span_of ps lo hi) (count ps)) lo hi) None
 
 -- the lowest and the highest radius over lo..hi
 unfoldable pub radius_range_of : List Float → Float → Float → Paper (Option Radii)
 radius_range_of ps lo hi = demand (points_good ps && (usable lo && usable hi)) 14 (answers (radii_of ps (clean_of lo) (clean_of hi)))
-
--- what the answer of `radius_range` says, case by case
-abbrev pub radius_range_paper : RadiusRange → Paper (Option Radii)
-radius_range_paper (radius-range.From a b) = answers (some (record { lowest = a; highest = b }))
-radius_range_paper radius-range.Nowhere = answers none
-radius_range_paper (radius-range.Refused c) = refuses (reason_of c)

@@ -1,25 +1,19 @@
 -- The way of the code, over points and an order's number that is kept beside them: the part is found by halving. Where the number is that of the points this is what
 -- the rules of `Envelope` say (proofs/Kept.antt). Assumes nothing.
-use Rattle.std.specs.Prelude.{◌≡◌, Bool, true, false, not, ◌&&◌, List, ℕ, zero, suc, ◌+◌, ◌/◌, ◌-◌, ltb, leb, eqb, length, ℤ, pos, negsuc, Float}
-use Rattle.std.proofs.Math.Option.{Option, none, some}
+use Rattle.std.specs.Prelude.{◌≡◌, Bool, true, false, not, ◌&&◌, List, ℕ, zero, suc, ◌+◌, ◌/◌, ◌-◌, ltb, leb, eqb, length, ℤ, pos, negsuc, Float, Option, None, Some, Result}
 use Rattle.std.specs.Float.Ieee.{le, lt}
+use Rattle.refusals.specs.Number.{paper_of}
+use Rattle.refusals.specs.declared.Refusal.{Refusal}
 use Rattle.floats.specs.Pick.{pick}
 use Rattle.floats.specs.Numbers.{clean_of, usable, usable_to}
 use Rattle.refusals.specs.Paper.{Paper, answers, demand}
 use Rattle.envelope.specs.declared.Span.{Span}
+use Rattle.envelope.specs.declared.Radii.{Radii}
 use Rattle.envelope.specs.declared.Test.{Test}
 use Rattle.envelope.specs.declared.Test.TheVariants.{Below, AtMost, Above, AtLeast}
-use Rattle.envelope.specs.declared.Radius.{Radius}
-use Rattle.envelope.specs.declared.Radius.TheVariants as radius
 use Rattle.envelope.specs.declared.segments.Found.{Found}
-use Rattle.envelope.specs.declared.segments.Extent.{Extent}
-use Rattle.envelope.specs.declared.segments.Extent.TheVariants as extent
 use Rattle.envelope.specs.declared.Scanned.{Scanned}
-use Rattle.envelope.specs.declared.Ordered.{Ordered}
-use Rattle.envelope.specs.declared.Spanned.{Spanned}
-use Rattle.envelope.specs.declared.RadiusAt.{RadiusAt}
-use Rattle.envelope.specs.declared.RadiusRange.{RadiusRange}
-use Rattle.envelope.specs.Envelope.{count, u_at, points_good, rises, falls, order_of, ordered_of, ordered_paper, passes, span, all_points, span_of, within_of, part_numbers, spanned_paper, wider, highest_in, highest_at, radius_at_of, radius_at_paper, Radii, radii_in, radius_range_of, radius_range_paper}
+use Rattle.envelope.specs.Envelope.{count, u_at, points_good, rises, falls, order_of, ordered_of, passes, span, all_points, span_of, within_of, part_numbers, wider, highest_in, highest_at, radius_at_of, radii_in, radius_range_of}
 
 -- what one pass over the points finds
 abbrev pub scan_of : List Float → Scanned
@@ -68,8 +62,8 @@ unfoldable pub kept_order : ℤ → Paper ℤ
 kept_order z = demand (accepted z) 14 (answers z)
 
 -- what the order's promise says
-abbrev pub OrderKept : List Float → ℤ → Ordered → Type 0
-OrderKept ps z r = Kept ps z (ordered_paper r) (kept_order z) (ordered_of ps)
+abbrev pub OrderKept : List Float → ℤ → (Result ℤ Refusal) → Type 0
+OrderKept ps z r = Kept ps z (paper_of r) (kept_order z) (ordered_of ps)
 
 -- ---- the part between two bounds
 unfoldable pub halved_span : List Float → ℤ → Float → Float → Span
@@ -92,31 +86,25 @@ unfoldable pub kept_within : List Float → ℤ → Float → Float → Paper Sp
 kept_within ps z lo hi = demand (accepted z && (usable lo && usable hi)) 14 (answers (halved_part ps z (clean_of lo) (clean_of hi)))
 
 -- what the part's promise says: where it stands, and its numbers
-abbrev pub SpanKept : List Float → ℤ → Float → Float → Spanned → Type 0
-SpanKept ps z lo hi r = Kept ps z (spanned_paper r) (kept_within ps z lo hi) (within_of ps lo hi)
+abbrev pub SpanKept : List Float → ℤ → Float → Float → (Result Span Refusal) → Type 0
+SpanKept ps z lo hi r = Kept ps z (paper_of r) (kept_within ps z lo hi) (within_of ps lo hi)
 
 abbrev pub WithinKept : List Float → ℤ → Float → Float → List Float → Type 0
 WithinKept ps z lo hi r = Kept ps z r (part_numbers ps (kept_within ps z lo hi)) (part_numbers ps (within_of ps lo hi))
-
--- ---- the radius
--- a radius, or none
-unfoldable pub radius_of : Radius → Option Float
-radius_of (radius.At x) = some x
-radius_of radius.Nowhere = none
 
 unfoldable pub halved_at : List Float → ℤ → Float → Option Float
 halved_at ps z u = highest_in ps (wider (halved_span ps z u u) (count ps)) u
 
 -- what the radius's promise says
-abbrev pub Highest : List Float → ℤ → Float → Radius → Type 0
-Highest ps z u r = Ruled ps z (radius_of r) (halved_at ps z u) (highest_at ps u)
+abbrev pub Highest : List Float → ℤ → Float → (Option Float) → Type 0
+Highest ps z u r = Ruled ps z (r) (halved_at ps z u) (highest_at ps u)
 
 unfoldable pub kept_at : List Float → ℤ → Float → Paper (Option Float)
 kept_at ps z u = demand (accepted z && usable u) 14 (answers (halved_at ps z (clean_of u)))
 
 -- what the highest radius's promise says
-abbrev pub RadiusAtKept : List Float → ℤ → Float → RadiusAt → Type 0
-RadiusAtKept ps z u r = Kept ps z (radius_at_paper r) (kept_at ps z u) (radius_at_of ps u)
+abbrev pub RadiusAtKept : List Float → ℤ → Float → (Result (Option Float) Refusal) → Type 0
+RadiusAtKept ps z u r = Kept ps z (paper_of r) (kept_at ps z u) (radius_at_of ps u)
 
 -- both lent u's lie before lo, or both behind hi
 unfoldable pub aside : Float → Float → Float → Float → Bool
@@ -124,19 +112,14 @@ aside x y lo hi = pick (lt x lo) (lt y lo) (pick (lt hi x) (lt hi y) false)
 
 -- the radii found so far
 unfoldable pub found_radii : Found → Option Radii
-found_radii r = pick (eqb r.many 0) none (some (record { lowest = r.lowest; highest = r.highest }))
-
--- two radii, or none
-unfoldable pub extent_radii : Extent → Option Radii
-extent_radii (extent.From a b) = some (record { lowest = a; highest = b })
-extent_radii extent.Nowhere = none
+found_radii r = pick (eqb r.many 0) None (Some (record { lowest = r.lowest; highest = r.highest }))
 
 unfoldable pub halved_radii : List Float → ℤ → Float → Float → Option Radii
-halved_radii ps z lo hi = pick (le lo hi) (radii_in ps (wider (halved_span ps z lo hi) (count ps)) lo hi) none
+halved_radii ps z lo hi = pick (le lo hi) (radii_in ps (wider (halved_span ps z lo hi) (count ps)) lo hi) None
 
 unfoldable pub kept_range : List Float → ℤ → Float → Float → Paper (Option Radii)
 kept_range ps z lo hi = demand (accepted z && (usable lo && usable hi)) 14 (answers (halved_radii ps z (clean_of lo) (clean_of hi)))
 
 -- what the two radii's promise says
-abbrev pub RadiusRangeKept : List Float → ℤ → Float → Float → RadiusRange → Type 0
-RadiusRangeKept ps z lo hi r = Kept ps z (radius_range_paper r) (kept_range ps z lo hi) (radius_range_of ps lo hi)
+abbrev pub RadiusRangeKept : List Float → ℤ → Float → Float → (Result (Option Radii) Refusal) → Type 0
+RadiusRangeKept ps z lo hi r = Kept ps z (paper_of r) (kept_range ps z lo hi) (radius_range_of ps lo hi)

@@ -3,21 +3,14 @@
 ghost use Rattle.std.specs.Prelude.{◌≡◌, true, ◌+◌, ◌*◌, ◌≤◌, length};
 ghost use Rattle.std.specs.Float.Ieee.{le};
 ghost use Rattle.envelope.specs.Envelope.{point_at, across, segment_at, higher, highest_in, taken, segment_over, segment_in, radii_in};
-ghost use Rattle.envelope.specs.Halving.{radius_of, aside, found_radii, extent_radii};
+ghost use Rattle.envelope.specs.Halving.{aside, found_radii};
 
-use super::{Radius, Span};
+use super::{Radii, Span, higher};
 
 #[derive(Clone, Copy)]
 struct Point {
     u: f64,
     v: f64,
-}
-
-// The lowest and the highest of some radii, or none.
-#[derive(Clone, Copy)]
-pub enum Extent {
-    From(f64, f64),
-    Nowhere,
 }
 
 fn point_at(points: &[f64], i: usize) -> Point
@@ -39,30 +32,18 @@ fn across(p: Point, q: Point, u: f64) -> f64
 }
 
 // The radius at u of the segment from p to q.
-fn segment_at(p: Point, q: Point, u: f64) -> Radius
-    ensures { radius_of result ≡ segment_at p q u }
+fn segment_at(p: Point, q: Point, u: f64) -> Option<f64>
+    ensures { result ≡ segment_at p q u }
 {
     let lo = floats::least(p.u, q.u);
     let hi = floats::greatest(p.u, q.u);
     if (u < lo) | (hi < u) {
-        return Radius::Nowhere;
+        return None;
     }
     if q.u == p.u {
-        return Radius::At(floats::greatest(p.v, q.v));
+        return Some(floats::greatest(p.v, q.v));
     }
-    Radius::At(across(p, q, u))
-}
-
-fn higher(a: Radius, b: Radius) -> Radius
-    ensures { radius_of result ≡ higher (radius_of a) (radius_of b) }
-{
-    match a {
-        Radius::Nowhere => b,
-        Radius::At(x) => match b {
-            Radius::Nowhere => Radius::At(x),
-            Radius::At(y) => Radius::At(floats::greatest(x, y)),
-        },
-    }
+    Some(across(p, q, u))
 }
 
 // Both u's lie before lo, or both behind hi. The lent numbers say so: -0.0 and +0.0 compare alike.
@@ -79,9 +60,9 @@ fn is_aside(pu: f64, qu: f64, lo: f64, hi: f64) -> bool
 }
 
 // The radius found, with that at u of the segment from point i.
-fn higher_at(found: Radius, points: &[f64], i: usize, u: f64) -> Radius
+fn higher_at(found: Option<f64>, points: &[f64], i: usize, u: f64) -> Option<f64>
     requires { 2 * i + 4 ≤ length points.now }
-    ensures { radius_of result ≡ higher (radius_of found) (segment_at (point_at points.now i) (point_at points.now (i + 1)) u) }
+    ensures { result ≡ higher found (segment_at (point_at points.now i) (point_at points.now (i + 1)) u) }
 {
     let at = 2 * i;
     if is_aside(points[at], points[at + 2], u, u) {
@@ -93,20 +74,18 @@ fn higher_at(found: Radius, points: &[f64], i: usize, u: f64) -> Radius
 }
 
 // The highest radius at u over the segments between the points of the span.
-pub fn highest_in(points: &[f64], s: Span, u: f64) -> Radius
+pub fn highest_in(points: &[f64], s: Span, u: f64) -> Option<f64>
     requires { 2 * s.end ≤ length points.now }
-    ensures { radius_of result ≡ highest_in points.now s u }
+    ensures { result ≡ highest_in points.now s u }
 {
     let start = s.start;
     let end = s.end;
     if end <= start {
-        return Radius::Nowhere;
+        return None;
     }
-    let mut found = Radius::Nowhere;
-    let mut i = start;
-    while i + 1 < end {
+    let mut found = None;
+    for i in start..end - 1 {
         found = higher_at(found, points, i, u);
-        i += 1;
     }
     found
 }
@@ -173,34 +152,35 @@ fn taken_from(found: Found, points: &[f64], i: usize, lo: f64, hi: f64) -> Found
 }
 
 // The radii found, or none.
-fn extent_found(found: Found) -> Extent
-    ensures { extent_radii result ≡ found_radii found }
+fn extent_found(found: Found) -> Option<Radii>
+    ensures { result ≡ found_radii found }
 {
     if found.many == 0 {
-        return Extent::Nowhere;
+        return None;
     }
-    Extent::From(found.lowest, found.highest)
+    Some(Radii {
+        lowest: found.lowest,
+        highest: found.highest,
+    })
 }
 
 // The lowest and the highest radius over lo..hi over the segments between the points of the span.
-pub fn extent_in(points: &[f64], s: Span, lo: f64, hi: f64) -> Extent
+pub fn extent_in(points: &[f64], s: Span, lo: f64, hi: f64) -> Option<Radii>
     requires { (2 * s.end ≤ length points.now) × (le lo hi ≡ true) }
-    ensures { extent_radii result ≡ radii_in points.now s lo hi }
+    ensures { result ≡ radii_in points.now s lo hi }
 {
     let start = s.start;
     let end = s.end;
     if end <= start {
-        return Extent::Nowhere;
+        return None;
     }
     let mut found = Found {
         many: 0,
         lowest: 0.0,
         highest: 0.0,
     };
-    let mut i = start;
-    while i + 1 < end {
+    for i in start..end - 1 {
         found = taken_from(found, points, i, lo, hi);
-        i += 1;
     }
     extent_found(found)
 }

@@ -1,14 +1,14 @@
 -- What is answered over the candidates: the answer is that of some candidate, and no candidate has more; nothing is answered exactly where no candidate gives anything. Assumes nothing.
+use Rattle.std.specs.Prelude.{Option, None, Some}
 use mathlib.Core.Path.{◌≡◌, refl, sym, ap, ◌∙◌}
 use mathlib.Core.Bool.{Bool, true, false, ◌&&◌, false≢true}
 use mathlib.Core.Logic.{◌⊎◌, inl, inr, ◌↔◌}
 use mathlib.Core.List.{List}
-use mathlib.Core.Option.{Option, none, some}
 use Prim.Native.Nat.{ℕ, zero, suc, ◌+◌, ◌-◌, ◌<◌}
 use native.Mathlib.Nat.{eq-or-lt_of_le}
 use native.Mathlib.Omega.{arith}
 use lib.Dec.{T, eqb}
-use lib.Ieee.{Float, nan, inf, fin, binary64, lt, le, eq, fits, is_nan}
+use lib.Ieee.{Float, nan, inf, fin, binary64, lt, le, fits, is_nan}
 use lib.Ieee.Fits.{sub-fits}
 use borrow.Author.Tests.{eqb-true}
 use Rattle.floats.specs.Pick.{pick}
@@ -25,10 +25,10 @@ use Rattle.insert.specs.declared.candidates.Trial.{Trial}
 use Rattle.insert.specs.Insert.{offset_of, edges_to, edges_of, beyond, touch_at, with_candidate, with_point, points_to, points_in, polygon_to, trial_of, touch_of}
 
 -- ---- none is no number
-pub none-some : {A : Type 0} {a : A} → none ≡ some a → ⊥
+pub none-some : {A : Type 0} {a : A} → None ≡ Some a → ⊥
 none-some h = let z : ◌≡◌ {A = ℕ} 0 1 = cc in omega arith
 
-pub same_some : {A : Type 0} {a b : A} → some a ≡ some b → a ≡ b
+pub same_some : {A : Type 0} {a b : A} → Some a ≡ Some b → a ≡ b
 same_some h = cc
 
 -- ---- the order of values, a nan among them
@@ -92,17 +92,17 @@ not_more a b y fa fb fy l n = go (nan-or a fa) (nan-or b fb) (nan-or y fy)
 pub record Reached (f : Float → Option Float) (S : Float → Type 0) (x : Float) : Type 0 where
   pub at : Float
   pub among : S at
-  pub gives : f at ≡ some x
+  pub gives : f at ≡ Some x
 
 -- something is found, and y is not above it
 abbrev pub NoMore : Option Float → Float → Type 0
-NoMore none y = ⊥
-NoMore (some x) y = lt x y ≡ false
+NoMore None y = ⊥
+NoMore (Some x) y = lt x y ≡ false
 
 -- r is what f gives at some place of S, and at no place of S does it give more
 pub record Best (f : Float → Option Float) (S : Float → Type 0) (r : Option Float) : Type 0 where
-  pub attained : (x : Float) → r ≡ some x → Reached f S x
-  pub most : (u y : Float) → S u → f u ≡ some y → NoMore r y
+  pub attained : (x : Float) → r ≡ Some x → Reached f S x
+  pub most : (u y : Float) → S u → f u ≡ Some y → NoMore r y
 
 -- of the same places
 best-same : (f : Float → Option Float) (S S' : Float → Type 0) (r : Option Float) → ((v : Float) → S v → S' v) → ((v : Float) → S' v → S v) → Best f S r → Best f S' r
@@ -111,53 +111,53 @@ best-same f S S' r to back b = record {
   most = λ u y s g. b.most u y (back u s) g;
 }
 
-module _ (f : Float → Option Float) (held : (u x : Float) → f u ≡ some x → T (fits binary64 x)) (S : Float → Type 0) (u : Float) where
+module _ (f : Float → Option Float) (held : (u x : Float) → f u ≡ Some x → T (fits binary64 x)) (S : Float → Type 0) (u : Float) where
   -- those, and u
   abbrev And : Float → Type 0
   And v = S v ⊎ (v ≡ u)
 
-  there : {c : Float} → f u ≡ some c → (v y : Float) → v ≡ u → f v ≡ some y → c ≡ y
+  there : {c : Float} → f u ≡ Some c → (v y : Float) → v ≡ u → f v ≡ Some y → c ≡ y
   there e v y q g = same_some (sym e ∙ (ap f (sym q) ∙ g))
 
   wide : {x : Float} → Reached f S x → Reached f And x
   wide q = record { at = q.at; among = inl q.among; gives = q.gives }
 
-  best-nothing : (r : Option Float) → f u ≡ none → Best f S r → Best f And r
+  best-nothing : (r : Option Float) → f u ≡ None → Best f S r → Best f And r
   best-nothing r e b = record { attained = λ x h. wide (b.attained x h); most = λ v y s g. go v y s g }
     where
-      go : (v y : Float) → And v → f v ≡ some y → NoMore r y
+      go : (v y : Float) → And v → f v ≡ Some y → NoMore r y
       go v y (inl s) g = b.most v y s g
       go v y (inr q) g = absurd (none-some (sym e ∙ (ap f (sym q) ∙ g)))
 
-  best-first : (c : Float) → f u ≡ some c → Best f S none → Best f And (some c)
+  best-first : (c : Float) → f u ≡ Some c → Best f S None → Best f And (Some c)
   best-first c e b = record { attained = λ x h. record { at = u; among = inr refl; gives = e ∙ h }; most = λ v y s g. go v y s g }
     where
-      go : (v y : Float) → And v → f v ≡ some y → lt c y ≡ false
+      go : (v y : Float) → And v → f v ≡ Some y → lt c y ≡ false
       go v y (inl s) g = absurd (b.most v y s g)
       go v y (inr q) g = rw (← there e v y q g) (not-less-self c (held u c e))
 
-  best-two : (a c : Float) → f u ≡ some c → Best f S (some a) → (t : Bool) → lt a c ≡ t → Best f And (some (pick t c a))
+  best-two : (a c : Float) → f u ≡ Some c → Best f S (Some a) → (t : Bool) → lt a c ≡ t → Best f And (Some (pick t c a))
   unfolding pick
   best-two a c e b true l = record { attained = λ x h. record { at = u; among = inr refl; gives = e ∙ h }; most = λ v y s g. go v y s g }
     where
       fa : T (fits binary64 a)
       fa = let q = b.attained a refl in held q.at a q.gives
 
-      go : (v y : Float) → And v → f v ≡ some y → lt c y ≡ false
+      go : (v y : Float) → And v → f v ≡ Some y → lt c y ≡ false
       go v y (inl s) g = not-less a c y fa (held u c e) (held v y g) l (b.most v y s g)
       go v y (inr q) g = rw (← there e v y q g) (not-less-self c (held u c e))
   best-two a c e b false l = record { attained = λ x h. wide (b.attained x h); most = λ v y s g. go v y s g }
     where
-      go : (v y : Float) → And v → f v ≡ some y → lt a y ≡ false
+      go : (v y : Float) → And v → f v ≡ Some y → lt a y ≡ false
       go v y (inl s) g = b.most v y s g
       go v y (inr q) g = rw (← there e v y q g) l
 
   best-more : (r s : Option Float) → f u ≡ s → Best f S r → Best f And (higher r s)
   unfolding higher greatest_of
-  best-more none none e b = best-nothing none e b
-  best-more none (some c) e b = best-first c e b
-  best-more (some a) none e b = best-nothing (some a) e b
-  best-more (some a) (some c) e b = best-two a c e b (lt a c) refl
+  best-more None None e b = best-nothing None e b
+  best-more None (Some c) e b = best-first c e b
+  best-more (Some a) None e b = best-nothing (Some a) e b
+  best-more (Some a) (Some c) e b = best-two a c e b (lt a c) refl
 
   -- those, and u where the test holds
   abbrev pub AndWhere : Bool → Float → Type 0
@@ -203,23 +203,23 @@ pub none_below : {n : ℕ} → n < 0 → ⊥
 none_below h = omega arith
 
 -- ---- what is compared is a value of the format
-beyond-held : (w : Which) (o e : Option Float) (x : Float) → beyond w o e ≡ some x → T (fits binary64 x)
+beyond-held : (w : Which) (o e : Option Float) (x : Float) → beyond w o e ≡ Some x → T (fits binary64 x)
 unfolding beyond pick
-beyond-held w none e x h = absurd (none-some h)
-beyond-held w (some o) none x h = absurd (none-some h)
-beyond-held Least (some o) (some e) x h = go (lt zero64 o) h
+beyond-held w None e x h = absurd (none-some h)
+beyond-held w (Some o) None x h = absurd (none-some h)
+beyond-held Least (Some o) (Some e) x h = go (lt zero64 o) h
   where
-    go : (t : Bool) → pick t (some (o -₆₄ e)) none ≡ some x → T (fits binary64 x)
+    go : (t : Bool) → pick t (Some (o -₆₄ e)) None ≡ Some x → T (fits binary64 x)
     go true h = rw (← same_some h) (sub-fits binary64 o e)
     go false h = absurd (none-some h)
-beyond-held Greatest (some o) (some e) x h = rw (← same_some h) (sub-fits binary64 e o)
+beyond-held Greatest (Some o) (Some e) x h = rw (← same_some h) (sub-fits binary64 e o)
 
 module _ (w : Which) (ps gs : List Float) (a : Trial) where
   -- what is compared at u
   abbrev at : Float → Option Float
   at u = touch_at w ps gs a.tolerance u
 
-  at_held : (u x : Float) → at u ≡ some x → T (fits binary64 x)
+  at_held : (u x : Float) → at u ≡ Some x → T (fits binary64 x)
   unfolding touch_at
   at_held u x h = beyond-held w (offset_of w ps a.tolerance u) (edges_of w gs u) x h
 
@@ -302,35 +302,35 @@ module _ (w : Which) (ps gs : List Float) (t : Float) where
   Candidate v = CandidateTo w ps gs (trial_of gs t) (count gs) v
 
   -- without a polygon nothing is compared
-  no_edges : count gs ≡ 0 → (u : Float) → touch_at w ps gs t u ≡ none
+  no_edges : count gs ≡ 0 → (u : Float) → touch_at w ps gs t u ≡ None
   unfolding touch_at edges_of edges_to beyond
   no_edges h u = rw h (go (offset_of w ps t u))
     where
-      go : (o : Option Float) → beyond w o none ≡ none
-      go none = refl
-      go (some x) = refl
+      go : (o : Option Float) → beyond w o None ≡ None
+      go None = refl
+      go (Some x) = refl
 
   -- excess and penetration: attained at a candidate, and no candidate has more
   pub touch-best : Best (touch_at w ps gs t) Candidate (touch_of w ps gs t)
   unfolding touch_of pick
   touch-best = go (eqb (count gs) 0) refl
     where
-      go : (z : Bool) → eqb (count gs) 0 ≡ z → Best (touch_at w ps gs t) Candidate (pick z none (polygon_to w ps gs (trial_of gs t) (count gs)))
+      go : (z : Bool) → eqb (count gs) 0 ≡ z → Best (touch_at w ps gs t) Candidate (pick z None (polygon_to w ps gs (trial_of gs t) (count gs)))
       go true e = record { attained = λ x h. absurd (none-some h); most = λ u y s g. absurd (none-some (sym (no_edges (eqb-true (count gs) 0 e) u) ∙ g)) }
       go false e = polygon-best w ps gs (trial_of gs t) (count gs)
 
   -- nothing is answered exactly where no candidate gives anything
-  pub nothing-exactly : (touch_of w ps gs t ≡ none) ↔ ((u : Float) → Candidate u → touch_at w ps gs t u ≡ none)
+  pub nothing-exactly : (touch_of w ps gs t ≡ None) ↔ ((u : Float) → Candidate u → touch_at w ps gs t u ≡ None)
   nothing-exactly = (λ e u c. to (touch_at w ps gs t u) refl e c, λ h. from (touch_of w ps gs t) refl h)
     where
-      to : {u : Float} (o : Option Float) → touch_at w ps gs t u ≡ o → touch_of w ps gs t ≡ none → Candidate u → o ≡ none
-      to none e z c = refl
-      to {u} (some y) e z c = absurd (rw z at (touch-best.most u y c e))
+      to : {u : Float} (o : Option Float) → touch_at w ps gs t u ≡ o → touch_of w ps gs t ≡ None → Candidate u → o ≡ None
+      to None e z c = refl
+      to {u} (Some y) e z c = absurd (rw z at (touch-best.most u y c e))
 
-      from : (r : Option Float) → touch_of w ps gs t ≡ r → ((u : Float) → Candidate u → touch_at w ps gs t u ≡ none) → r ≡ none
-      from none e h = refl
-      from (some x) e h = let q = touch-best.attained x e in absurd (none-some (sym (h q.at q.among) ∙ q.gives))
+      from : (r : Option Float) → touch_of w ps gs t ≡ r → ((u : Float) → Candidate u → touch_at w ps gs t u ≡ None) → r ≡ None
+      from None e h = refl
+      from (Some x) e h = let q = touch-best.attained x e in absurd (none-some (sym (h q.at q.among) ∙ q.gives))
 
   -- so a polygon with no points touches nothing
-  pub no-polygon : count gs ≡ 0 → touch_of w ps gs t ≡ none
+  pub no-polygon : count gs ≡ 0 → touch_of w ps gs t ≡ None
   no-polygon h = nothing-exactly.1 (λ u c. no_edges h u)

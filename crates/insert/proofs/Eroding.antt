@@ -1,9 +1,9 @@
 -- What is answered over the samples of a window: where there is an answer every sample has a value, the answer is that of one of them, and none goes beyond it. Assumes nothing.
+use Rattle.std.specs.Prelude.{Option, None, Some}
 use mathlib.Core.Path.{◌≡◌, refl, sym, ap, ◌∙◌}
 use mathlib.Core.Bool.{Bool, true, false, ◌&&◌, ◌||◌, false≢true}
 use mathlib.Core.Logic.{◌⊎◌, inl, inr}
 use mathlib.Core.List.{List}
-use mathlib.Core.Option.{Option, none, some}
 use Prim.Native.Nat.{ℕ, zero, suc, ◌+◌, ◌-◌, ◌*◌, ◌<◌}
 use native.Mathlib.Nat.{eq-or-lt_of_le}
 use native.Mathlib.Omega.{arith}
@@ -13,10 +13,9 @@ use lib.IntN.{pos}
 use lib.Ieee.{Float, nan, fin, binary64, lt, eq, fits, of_bits, of_fields, odd}
 use lib.Ieee.Fits.{add-fits}
 use Rattle.floats.specs.Pick.{pick}
-use Rattle.floats.specs.Numbers.{◌+₆₄◌, ◌-₆₄◌, zero64, least_of, greatest_of, clean_of}
+use Rattle.floats.specs.Numbers.{◌+₆₄◌, ◌-₆₄◌, zero64, least_of, greatest_of}
 use Rattle.floats.proofs.Lattice.{greatest-keeps}
 use Rattle.floats.proofs.Cleared.{clean-keeps}
-use Rattle.envelope.specs.declared.Span.{Span}
 use Rattle.envelope.specs.Envelope.{count, u_at, v_at, point_at, span_of, across, segment_at, higher, highest_to, highest_at}
 use Rattle.insert.specs.declared.Which.{Which}
 use Rattle.insert.specs.declared.Which.TheVariants.{Least, Greatest}
@@ -46,7 +45,7 @@ ahead-on Greatest m x y fm fx fy l n = not-less m x y fm fx fy l n
 -- f gives a value at u, and it does not go beyond m
 pub record Sampled (w : Which) (f : Float → Option Float) (m u : Float) : Type 0 where
   pub value : Float
-  pub gives : f u ≡ some value
+  pub gives : f u ≡ Some value
   pub within : ahead w value m ≡ false
 
 -- m is what f gives at some place of S; at every place it gives a value, and none goes beyond m
@@ -54,19 +53,19 @@ pub record Extreme (w : Which) (f : Float → Option Float) (S : Float → Type 
   pub attained : Reached f S m
   pub each : (u : Float) → S u → Sampled w f m u
 
-module _ (w : Which) (f : Float → Option Float) (held : (u x : Float) → f u ≡ some x → T (fits binary64 x)) where
+module _ (w : Which) (f : Float → Option Float) (held : (u x : Float) → f u ≡ Some x → T (fits binary64 x)) where
   extreme-same : (S S' : Float → Type 0) (m : Float) → ((v : Float) → S v → S' v) → ((v : Float) → S' v → S v) → Extreme w f S m → Extreme w f S' m
   extreme-same S S' m to back e =
       let q = e.attained in
       record { attained = record { at = q.at; among = to q.at q.among; gives = q.gives }; each = λ u s. e.each u (back u s) }
 
-  extreme-one : (u c : Float) → f u ≡ some c → Extreme w f (λ v. v ≡ u) c
+  extreme-one : (u c : Float) → f u ≡ Some c → Extreme w f (λ v. v ≡ u) c
   extreme-one u c e = record {
     attained = record { at = u; among = refl; gives = e };
     each = λ v q. record { value = c; gives = ap f q ∙ e; within = ahead-self w c (held u c e) };
   }
 
-  module _ (S : Float → Type 0) (u m c : Float) (e : f u ≡ some c) (b : Extreme w f S m) where
+  module _ (S : Float → Type 0) (u m c : Float) (e : f u ≡ Some c) (b : Extreme w f S m) where
     abbrev And : Float → Type 0
     And v = S v ⊎ (v ≡ u)
 
@@ -92,11 +91,11 @@ module _ (w : Which) (f : Float → Option Float) (held : (u x : Float) → f u 
     extreme-more = rw (chosen_is w m c) (extreme-two (ahead w c m) refl)
 
   -- where both have a value
-  both_of : (S : Float → Type 0) (u : Float) (r s : Option Float) → f u ≡ s → ((m : Float) → r ≡ some m → Extreme w f S m) → (m : Float) → both w r s ≡ some m → Extreme w f (λ v. S v ⊎ (v ≡ u)) m
+  both_of : (S : Float → Type 0) (u : Float) (r s : Option Float) → f u ≡ s → ((m : Float) → r ≡ Some m → Extreme w f S m) → (m : Float) → both w r s ≡ Some m → Extreme w f (λ v. S v ⊎ (v ≡ u)) m
   unfolding both
-  both_of S u none s e g m h = absurd (none-some h)
-  both_of S u (some a) none e g m h = absurd (none-some h)
-  both_of S u (some a) (some c) e g m h = rw (← same_some h) (extreme-more S u a c e (g a refl))
+  both_of S u None s e g m h = absurd (none-some h)
+  both_of S u (Some a) None e g m h = absurd (none-some h)
+  both_of S u (Some a) (Some c) e g m h = rw (← same_some h) (extreme-more S u a c e (g a refl))
 
 -- ---- the samples of a window
 -- an end of the window, or the u of one of the first k points from point a on that lies strictly inside
@@ -123,36 +122,36 @@ module _ (ps : List Float) (held : (i : ℕ) → T (fits binary64 (get_or ps i n
   unfolding v_at
   v-fits i = clean-keeps (λ z. T (fits binary64 z)) clean-fits (held (2 * i + 1))
 
-  segment-fits : (i j : ℕ) (u x : Float) → segment_at (point_at ps i) (point_at ps j) u ≡ some x → T (fits binary64 x)
+  segment-fits : (i j : ℕ) (u x : Float) → segment_at (point_at ps i) (point_at ps j) u ≡ Some x → T (fits binary64 x)
   unfolding segment_at across pick
   segment-fits i j u x h = go (lt u (least_of (u_at ps i) (u_at ps j)) || lt (greatest_of (u_at ps i) (u_at ps j)) u) (eq (u_at ps j) (u_at ps i)) h
     where
-      go : (a b : Bool) → pick a none (some (pick b (greatest_of (v_at ps i) (v_at ps j)) (across (point_at ps i) (point_at ps j) u))) ≡ some x → T (fits binary64 x)
+      go : (a b : Bool) → pick a None (Some (pick b (greatest_of (v_at ps i) (v_at ps j)) (across (point_at ps i) (point_at ps j) u))) ≡ Some x → T (fits binary64 x)
       go true b h = absurd (none-some h)
       go false true h = rw (← same_some h) (greatest-keeps (λ z. T (fits binary64 z)) (v-fits i) (v-fits j))
       go false false h = rw (← same_some h) (add-fits binary64 _ _)
 
-  higher-fits : (r s : Option Float) → ((x : Float) → r ≡ some x → T (fits binary64 x)) → ((x : Float) → s ≡ some x → T (fits binary64 x)) → (x : Float) → higher r s ≡ some x → T (fits binary64 x)
+  higher-fits : (r s : Option Float) → ((x : Float) → r ≡ Some x → T (fits binary64 x)) → ((x : Float) → s ≡ Some x → T (fits binary64 x)) → (x : Float) → higher r s ≡ Some x → T (fits binary64 x)
   unfolding higher
-  higher-fits none s p q x h = q x h
-  higher-fits (some a) none p q x h = p x h
-  higher-fits (some a) (some b) p q x h = rw (← same_some h) (greatest-keeps (λ z. T (fits binary64 z)) (p a refl) (q b refl))
+  higher-fits None s p q x h = q x h
+  higher-fits (Some a) None p q x h = p x h
+  higher-fits (Some a) (Some b) p q x h = rw (← same_some h) (greatest-keeps (λ z. T (fits binary64 z)) (p a refl) (q b refl))
 
-  highest-fits : (u : Float) (a k : ℕ) (x : Float) → highest_to ps u a k ≡ some x → T (fits binary64 x)
+  highest-fits : (u : Float) (a k : ℕ) (x : Float) → highest_to ps u a k ≡ Some x → T (fits binary64 x)
   unfolding highest_to
   highest-fits u a zero x h = absurd (none-some h)
   highest-fits u a (suc k) x h = higher-fits (highest_to ps u a k) _ (highest-fits u a k) (segment-fits (a + k) (a + k + 1) u) x h
 
-  or-zero-fits : (r : Option Float) → ((x : Float) → r ≡ some x → T (fits binary64 x)) → T (fits binary64 (or_zero r))
-  or-zero-fits none p = zero-fits
-  or-zero-fits (some x) p = p x refl
+  or-zero-fits : (r : Option Float) → ((x : Float) → r ≡ Some x → T (fits binary64 x)) → T (fits binary64 (or_zero r))
+  or-zero-fits None p = zero-fits
+  or-zero-fits (Some x) p = p x refl
 
-  sample-fits : (w : Which) (u x : Float) → sample_at w ps u ≡ some x → T (fits binary64 x)
+  sample-fits : (w : Which) (u x : Float) → sample_at w ps u ≡ Some x → T (fits binary64 x)
   unfolding sample_at bore_at pick
   sample-fits Least u x h = highest-fits u _ _ x h
   sample-fits Greatest u x h = go (eqb (count ps) 0) (lt (most_of Greatest ps) u) (lt u (most_of Least ps)) h
     where
-      go : (a b c : Bool) → pick a none (pick b none (pick c (some zero64) (some (or_zero (highest_at ps u))))) ≡ some x → T (fits binary64 x)
+      go : (a b c : Bool) → pick a None (pick b None (pick c (Some zero64) (Some (or_zero (highest_at ps u))))) ≡ Some x → T (fits binary64 x)
       go true b c h = absurd (none-some h)
       go false true c h = absurd (none-some h)
       go false false true h = rw (← same_some h) zero-fits
@@ -162,11 +161,11 @@ module _ (ps : List Float) (held : (i : ℕ) → T (fits binary64 (get_or ps i n
     abbrev f : Float → Option Float
     f u = sample_at w ps u
 
-    ends : (m : Float) → both w (f wlo) (f whi) ≡ some m → Extreme w f (λ v. (v ≡ wlo) ⊎ (v ≡ whi)) m
+    ends : (m : Float) → both w (f wlo) (f whi) ≡ Some m → Extreme w f (λ v. (v ≡ wlo) ⊎ (v ≡ whi)) m
     ends m h = both_of w f (sample-fits w) (λ v. v ≡ wlo) whi (f wlo) (f whi) refl (λ c e. extreme-one w f (sample-fits w) wlo c e) m h
 
-    one_more : (k : ℕ) (r : Option Float) → ((m : Float) → r ≡ some m → Extreme w f (Sample ps wlo whi a k) m) → (t : Bool) → (lt wlo (u_at ps (a + k)) && lt (u_at ps (a + k)) whi) ≡ t
-        → (m : Float) → pick t (both w r (f (u_at ps (a + k)))) r ≡ some m → Extreme w f (Sample ps wlo whi a (suc k)) m
+    one_more : (k : ℕ) (r : Option Float) → ((m : Float) → r ≡ Some m → Extreme w f (Sample ps wlo whi a k) m) → (t : Bool) → (lt wlo (u_at ps (a + k)) && lt (u_at ps (a + k)) whi) ≡ t
+        → (m : Float) → pick t (both w r (f (u_at ps (a + k)))) r ≡ Some m → Extreme w f (Sample ps wlo whi a (suc k)) m
     unfolding pick
     one_more k r g true e m h =
         extreme-same w f (sample-fits w) (λ v. Sample ps wlo whi a k v ⊎ (v ≡ u_at ps (a + k))) (Sample ps wlo whi a (suc k)) m to back
@@ -200,7 +199,7 @@ module _ (ps : List Float) (held : (i : ℕ) → T (fits binary64 (get_or ps i n
                 absurd (false≢true (sym e ∙ (ap (λ (x : Float). lt wlo x && lt x whi) (sym p') ∙ q.inside)))
             go i (inr l) p = inr (record { point = i; below = l; place = p; inside = q.inside })
 
-    pub sampled-extreme : (k : ℕ) (m : Float) → sampled_to w ps wlo whi a k ≡ some m → Extreme w f (Sample ps wlo whi a k) m
+    pub sampled-extreme : (k : ℕ) (m : Float) → sampled_to w ps wlo whi a k ≡ Some m → Extreme w f (Sample ps wlo whi a k) m
     unfolding sampled_to with_inside
     sampled-extreme zero m h = extreme-same w f (sample-fits w) (λ v. (v ≡ wlo) ⊎ (v ≡ whi)) (Sample ps wlo whi a zero) m (λ v s. inl s) back (ends m h)
       where
@@ -215,10 +214,10 @@ module _ (ps : List Float) (held : (i : ℕ) → T (fits binary64 (get_or ps i n
     pub moves : x ≡ moved w t from
     pub extreme : let s = span_of ps (u -₆₄ t) (u +₆₄ t) in Extreme w (sample_at w ps) (Sample ps (u -₆₄ t) (u +₆₄ t) s.start (s.end - s.start)) from
 
-  pub eroded-below : (w : Which) (t u x : Float) → offset_of w ps t u ≡ some x → Offset w t u x
+  pub eroded-below : (w : Which) (t u x : Float) → offset_of w ps t u ≡ Some x → Offset w t u x
   unfolding offset_of moved_of
   eroded-below w t u x h = go (sampled_in w ps (u -₆₄ t) (u +₆₄ t) (span_of ps (u -₆₄ t) (u +₆₄ t))) refl h
     where
-      go : (r : Option Float) → sampled_in w ps (u -₆₄ t) (u +₆₄ t) (span_of ps (u -₆₄ t) (u +₆₄ t)) ≡ r → moved_of w t r ≡ some x → Offset w t u x
-      go none e h = absurd (none-some h)
-      go (some m) e h = record { from = m; moves = sym (same_some h); extreme = sampled-extreme w (u -₆₄ t) (u +₆₄ t) _ _ m e }
+      go : (r : Option Float) → sampled_in w ps (u -₆₄ t) (u +₆₄ t) (span_of ps (u -₆₄ t) (u +₆₄ t)) ≡ r → moved_of w t r ≡ Some x → Offset w t u x
+      go None e h = absurd (none-some h)
+      go (Some m) e h = record { from = m; moves = sym (same_some h); extreme = sampled-extreme w (u -₆₄ t) (u +₆₄ t) _ _ m e }

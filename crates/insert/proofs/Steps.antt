@@ -1,23 +1,21 @@
 -- The definitions by one turn of a loop, and what a test says of them. Assumes nothing.
+use Rattle.std.specs.Prelude.{Option, None, Some}
 use mathlib.Core.Path.{◌≡◌, refl, sym, ap, ap₂, ◌∙◌}
 use mathlib.Core.Bool.{Bool, true, false, ◌&&◌, ◌||◌}
 use mathlib.Core.List.{List}
-use mathlib.Core.Option.{Option, none, some}
-use Prim.Native.Nat.{ℕ, suc, ◌+◌, ◌-◌, ◌*◌, ◌%◌, ◌≤◌, ◌<◌}
+use Prim.Native.Nat.{ℕ, suc, ◌+◌, ◌-◌, ◌%◌, ◌≤◌, ◌<◌}
 use native.Mathlib.Nat.{mod-eq_of_lt, mod_self}
 use native.Mathlib.Numerals.{add-one}
 use native.Mathlib.Omega.{arith}
 use lib.Ieee.{Float, lt, eq}
 use borrow.Author.Tests.{eq-eqb, ne_eqb}
-use lib.ListN.{length}
-use lib.IntN.{ℤ, pos, negsuc}
+use lib.IntN.{pos, negsuc}
 use Rattle.floats.specs.Pick.{pick, pick_true, pick-false}
 use Rattle.floats.specs.Numbers.{◌+₆₄◌, ◌-₆₄◌, ◌*₆₄◌, ◌/₆₄◌, zero64, least_of, greatest_of}
 use Rattle.refusals.specs.Paper.{answers, refuses, only, demand}
-use Rattle.envelope.specs.declared.Span.{Span}
 use Rattle.envelope.specs.Envelope.{count, u_at, v_at, points_good, rises, falls, order_of, across, highest_at}
-use Rattle.envelope.specs.Halving.{kept_of, halved_span}
-use Rattle.envelope.proofs.Kept.{span_fits, kept-outside, kept-good}
+use Rattle.envelope.specs.Halving.{kept_of}
+use Rattle.envelope.proofs.Kept.{kept-outside, kept-good}
 use Rattle.insert.specs.declared.Which.{Which}
 use Rattle.insert.specs.declared.Which.TheVariants.{Least, Greatest}
 use Rattle.insert.specs.declared.candidates.Trial.{Trial}
@@ -65,12 +63,6 @@ module _ (w : Which) (gs : List Float) (n : ℕ) (u : Float) where
   pub edges-closed : (i : ℕ) → i + 1 ≡ n → edges_to w gs n u n ≡ further w (edges_to w gs n u i) (edge_at w gs i 0 u)
   edges-closed i h = ap (edges_to w gs n u) (sym h) ∙ edge_to i 0 (ap (λ (k : ℕ). k % n) h ∙ mod_self n)
 
--- a span that halving finds ends among the points
-pub span-room : (ps : List Float) (z : ℤ) (lo hi : Float) (s : Span) (i : ℕ) → s ≡ halved_span ps z lo hi → i < s.end → 2 * i + 2 ≤ length ps
-span-room ps z lo hi s i e h =
-    let g : s.end ≤ count ps = rw e (span_fits ps z lo hi).1 in
-    omega arith
-
 -- ---- the number of the points' order: 2 exactly where they are refused
 order-not : (ps : List Float) → order_of ps ≡ pos 2 → ⊥
 unfolding order_of pick
@@ -100,7 +92,7 @@ module _ (w : Which) (gs : List Float) (i j : ℕ) (u : Float) {a b lo hi : Floa
   beside : {t : Bool} → (lt u lo || lt hi u) ≡ t → (lt u (least_of (u_at gs i) (u_at gs j)) || lt (greatest_of (u_at gs i) (u_at gs j)) u) ≡ t
   beside e = rw (← ea, ← eb, ← el, ← eh) e
 
-  pub edge_beside : (lt u lo || lt hi u) ≡ true → none ≡ edge_at w gs i j u
+  pub edge_beside : (lt u lo || lt hi u) ≡ true → None ≡ edge_at w gs i j u
   unfolding edge_at
   edge_beside e = sym (pick_true _ _ _ (beside e))
 
@@ -108,33 +100,33 @@ module _ (w : Which) (gs : List Float) (i j : ℕ) (u : Float) {a b lo hi : Floa
   upright e = rw (← ea, ← eb) e
 
   module _ {c d : Float} (ec : c ≡ v_at gs i) (ed : d ≡ v_at gs j) (left : (lt u lo || lt hi u) ≡ false) where
-    pub edge-upright : {x : Float} → eq b a ≡ true → x ≡ chosen w c d → some x ≡ edge_at w gs i j u
+    pub edge-upright : {x : Float} → eq b a ≡ true → x ≡ chosen w c d → Some x ≡ edge_at w gs i j u
     unfolding edge_at
-    edge-upright e g = sym (pick-false _ _ _ (beside left) ∙ ap some (pick_true _ _ _ (upright e) ∙ sym (g ∙ ap₂ (chosen w) ec ed)))
+    edge-upright e g = sym (pick-false _ _ _ (beside left) ∙ ap Some (pick_true _ _ _ (upright e) ∙ sym (g ∙ ap₂ (chosen w) ec ed)))
 
-    pub edge-across : eq b a ≡ false → some (c +₆₄ (u -₆₄ a) /₆₄ (b -₆₄ a) *₆₄ (d -₆₄ c)) ≡ edge_at w gs i j u
+    pub edge-across : eq b a ≡ false → Some (c +₆₄ (u -₆₄ a) /₆₄ (b -₆₄ a) *₆₄ (d -₆₄ c)) ≡ edge_at w gs i j u
     unfolding edge_at across
-    edge-across e = sym (pick-false _ _ _ (beside left) ∙ ap some (pick-false _ _ _ (upright e) ∙ rw (ea, eb, ec, ed)))
+    edge-across e = sym (pick-false _ _ _ (beside left) ∙ ap Some (pick-false _ _ _ (upright e) ∙ rw (ea, eb, ec, ed)))
 
 -- ---- the bore, from its ends
 module _ (ps : List Float) (u : Float) {front deepest : Float} (ef : front ≡ most_of Greatest ps) (ed : deepest ≡ most_of Least ps) where
-  pub bore-none : count ps ≡ 0 → none ≡ bore_at ps u
+  pub bore-none : count ps ≡ 0 → None ≡ bore_at ps u
   unfolding bore_at
   bore-none h = sym (pick_true _ _ _ (eq-eqb _ _ h))
 
   module _ (h : count ps ≡ 0 → ⊥) where
-    pub bore-front : lt front u ≡ true → none ≡ bore_at ps u
+    pub bore-front : lt front u ≡ true → None ≡ bore_at ps u
     unfolding bore_at
     bore-front e = sym (pick-false _ _ _ (ne_eqb _ _ h) ∙ pick_true _ _ _ (rw (← ef) e))
 
     module _ (e : lt front u ≡ false) where
-      pub bore-deep : lt u deepest ≡ true → some zero64 ≡ bore_at ps u
+      pub bore-deep : lt u deepest ≡ true → Some zero64 ≡ bore_at ps u
       unfolding bore_at
       bore-deep g = sym (pick-false _ _ _ (ne_eqb _ _ h) ∙ (pick-false _ _ _ (rw (← ef) e) ∙ pick_true _ _ _ (rw (← ed) g)))
 
-      pub bore-found : lt u deepest ≡ false → {r : Option Float} → r ≡ highest_at ps u → some (or_zero r) ≡ bore_at ps u
+      pub bore-found : lt u deepest ≡ false → {r : Option Float} → r ≡ highest_at ps u → Some (or_zero r) ≡ bore_at ps u
       unfolding bore_at
-      bore-found g k = sym (pick-false _ _ _ (ne_eqb _ _ h) ∙ (pick-false _ _ _ (rw (← ef) e) ∙ (pick-false _ _ _ (rw (← ed) g) ∙ ap (λ (r : Option Float). some (or_zero r)) (sym k))))
+      bore-found g k = sym (pick-false _ _ _ (ne_eqb _ _ h) ∙ (pick-false _ _ _ (rw (← ef) e) ∙ (pick-false _ _ _ (rw (← ed) g) ∙ ap (λ (r : Option Float). Some (or_zero r)) (sym k))))
 
 -- ---- what is refused with 14, and what is answered
 module _ {A : Type 0} (g b : Bool) (x : A) where

@@ -1,11 +1,10 @@
 -- Whether an insert touches: a polygon in (u, v) tried against an envelope, in the source's order of operations. Assumes nothing.
-use Rattle.std.specs.Prelude.{◌≡◌, Bool, true, ◌&&◌, ◌||◌, List, ℕ, zero, suc, ◌+◌, ◌-◌, ◌%◌, ◌<◌, leb, eqb, Float, length, get_or}
-use Rattle.std.proofs.Math.Option.{Option, none, some}
+use Rattle.std.specs.Prelude.{◌≡◌, Bool, true, ◌&&◌, ◌||◌, List, ℕ, zero, suc, ◌+◌, ◌-◌, ◌%◌, ◌<◌, leb, eqb, Float, length, get_or, Option, None, Some}
+use Rattle.std.specs.Option.{unwrap_or}
 use Rattle.std.specs.Float.{nan}
 use Rattle.std.specs.Float.Ieee.{le, lt, eq}
-use Rattle.refusals.specs.Number.{reason_of}
 use Rattle.refusals.specs.Limits.{point_limit}
-use Rattle.refusals.specs.Paper.{Paper, answers, refuses, demand}
+use Rattle.refusals.specs.Paper.{Paper, answers, demand}
 use Rattle.floats.specs.Pick.{pick}
 use Rattle.floats.specs.Numbers.{◌+₆₄◌, ◌-₆₄◌, zero64, least_of, greatest_of, clean_of, usable}
 use Rattle.envelope.specs.declared.Span.{Span}
@@ -14,8 +13,6 @@ use Rattle.insert.specs.declared.Which.{Which}
 use Rattle.insert.specs.declared.Which.TheVariants.{Least, Greatest}
 use Rattle.insert.specs.declared.samples.Look.{Look}
 use Rattle.insert.specs.declared.candidates.Trial.{Trial}
-use Rattle.insert.specs.declared.Touch.{Touch}
-use Rattle.insert.specs.declared.Touch.TheVariants as touch
 
 -- ---- refusal 14
 -- whole points, 64 at most, every number usable
@@ -52,15 +49,14 @@ most_of w ps = pick (eqb (count ps) 0) zero64 (most_to w ps (count ps - 1))
 -- ---- samples over the window from wlo to whi
 -- the radius, or 0 where there is none
 abbrev pub or_zero : Option Float → Float
-or_zero none = zero64
-or_zero (some x) = x
+or_zero r = unwrap_or r zero64
 
 -- the bore at u: none, which is open, in front of it; 0 past its deepest point
 unfoldable pub bore_at : List Float → Float → Option Float
 bore_at ps u =
-    pick (eqb (count ps) 0) none
-    (pick (lt (most_of Greatest ps) u) none
-    (pick (lt u (most_of Least ps)) (some zero64) (some (or_zero (highest_at ps u)))))
+    pick (eqb (count ps) 0) None
+    (pick (lt (most_of Greatest ps) u) None
+    (pick (lt u (most_of Least ps)) (Some zero64) (Some (or_zero (highest_at ps u)))))
 
 -- what is sampled at u: the part's radius, or the bore's
 unfoldable pub sample_at : Which → List Float → Float → Option Float
@@ -69,9 +65,9 @@ sample_at Greatest ps u = bore_at ps u
 
 -- the least or the greatest of two samples; none where one has none
 unfoldable pub both : Which → Option Float → Option Float → Option Float
-both w none r = none
-both w (some a) none = none
-both w (some a) (some b) = some (chosen w a b)
+both w None r = None
+both w (Some a) None = None
+both w (Some a) (Some b) = Some (chosen w a b)
 
 -- with one sample more, where it lies strictly inside the window
 unfoldable pub with_inside : Which → List Float → Float → Float → Option Float → Float → Option Float
@@ -92,8 +88,8 @@ moved Least t x = x -₆₄ t
 moved Greatest t x = x +₆₄ t
 
 unfoldable pub moved_of : Which → Float → Option Float → Option Float
-moved_of w t none = none
-moved_of w t (some x) = some (moved w t x)
+moved_of w t None = None
+moved_of w t (Some x) = Some (moved w t x)
 
 -- at u, within t along u
 unfoldable pub offset_of : Which → List Float → Float → Float → Option Float
@@ -103,18 +99,18 @@ offset_of w ps t u = moved_of w t (sampled_in w ps (u -₆₄ t) (u +₆₄ t) (
 -- the edge from point i to point j at u: none beyond its ends, of an upright one the least or the greatest end
 unfoldable pub edge_at : Which → List Float → ℕ → ℕ → Float → Option Float
 edge_at w gs i j u =
-    pick (lt u (least_of (u_at gs i) (u_at gs j)) || lt (greatest_of (u_at gs i) (u_at gs j)) u) none
-    (some (pick (eq (u_at gs j) (u_at gs i)) (chosen w (v_at gs i) (v_at gs j)) (across (point_at gs i) (point_at gs j) u)))
+    pick (lt u (least_of (u_at gs i) (u_at gs j)) || lt (greatest_of (u_at gs i) (u_at gs j)) u) None
+    (Some (pick (eq (u_at gs j) (u_at gs i)) (chosen w (v_at gs i) (v_at gs j)) (across (point_at gs i) (point_at gs j) u)))
 
 -- the least or the greatest of two, where there are two
 unfoldable pub further : Which → Option Float → Option Float → Option Float
-further w none r = r
-further w (some a) none = some a
-further w (some a) (some b) = some (chosen w a b)
+further w None r = r
+further w (Some a) None = Some a
+further w (Some a) (Some b) = Some (chosen w a b)
 
 -- over the first k edges of n points: edge i goes from point i to the next, the last back to point 0
 unfoldable pub edges_to : Which → List Float → ℕ → Float → ℕ → Option Float
-edges_to w gs n u zero = none
+edges_to w gs n u zero = None
 edges_to w gs n u (suc i) = further w (edges_to w gs n u i) (edge_at w gs i ((i + 1) % n) u)
 
 -- over all edges
@@ -124,10 +120,10 @@ edges_of w gs u = edges_to w gs (count gs) u (count gs)
 -- ---- the candidates
 -- how far the insert goes beyond: what is eroded less the insert's lowest, where something is left; the insert's highest less what is dilated
 unfoldable pub beyond : Which → Option Float → Option Float → Option Float
-beyond w none e = none
-beyond w (some o) none = none
-beyond Least (some o) (some e) = pick (lt zero64 o) (some (o -₆₄ e)) none
-beyond Greatest (some o) (some e) = some (e -₆₄ o)
+beyond w None e = None
+beyond w (Some o) None = None
+beyond Least (Some o) (Some e) = pick (lt zero64 o) (Some (o -₆₄ e)) None
+beyond Greatest (Some o) (Some e) = Some (e -₆₄ o)
 
 -- at u
 unfoldable pub touch_at : Which → List Float → List Float → Float → Float → Option Float
@@ -146,7 +142,7 @@ with_point w ps gs a r u =
 
 -- over the first k points from point b on
 unfoldable pub points_to : Which → List Float → List Float → Trial → ℕ → ℕ → Option Float
-points_to w ps gs a b zero = none
+points_to w ps gs a b zero = None
 points_to w ps gs a b (suc k) = with_point w ps gs a (points_to w ps gs a b k) (u_at ps (b + k))
 
 -- over the points of a span
@@ -164,7 +160,7 @@ trial_of gs t = record { tolerance = t; lo = most_of Least gs; hi = most_of Grea
 
 -- the greatest over all candidates; none without a polygon
 unfoldable pub touch_of : Which → List Float → List Float → Float → Option Float
-touch_of w ps gs t = pick (eqb (count gs) 0) none (polygon_to w ps gs (trial_of gs t) (count gs))
+touch_of w ps gs t = pick (eqb (count gs) 0) None (polygon_to w ps gs (trial_of gs t) (count gs))
 
 -- ---- the three calls
 unfoldable pub touched : Which → List Float → List Float → Float → Paper (Option Float)
@@ -182,12 +178,6 @@ penetration_of ps gs t = touched Least ps gs t
 unfoldable pub eroded_of : List Float → Float → Float → Paper (Option Float)
 eroded_of ps u t = demand (eroded_asks ps u t) 14 (answers (offset_of Least ps (clean_of t) (clean_of u)))
 
--- what the answer of excess and of penetration says, case by case
-abbrev pub touch_paper : Touch → Paper (Option Float)
-touch_paper (touch.By x) = answers (some x)
-touch_paper touch.Nothing = answers none
-touch_paper (touch.Refused c) = refuses (reason_of c)
-
 -- ---- what the code carries beside accepted points: their order, and the ends of the bore where one is asked
 abbrev pub end_of : Which → Float → Float
 end_of Least x = zero64
@@ -204,12 +194,8 @@ Bored ps l = Looks Greatest ps l
 
 -- the first k of a list are the samples at the own u of the first k points
 abbrev pub HeldTo : Which → List Float → List Float → ℕ → Type 0
-HeldTo w ps hs k = (i : ℕ) → i < k → sample_at w ps (u_at ps i) ≡ some (get_or hs i nan)
+HeldTo w ps hs k = (i : ℕ) → i < k → sample_at w ps (u_at ps i) ≡ Some (get_or hs i nan)
 
 -- and all of it
 abbrev pub Held : Which → List Float → List Float → Type 0
 Held w ps hs = HeldTo w ps hs (length hs)
-
-pub record Carried (w : Which) (ps hs : List Float) (l : Look) : Type 0 where
-  pub looks : Looks w ps l
-  pub held : Held w ps hs

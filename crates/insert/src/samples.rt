@@ -1,12 +1,11 @@
 // What is left of a part, or of a bore's room, within a tolerance along u: the ends of the window from
 // u - t to u + t are sampled, and every point's u strictly between them.
-ghost use Rattle.std.specs.Prelude.{◌≡◌, ◌*◌, ◌+◌, ◌≤◌, length, take};
-ghost use Rattle.envelope.specs.Halving.{radius_of};
-ghost use Rattle.insert.specs.Insert.{most_of, Looks, Bored, Held, HeldTo, Carried, bore_at, sample_at, both, with_inside, sampled_in, moved, moved_of, offset_of};
-ghost use Rattle.envelope.specs.Envelope.{u_at, span_of};
+ghost use Rattle.std.specs.Prelude.{◌≡◌, true, ◌*◌, ◌+◌, ◌≤◌, length, take};
+ghost use Rattle.insert.specs.Insert.{most_of, Looks, Bored, Held, HeldTo, bore_at, sample_at, both, with_inside, sampled_in, moved, moved_of, offset_of};
+ghost use Rattle.envelope.specs.Envelope.{u_at, span_of, points_good, order_of};
 
 use super::{Which, chosen};
-use envelope::Radius;
+use envelope::Span;
 
 // The points' order, and the ends of a bore: the greatest and the least u. They are 0 where no bore is asked.
 #[derive(Clone, Copy)]
@@ -14,6 +13,18 @@ pub struct Look {
     pub order: i8,
     pub front: f64,
     pub deepest: f64,
+}
+
+// Accepted points that are sampled, a part by its least radii or a bore by its greatest. At the points' own u
+// the samples may be held: those of the first points, put one after the other.
+#[derive(Clone, Copy)]
+pub struct Outline<'a> {
+    pub points: &'a [f64],
+    held: &'a [f64],
+    look: Look,
+    pub w: Which,
+    ghost looks: { Looks w points.now look },
+    ghost keeps: { Held w points.now held.now },
 }
 
 // The least or the greatest u of the points.
@@ -25,79 +36,57 @@ pub fn most(points: &[f64], w: Which) -> f64
         return 0.0;
     }
     let mut found = floats::clean(points[0]);
-    let mut i: usize = 1;
-    while i < n {
+    for i in 1..n {
         found = chosen(w, found, floats::clean(points[2 * i]));
-        i += 1;
     }
     found
 }
 
-// The bore at u; nowhere where it is open.
-fn bore_at(points: &[f64], l: Look, u: f64) -> Radius
-    requires { Bored points.now l }
-    ensures { radius_of result ≡ bore_at points.now u }
+// Accepted points beside their order.
+fn look_of(points: &[f64], order: i8, w: Which) -> Look
+    requires { (points_good points.now ≡ true) × (order ≡ order_of points.now) }
+    ensures { Looks w points.now result }
 {
-    if points.len() / 2 == 0 {
-        return Radius::Nowhere;
-    }
-    if l.front < u {
-        return Radius::Nowhere;
-    }
-    if u < l.deepest {
-        return Radius::At(0.0);
-    }
-    let found = envelope::highest(points, l.order, u);
-    match found {
-        Radius::At(x) => Radius::At(x),
-        Radius::Nowhere => Radius::At(0.0),
+    match w {
+        Which::Least => Look {
+            order,
+            front: 0.0,
+            deepest: 0.0,
+        },
+        Which::Greatest => {
+            let front = most(points, Which::Greatest);
+            let deepest = most(points, Which::Least);
+            Look {
+                order,
+                front,
+                deepest,
+            }
+        }
     }
 }
 
-fn sample_at(points: &[f64], l: Look, w: Which, u: f64) -> Radius
-    requires { Looks w points.now l }
-    ensures { radius_of result ≡ sample_at w points.now u }
+// The bore at u; nowhere where it is open.
+fn bore_at(points: &[f64], l: Look, u: f64) -> Option<f64>
+    requires { Bored points.now l }
+    ensures { result ≡ bore_at points.now u }
 {
-    match w {
-        Which::Least => envelope::highest(points, l.order, u),
-        Which::Greatest => bore_at(points, l, u),
+    if points.len() / 2 == 0 {
+        return None;
     }
+    if l.front < u {
+        return None;
+    }
+    if u < l.deepest {
+        return Some(0.0);
+    }
+    Some(envelope::highest(points, l.order, u).unwrap_or(0.0))
 }
 
 // The least or the greatest of two samples; nowhere where one has none.
-fn both(w: Which, a: Radius, b: Radius) -> Radius
-    ensures { radius_of result ≡ both w (radius_of a) (radius_of b) }
+fn both(w: Which, a: Option<f64>, b: Option<f64>) -> Option<f64>
+    ensures { result ≡ both w a b }
 {
-    match a {
-        Radius::Nowhere => Radius::Nowhere,
-        Radius::At(x) => match b {
-            Radius::Nowhere => Radius::Nowhere,
-            Radius::At(y) => Radius::At(chosen(w, x, y)),
-        },
-    }
-}
-
-fn fewer(a: usize, b: usize) -> usize
-    ensures { (result ≤ a) × (result ≤ b) }
-{
-    if b < a { b } else { a }
-}
-
-// The samples at the points' own u, put one after the other up to the first that has none: how many.
-pub fn hold(points: &[f64], l: Look, w: Which, held: &mut [f64]) -> usize
-    requires { Looks w points.now l }
-    ensures { HeldTo w points.now held.new result }
-{
-    let n = fewer(points.len() / 2, held.len());
-    let mut k: usize = 0;
-    while k < n {
-        let Radius::At(x) = sample_at(points, l, w, floats::clean(points[2 * k])) else {
-            return k;
-        };
-        held[k] = x;
-        k += 1;
-    }
-    k
+    Some(chosen(w, a?, b?))
 }
 
 // The first k that are held.
@@ -110,57 +99,6 @@ pub fn first(held: &[f64], k: usize) -> &[f64]
     &held[..k]
 }
 
-// The sample at u, the own u of point i: read where it is held.
-fn own_sample(points: &[f64], held: &[f64], l: Look, w: Which, i: usize, u: f64) -> Radius
-    requires { Carried w points.now held.now l × (u ≡ u_at points.now i) }
-    ensures { radius_of result ≡ sample_at w points.now u }
-{
-    if i < held.len() {
-        return Radius::At(held[i]);
-    }
-    sample_at(points, l, w, u)
-}
-
-// With point i, where it lies strictly inside the window.
-fn with_inside(
-    points: &[f64],
-    held: &[f64],
-    l: Look,
-    w: Which,
-    lo: f64,
-    hi: f64,
-    found: Radius,
-    i: usize,
-) -> Radius
-    requires { Carried w points.now held.now l × (2 * i + 2 ≤ length points.now) }
-    ensures { radius_of result ≡ with_inside w points.now lo hi (radius_of found) (u_at points.now i) }
-{
-    let u = floats::clean(points[2 * i]);
-    if (lo < u) & (u < hi) {
-        return both(w, found, own_sample(points, held, l, w, i, u));
-    }
-    found
-}
-
-// The samples of the window from lo to hi.
-fn sampled(points: &[f64], held: &[f64], l: Look, w: Which, lo: f64, hi: f64) -> Radius
-    requires { Carried w points.now held.now l }
-    ensures { radius_of result ≡ sampled_in w points.now lo hi (span_of points.now lo hi) }
-{
-    let s = envelope::span_over(points, l.order, lo, hi);
-    let start = s.start;
-    let end = s.end;
-    let a = sample_at(points, l, w, lo);
-    let b = sample_at(points, l, w, hi);
-    let mut found = both(w, a, b);
-    let mut i = start;
-    while i < end {
-        found = with_inside(points, held, l, w, lo, hi, found, i);
-        i += 1;
-    }
-    found
-}
-
 fn moved(w: Which, t: f64, x: f64) -> f64
     ensures { result ≡ moved w t x }
 {
@@ -170,14 +108,106 @@ fn moved(w: Which, t: f64, x: f64) -> f64
     }
 }
 
-// The part eroded by t at u, or the bore dilated by t.
-pub fn offset(points: &[f64], held: &[f64], l: Look, w: Which, t: f64, u: f64) -> Radius
-    requires { Carried w points.now held.now l }
-    ensures { radius_of result ≡ offset_of w points.now t u }
-{
-    let found = sampled(points, held, l, w, u - t, u + t);
-    match found {
-        Radius::Nowhere => Radius::Nowhere,
-        Radius::At(x) => Radius::At(moved(w, t, x)),
+impl<'a> Outline<'a> {
+    // Nothing is held.
+    pub fn new(points: &'a [f64], order: i8, w: Which) -> Outline<'a>
+        requires { (points_good points.now ≡ true) × (order ≡ order_of points.now) }
+        ensures { (result.points.now ≡ points.now) × (result.w ≡ w) }
+    {
+        Outline {
+            points,
+            held: first(points, 0),
+            look: look_of(points, order, w),
+            w,
+        }
+    }
+
+    fn sample_at(&self, u: f64) -> Option<f64>
+        ensures { result ≡ sample_at self.now.w self.now.points.now u }
+    {
+        match self.w {
+            Which::Least => envelope::highest(self.points, self.look.order, u),
+            Which::Greatest => bore_at(self.points, self.look, u),
+        }
+    }
+
+    // The samples at the points' own u, put one after the other up to the first that has none: how many.
+    pub fn hold(&self, held: &mut [f64]) -> usize
+        ensures { HeldTo self.now.w self.now.points.now held.new result }
+    {
+        let n = held.len().min(self.points.len() / 2);
+        for k in 0..n {
+            let Some(x) = self.sample_at(floats::clean(self.points[2 * k])) else {
+                return k;
+            };
+            held[k] = x;
+        }
+        n
+    }
+
+    // The same, with the first k of a list as what is held.
+    pub fn with_held(&self, held: &'a [f64], k: usize) -> Outline<'a>
+        requires { HeldTo self.now.w self.now.points.now held.now k }
+        ensures { (result.points.now ≡ self.now.points.now) × (result.w ≡ self.now.w) }
+    {
+        Outline {
+            points: self.points,
+            held: first(held, k),
+            look: self.look,
+            w: self.w,
+        }
+    }
+
+    // The sample at u, the own u of point i: read where it is held.
+    fn own_sample(&self, i: usize, u: f64) -> Option<f64>
+        requires { u ≡ u_at self.now.points.now i }
+        ensures { result ≡ sample_at self.now.w self.now.points.now u }
+    {
+        if i < self.held.len() {
+            return Some(self.held[i]);
+        }
+        self.sample_at(u)
+    }
+
+    // With point i, where it lies strictly inside the window.
+    fn with_inside(&self, lo: f64, hi: f64, found: Option<f64>, i: usize) -> Option<f64>
+        requires { 2 * i + 2 ≤ length self.now.points.now }
+        ensures { result ≡ with_inside self.now.w self.now.points.now lo hi found (u_at self.now.points.now i) }
+    {
+        let u = floats::clean(self.points[2 * i]);
+        if (lo < u) & (u < hi) {
+            return both(self.w, found, self.own_sample(i, u));
+        }
+        found
+    }
+
+    // The points between lo and hi.
+    pub fn span(&self, lo: f64, hi: f64) -> Span
+        ensures ruled { result ≡ span_of self.now.points.now lo hi }
+        ensures room { 2 * result.end ≤ length self.now.points.now }
+    {
+        envelope::span_over(self.points, self.look.order, lo, hi)
+    }
+
+    // The samples of the window from lo to hi.
+    fn sampled(&self, lo: f64, hi: f64) -> Option<f64>
+        ensures { result ≡ sampled_in self.now.w self.now.points.now lo hi (span_of self.now.points.now lo hi) }
+    {
+        let s = self.span(lo, hi);
+        let start = s.start;
+        let a = self.sample_at(lo);
+        let b = self.sample_at(hi);
+        let mut found = both(self.w, a, b);
+        for i in start..s.end {
+            found = self.with_inside(lo, hi, found, i);
+        }
+        found
+    }
+
+    // The part eroded by t at u, or the bore dilated by t.
+    pub fn offset(&self, t: f64, u: f64) -> Option<f64>
+        ensures { result ≡ offset_of self.now.w self.now.points.now t u }
+    {
+        Some(moved(self.w, t, self.sampled(u - t, u + t)?))
     }
 }

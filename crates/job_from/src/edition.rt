@@ -1,53 +1,27 @@
 // The edition of the stock that is kept: the third argument's, or that of the stock that is gone on with.
 use std::rt::Env;
 use stock::{Stamp, TurnStock};
-use text::Eight;
 
-// What the third argument says: nothing, an edition, or what is none.
+// The third argument is no edition: 8 digits, `0` to `9` and `A` to `F`.
 #[derive(Clone, Copy)]
-pub enum Asked {
-    AsRead,
-    Given(u32),
-    NoEdition,
-}
+pub struct NoEdition;
 
-// An argument read as an edition: 8 digits, `0` to `9` and `A` to `F`.
-fn given(field: &[u8]) -> Asked {
-    match text::read_eight(field) {
-        Eight::Of(edition) => Asked::Given(edition),
-        Eight::NoEight => Asked::NoEdition,
-    }
-}
-
-// The third argument, where there is one.
-pub fn third_argument(rt: &impl Env) -> Asked {
+// The edition that the third argument asks for, where there is one.
+pub fn third_argument(rt: &impl Env) -> Result<Option<u32>, NoEdition> {
     if streams::argument_count(rt) < 4 {
-        return Asked::AsRead;
+        return Ok(None);
     }
     let mut field = io::buffer();
     let n = streams::argument(rt, 3, &mut field);
-    given(&field[..n])
-}
-
-// The edition that is asked for, or else the one that was read.
-pub fn or_read(asked: Asked, read: u32) -> u32 {
-    match asked {
-        Asked::Given(edition) => edition,
-        Asked::AsRead => read,
-        Asked::NoEdition => read,
-    }
+    let edition = text::read_eight(&field[..n]).ok_or(NoEdition)?;
+    Ok(Some(edition))
 }
 
 // The same stock, of the edition that is asked for.
-pub fn of_edition(asked: Asked, stock: TurnStock) -> TurnStock {
-    let spec = stock.spec;
-    let edition = or_read(asked, stock.stamp.edition);
-    TurnStock {
-        spec,
-        stamp: Stamp {
-            edition,
-            generation: stock.stamp.generation,
-        },
-        rings: stock.rings,
-    }
+pub fn of_edition(asked: Option<u32>, stock: TurnStock) -> TurnStock {
+    let stamp = Stamp {
+        edition: asked.unwrap_or(stock.stamp.edition),
+        ..stock.stamp
+    };
+    TurnStock { stamp, ..stock }
 }

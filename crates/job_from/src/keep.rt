@@ -10,11 +10,7 @@ const PATH_MAX: usize = 4096;
 
 // The first n fours of numbers, all where there are fewer.
 fn first_fours(xs: &[f64], n: usize) -> &[f64] {
-    if xs.len() / 4 < n {
-        return xs;
-    }
-    let end = 4 * n;
-    &xs[..end]
+    xs.get(..n.saturating_mul(4)).unwrap_or(xs)
 }
 
 // A stock written to an open file and synced.
@@ -52,20 +48,13 @@ fn write_closed(
 
 // Where the name of a path's folder ends; 0 where it names none.
 fn folder_end(path: &[u8]) -> usize {
-    let mut end: usize = 0;
-    let mut i: usize = 0;
-    while i < path.len() {
-        if path[i] == b'/' {
-            end = i + 1;
-        }
-        i += 1;
-    }
-    end
+    let slash = path.iter().rposition(|b| *b == b'/');
+    slash.map_or(0, |i| i + 1)
 }
 
 // Opens the folder of that name; with none, that in which the program runs.
 fn open_folder(rt: &HostRuntime, path: &[u8]) -> io::Result<File> {
-    if path.len() == 0 {
+    if path.is_empty() {
         return streams::open(rt, b".");
     }
     streams::open(rt, path)
@@ -173,7 +162,7 @@ fn keep_named(
     if crate::say::is_none(to) {
         return true;
     }
-    if to.len() == 0 {
+    if to.is_empty() {
         crate::say::no_name(rt);
         return false;
     }

@@ -7,88 +7,59 @@
 // is refused and for a stock that could not be kept. The job is read to its end before anything is written.
 #![tactic(auto)]
 
-use edition::Asked;
 use job_run::{CELL_NUMBERS, LINE_LIMIT, RING_NUMBERS, Run};
 use job_streams::Ended;
 use job_words::MAX_CELLS;
-use stock_file::Kept;
+use refusals::{Refusal, Refused};
 
 mod edition;
 mod keep;
 mod say;
 
-// What a job begins on: a run, or a stock file that is refused with a number at a line, at 0 where the
-// number has none.
-#[derive(Clone, Copy)]
-enum Start {
-    On(Run),
-    Refused(u64, u64),
-}
-
 // A file that is not there, or not of the form from its first line on.
-fn no_file() -> Start {
-    Start::Refused(1, 16)
+fn no_file() -> Refused {
+    Refused::at(Refusal::FileMalformed, 1)
 }
 
-// What a stock file told; its stock goes on under the edition that is asked for.
-fn start_of(kept: Kept, asked: Asked) -> Start {
-    match kept {
-        Kept::Stock(stock, n) => {
-            Start::On(job_run::resumed(edition::of_edition(asked, stock), n))
-        }
-        Kept::Refused(r) => {
-            let number = refusals::number(r);
-            Start::Refused(0, number as u64)
-        }
-        Kept::RefusedAt(r, line) => {
-            let number = refusals::number(r);
-            Start::Refused(line as u64, number as u64)
-        }
-    }
-}
-
-// The stock in the file of that name.
+// A run on the stock in the file of that name, which goes on under the edition that is asked for.
 fn open_stock(
     rt: &HostRuntime,
     path: &[u8],
-    asked: Asked,
+    asked: Option<u32>,
     cells: &mut [f64],
     rings: &mut [f64],
-) -> Start {
-    let opened = streams::open(rt, path);
-    match opened {
+) -> Result<Run, Refused> {
+    match streams::open(rt, path) {
         Ok(mut file) => {
             let part = stock_streams::PART;
-            let kept = stock_streams::read_stock(rt, &mut file, part, MAX_CELLS, cells, rings);
-            start_of(kept, asked)
+            let kept = stock_streams::read_stock(rt, &mut file, part, MAX_CELLS, cells, rings)?;
+            let stock = edition::of_edition(asked, kept.stock);
+            Ok(job_run::resumed(stock, kept.cells))
         }
         Err(e) => {
             streams::fail(rt, "FROM", e);
-            no_file()
+            Err(no_file())
         }
     }
 }
 
-// What the first argument names.
-fn read_from(rt: &HostRuntime, asked: Asked, cells: &mut [f64], rings: &mut [f64]) -> Start {
+// The run that a job begins on, by what the first argument names; a stock file may be refused.
+fn read_from(
+    rt: &HostRuntime,
+    asked: Option<u32>,
+    cells: &mut [f64],
+    rings: &mut [f64],
+) -> Result<Run, Refused> {
     if streams::argument_count(rt) < 3 {
         say::usage(rt);
-        return no_file();
+        return Err(no_file());
     }
     let mut path = io::buffer();
     let n = streams::argument(rt, 1, &mut path);
     if say::is_none(&path[..n]) {
-        return Start::On(job_run::fresh(edition::or_read(asked, 0)));
+        return Ok(job_run::fresh(asked.unwrap_or(0)));
     }
     open_stock(rt, &path[..n], asked, cells, rings)
-}
-
-// What a job is read on: after a refused stock file it is read for its writer's sake alone.
-fn run_of(start: Start) -> Run {
-    match start {
-        Start::On(run) => run,
-        Start::Refused(_, _) => job_run::fresh(0),
-    }
 }
 
 // A job at its end: what it leaves is kept, and then told.
@@ -110,13 +81,14 @@ fn end_job(
     job_help::write_why(rt, &mut rt.stderr(), ended, line);
 }
 
-// Reads the stock and the job, and keeps and tells what it leaves.
-fn go_on(rt: &HostRuntime, asked: Asked) {
+// Reads the stock and the job, and keeps and tells what it leaves. After a refused stock file the job is
+// read for its writer's sake alone.
+fn go_on(rt: &HostRuntime, asked: Option<u32>) {
     let mut cells = [0.0f64; CELL_NUMBERS];
     let mut rings = [0.0f64; RING_NUMBERS];
     let mut line = [0u8; LINE_LIMIT];
     let start = read_from(rt, asked, &mut cells, &mut rings);
-    let run = run_of(start);
+    let run = start.unwrap_or(job_run::fresh(0));
     let ended = job_streams::read_job(
         rt,
         &mut rt.stdin(),
@@ -127,8 +99,8 @@ fn go_on(rt: &HostRuntime, asked: Asked) {
         &mut line,
     );
     match start {
-        Start::On(_) => end_job(rt, ended, &cells, &rings, &line),
-        Start::Refused(at, number) => say::refused(rt, at, number),
+        Ok(_) => end_job(rt, ended, &cells, &rings, &line),
+        Err(r) => say::refused(rt, r),
     }
 }
 
@@ -136,10 +108,8 @@ fn main(rt: HostRuntime) {
     if !streams::hold_standard(&rt) {
         return;
     }
-    let asked = edition::third_argument(&rt);
-    match asked {
-        Asked::NoEdition => say::no_edition(&rt),
-        Asked::AsRead => go_on(&rt, asked),
-        Asked::Given(_) => go_on(&rt, asked),
+    match edition::third_argument(&rt) {
+        Ok(asked) => go_on(&rt, asked),
+        Err(_) => say::no_edition(&rt),
     }
 }

@@ -1,13 +1,11 @@
 // The lines that `job` does not have, and the words beside them.
+use refusals::Refused;
 use std::io::Write;
 use streams::GATHERED;
 
 // Whether an argument stands for no file.
 pub fn is_none(path: &[u8]) -> bool {
-    if path.len() != 1 {
-        return false;
-    }
-    path[0] == b'-'
+    path == b"-".as_slice()
 }
 
 fn write(rt: &HostRuntime, to: &mut impl Write, bytes: &[u8]) {
@@ -50,27 +48,31 @@ pub fn unwritten(rt: &HostRuntime) {
     write(rt, &mut rt.stdout(), b"unwritten\n");
 }
 
-// The number of a line, where there is one.
-fn put_at(out: &mut [u8], i: usize, at: u64) -> usize {
-    if at == 0 {
-        return i;
+// The number of a line and a tab, where there is one; no line has the number 0.
+fn put_place(out: &mut [u8], i: usize, place: Option<usize>) -> usize {
+    match place {
+        Some(line) if line != 0 => {
+            let end = text::put_count(out, i, line as u64);
+            text::put_text(out, end, b"\t")
+        }
+        _ => i,
     }
-    let end = text::put_count(out, i, at);
-    text::put_text(out, end, b"\t")
 }
 
 // The line of a refused stock file: its line where it has one, and the number. Answers its length.
-fn put_refused(out: &mut [u8], at: u64, number: u64) -> usize {
+fn put_refused(out: &mut [u8], r: Refused) -> usize {
     let a = text::put_text(out, 0, b"refused\tstock\t");
-    let b = put_at(out, a, at);
-    let c = text::put_count(out, b, number);
+    let b = put_place(out, a, r.place);
+    let c = text::put_count(out, b, u64::from(refusals::number(r.why)));
     text::put_text(out, c, b"\n")
 }
 
 // A stock file is refused.
-pub fn refused(rt: &HostRuntime, at: u64, number: u64) {
+pub fn refused(rt: &HostRuntime, r: Refused) {
     let mut line = [0u8; 256];
-    let n = put_refused(&mut line, at, number);
+    let n = put_refused(&mut line, r);
     write(rt, &mut rt.stdout(), text::front(&line, n));
-    job_help::write_stock_why(rt, &mut rt.stderr(), number, at);
+    let number = u64::from(refusals::number(r.why));
+    let at = r.place.unwrap_or(0);
+    job_help::write_stock_why(rt, &mut rt.stderr(), number, at as u64);
 }

@@ -15,10 +15,8 @@ fn is_digit(byte: u8) -> bool {
 // Whether there is a digit, and nothing else.
 fn are_digits(f: &[u8]) -> bool {
     let mut ok = 0 < f.len();
-    let mut i: usize = 0;
-    while i < f.len() {
-        ok = ok & is_digit(f[i]);
-        i += 1;
+    for b in f {
+        ok = ok & is_digit(*b);
     }
     ok
 }

@@ -2,7 +2,6 @@
 ghost use Rattle.std.specs.Prelude.{◌≤◌, length};
 
 use crate::field::{has, say_count, say_field};
-use job_words::Number;
 use text::put_text;
 
 // Whether a line begins as notes do elsewhere.
@@ -50,23 +49,18 @@ fn is_side(f: &[u8]) -> bool {
 }
 
 fn is_number(f: &[u8]) -> bool {
-    match job_words::read_number(f) {
-        Number::Mm(_) => true,
-        Number::NoNumber => false,
-    }
+    job_words::read_number(f).is_some()
 }
 
 // The first field from the one at `first` on that is no number; all are counted from 0.
 fn say_first(out: &mut [u8], at: usize, s: &[u8], first: usize, count: usize) -> usize
     ensures { result ≤ length out.old }
 {
-    let mut i = first;
-    while i < count {
+    for i in first..count {
         let f = text::part(s, b'\t', i);
         if !is_number(f) {
             return say_field(out, at, i, f);
         }
-        i += 1;
     }
     put_text(out, at, b"the line was refused")
 }

@@ -1,5 +1,5 @@
 -- What a line, a part and the end do to a job. Assumes nothing.
-use Rattle.std.proofs.Common.{◌≡◌, ℕ, ◌+◌, ◌*◌, ◌/◌, ◌<◌, ◌≤◌, Bool, true, false, eqb, List, [], ◌∷◌, ◌++◌, length, get_or, take, set, sym, refl, ap, ◌∙◌, subst, arith, length-append, length-take, le-ltb, lt-ltb, eq-eqb, ne_eqb}
+use Rattle.std.proofs.Common.{◌≡◌, ℕ, ◌+◌, ◌*◌, ◌/◌, ◌<◌, ◌≤◌, Bool, true, false, eqb, List, [], ◌∷◌, ◌++◌, length, get_or, take, set, sym, refl, ap, ◌∙◌, subst, arith, length-append, length-take, le-ltb, lt-ltb, eq-eqb, ne_eqb, Err, Ok, Result}
 use lib.Ieee.{Float}
 use Rattle.refusals.specs.declared.Refusal.{Refusal}
 use Rattle.refusals.specs.declared.Refusal.TheVariants.{LineMalformed}
@@ -8,8 +8,6 @@ use Rattle.refusals.specs.Paper.{Paper, Reason, answers, refuses, only}
 use Rattle.text.proofs.Chosen.{yes, no}
 use Rattle.stock.proofs.Count.{no_answer, same_answer}
 use Rattle.job_run.specs.declared.line.Job.{Job}
-use Rattle.job_run.specs.declared.line.Carried.{Carried}
-use Rattle.job_run.specs.declared.line.Carried.TheVariants as carried
 use Rattle.job_run.proofs.Carrying.{same_number}
 use Rattle.job_run.specs.Job.{Stand, full_room, job_line, Carries}
 use Rattle.job_answer.specs.Lines.{gen_line}
@@ -21,7 +19,7 @@ use Rattle.job_run.specs.Run.{State, state, next, refused_with, refusing, answer
 
 -- ---- a line
 
-carried-refused : (p : Paper Stand) (r : Run) (c : Refusal) (cs cs' rs rs' : List Float) → Carries p (carried.Refused c) cs cs' rs rs' → state (refusing r c) cs' rs' ≡ answered (state r cs rs) p
+carried-refused : (p : Paper Stand) (r : Run) (c : Refusal) (cs cs' rs rs' : List Float) → Carries p (Err c) cs cs' rs rs' → state (refusing r c) cs' rs' ≡ answered (state r cs rs) p
 unfolding answered
 carried-refused (answers s) r c cs cs' rs rs' w = absurd (no_answer (reason_of c) s.job w.answer)
 carried-refused (refuses n) r c cs cs' rs rs' w =
@@ -29,7 +27,7 @@ carried-refused (refuses n) r c cs cs' rs rs' w =
     ∙ ap (λ (x : List Float). state (refused_with r n.number) x rs') w.cells
     ∙ ap (λ (x : List Float). state (refused_with r n.number) cs x) w.rings
 
-carried-went : (p : Paper Stand) (r : Run) (j : Job) (cs cs' rs rs' : List Float) → Carries p (carried.Onward j) cs cs' rs rs' → state (record { job = j; lines = next r; refused = 0 }) cs' rs' ≡ answered (state r cs rs) p
+carried-went : (p : Paper Stand) (r : Run) (j : Job) (cs cs' rs rs' : List Float) → Carries p (Ok j) cs cs' rs rs' → state (record { job = j; lines = next r; refused = 0 }) cs' rs' ≡ answered (state r cs rs) p
 unfolding answered
 carried-went (refuses n) r j cs cs' rs rs' w = absurd (no_answer (only n.number) j (sym w.answer))
 carried-went (answers s) r j cs cs' rs rs' w =
@@ -37,15 +35,15 @@ carried-went (answers s) r j cs cs' rs rs' w =
     ∙ ap (λ (x : List Float). state (record { job = s.job; lines = next r; refused = 0 }) x rs') w.cells
     ∙ ap (λ (x : List Float). state (record { job = s.job; lines = next r; refused = 0 }) s.cells x) w.rings
 
-module _ (r : Run) (s : List ℕ) (room : ℕ) (full : room ≡ full_room) (cs cs' rs rs' : List Float) (d : Carried) (w : Carries (job_line r.job s room cs rs) d cs cs' rs rs') where
-  told : (x : Carried) → d ≡ x → Carries (job_line r.job s full_room cs rs) x cs cs' rs rs'
-  told x e = subst (λ (y : Carried). Carries (job_line r.job s full_room cs rs) y cs cs' rs rs') e (subst (λ (n : ℕ). Carries (job_line r.job s n cs rs) d cs cs' rs rs') full w)
+module _ (r : Run) (s : List ℕ) (room : ℕ) (full : room ≡ full_room) (cs cs' rs rs' : List Float) (d : Result Job Refusal) (w : Carries (job_line r.job s room cs rs) d cs cs' rs rs') where
+  told : (x : Result Job Refusal) → d ≡ x → Carries (job_line r.job s full_room cs rs) x cs cs' rs rs'
+  told x e = subst (λ (y : Result Job Refusal). Carries (job_line r.job s full_room cs rs) y cs cs' rs rs') e (subst (λ (n : ℕ). Carries (job_line r.job s n cs rs) d cs cs' rs rs') full w)
 
-  pub line_refused : (c : Refusal) (q : Run) → d ≡ carried.Refused c → q ≡ refusing r c → state q cs' rs' ≡ on_line (state r cs rs) s
+  pub line_refused : (c : Refusal) (q : Run) → d ≡ Err c → q ≡ refusing r c → state q cs' rs' ≡ on_line (state r cs rs) s
   unfolding on_line
   line_refused c q e eq = rw eq (carried-refused _ r c cs cs' rs rs' (told _ e))
 
-  pub line-went : (j : Job) (l : ℕ) → d ≡ carried.Onward j → l ≡ next r → state (record { job = j; lines = l; refused = 0 }) cs' rs' ≡ on_line (state r cs rs) s
+  pub line-went : (j : Job) (l : ℕ) → d ≡ Ok j → l ≡ next r → state (record { job = j; lines = l; refused = 0 }) cs' rs' ≡ on_line (state r cs rs) s
   unfolding on_line
   line-went j l e el = rw el (carried-went _ r j cs cs' rs rs' (told _ e))
 

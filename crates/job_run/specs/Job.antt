@@ -1,6 +1,7 @@
 -- What a line does to a job. Assumes nothing.
-use Rattle.std.specs.Prelude.{◌≡◌, ℕ, ◌*◌, List, [], length, take, ◌==◌, nat_le, nat_lt, Float}
-use Rattle.refusals.specs.Number.{reason_of}
+use Rattle.std.specs.Prelude.{◌≡◌, ℕ, ◌*◌, List, [], length, take, ◌==◌, nat_le, nat_lt, Float, Err, Ok, Result}
+use Rattle.refusals.specs.declared.Refusal.{Refusal}
+use Rattle.refusals.specs.Number.{reason_of, paper_of}
 use Rattle.refusals.specs.Paper.{Paper, answers, refuses, only, demand, onward}
 use Rattle.refusals.specs.Lent.{Lent, over}
 use Rattle.floats.specs.Pick.{pick}
@@ -21,8 +22,6 @@ use Rattle.job_words.specs.declared.Line.{Line}
 use Rattle.job_words.specs.declared.Line.TheVariants.{Bar, Cutting, Removing, Arc, Bad}
 use Rattle.job_words.specs.Kind.{most_cells, line_of}
 use Rattle.job_run.specs.declared.line.Job.{Job}
-use Rattle.job_run.specs.declared.line.Carried.{Carried}
-use Rattle.job_run.specs.declared.line.Carried.TheVariants as carried
 
 -- 128 bytes at most, with the newline
 abbrev pub line_limit : ℕ
@@ -110,10 +109,6 @@ job_changes j s room cs = pick (nat_lt (length s) line_limit) (pick (j.cells == 
 
 -- ---- what the call answers, case by case, and what the lent numbers hold afterwards
 
-abbrev pub carried_paper : Carried → Paper Job
-carried_paper (carried.Onward j) = answers j
-carried_paper (carried.Refused c) = refuses (reason_of c)
-
 -- a job tells the number alone
 abbrev pub job_after : Paper Stand → Paper Job
 job_after (answers s) = answers s.job
@@ -128,17 +123,17 @@ abbrev pub rings_carried : Paper Stand → List Float → List Float
 rings_carried (answers s) rs = s.rings
 rings_carried (refuses n) rs = rs
 
-pub record Carries (p : Paper Stand) (r : Carried) (cs cs' rs rs' : List Float) : Type 0 where
-  pub answer : carried_paper r ≡ job_after p
+pub record Carries (p : Paper Stand) (r : Result Job Refusal) (cs cs' rs rs' : List Float) : Type 0 where
+  pub answer : paper_of r ≡ job_after p
   pub cells : cs' ≡ cells_carried p cs
   pub rings : rs' ≡ rings_carried p rs
 
 -- the same of a line that leaves the rings, whatever they are
-abbrev pub CarriesCells : (List Float → Paper Stand) → Carried → List Float → List Float → Type 0
+abbrev pub CarriesCells : (List Float → Paper Stand) → (Result Job Refusal) → List Float → List Float → Type 0
 CarriesCells p r cs cs' = (rs : List Float) → Carries (p rs) r cs cs' rs rs
 
 -- and of one that leaves the cells
-abbrev pub CarriesRings : (List Float → List Float → Paper Stand) → Carried → List Float → List Float → Type 0
+abbrev pub CarriesRings : (List Float → List Float → Paper Stand) → (Result Job Refusal) → List Float → List Float → Type 0
 CarriesRings p r rs rs' = (cs : List Float) → Carries (p cs rs) r cs cs rs rs'
 
 -- lent lists with changes over their fronts
@@ -152,14 +147,14 @@ pub record ChangesOver (l : List TurnChange) (is is' : List ℕ) (xs xs' : List 
 abbrev pub lent_room : Lent ℕ → Lent Float → ℕ
 lent_room indices records = room_of (length indices.entry.now) (length records.entry.now)
 
-abbrev pub CarriesLent : (List Float → List Float → Paper Stand) → Carried → Lent Float → Lent Float → Type 0
+abbrev pub CarriesLent : (List Float → List Float → Paper Stand) → (Result Job Refusal) → Lent Float → Lent Float → Type 0
 CarriesLent p r cells rings =
     Carries (p cells.entry.now rings.entry.now) r cells.entry.now cells.exit.now rings.entry.now rings.exit.now
 
-abbrev pub CellsLent : (List Float → List Float → Paper Stand) → Carried → Lent Float → Type 0
+abbrev pub CellsLent : (List Float → List Float → Paper Stand) → (Result Job Refusal) → Lent Float → Type 0
 CellsLent p r cells = CarriesCells (p cells.entry.now) r cells.entry.now cells.exit.now
 
-abbrev pub RingsLent : (List Float → List Float → Paper Stand) → Carried → Lent Float → Type 0
+abbrev pub RingsLent : (List Float → List Float → Paper Stand) → (Result Job Refusal) → Lent Float → Type 0
 RingsLent p r rings = CarriesRings p r rings.entry.now rings.exit.now
 
 abbrev pub ListsLent : List TurnChange → Lent ℕ → Lent Float → Type 0

@@ -13,7 +13,7 @@ ghost use Rattle.text.specs.Wrote.{WritesLine};
 ghost use Rattle.job_run.specs.Run.{fresh_run, resumed_run, is_empty, refusing, on_line, byte_on, finish_of, output_of, most_lines, state, state_found, state_left, as_found, as_left, TakesPart};
 
 use job_words::MAX_CELLS;
-pub use line::{Carried, INDICES, Job, LINE_LIMIT, NUMBERS, carry_out};
+pub use line::{INDICES, Job, LINE_LIMIT, NUMBERS, carry_out};
 use refusals::Refusal;
 use stock::{Stamp, TurnStock, TurnStockSpec};
 use text::LINE_ROOM;
@@ -83,12 +83,10 @@ pub fn fresh(edition: u32) -> Run
 fn refuse(run: Run, refusal: Refusal) -> Run
     ensures { result ≡ refusing run refusal }
 {
-    let job = run.job;
-    let number = refusals::number(refusal);
     Run {
-        job,
         lines: std::num::wrapping_add_u64(run.lines, 1),
-        refused: number as u64,
+        refused: u64::from(refusals::number(refusal)),
+        ..run
     }
 }
 
@@ -107,8 +105,8 @@ fn on_line(
     let job = run.job;
     let carried = carry_out(job, line, cells, rings, indices, records);
     match carried {
-        Carried::Refused(r) => refuse(run, r),
-        Carried::Onward(next) => Run {
+        Err(r) => refuse(run, r),
+        Ok(next) => Run {
             job: next,
             lines: std::num::wrapping_add_u64(run.lines, 1),
             refused: 0,
@@ -182,8 +180,7 @@ fn take_bytes(
     let mut records = [0.0f64; NUMBERS];
     let mut k = run;
     let mut n = len;
-    let mut i: usize = 0;
-    while i < bytes.len() {
+    for i in 0..bytes.len() {
         let t = take_byte(
             k,
             cells,
@@ -196,7 +193,6 @@ fn take_bytes(
         );
         k = t.run;
         n = t.len;
-        i += 1;
     }
     Taken { run: k, len: n }
 }

@@ -10,12 +10,12 @@ ghost use Rattle.cuts.specs.Preview.{preview_cut};
 ghost use Rattle.changes.specs.Commit.{Applies};
 ghost use Rattle.job_run.specs.Job.{made_cut, bar_line, cut_line, removing_line, first_line, later_line, job_line, line_changes, job_changes, cells_of_job, lent_room, CarriesLent, CellsLent, RingsLent, ListsLent};
 
-use changes::{Applied, Previewed};
+use changes::ChangeList;
 use cuts::Cut;
 use job_words::{Line, MAX_CELLS};
-use refusals::Refusal;
-use rings::{Removed, Ring};
-use stock::{Counted, Made, TurnStock, TurnStockSpec};
+use refusals::{Refusal, Refused};
+use rings::Ring;
+use stock::{TurnStock, TurnStockSpec};
 
 // A job line has so many bytes at most, with its newline.
 pub const LINE_LIMIT: usize = 128;
@@ -32,13 +32,6 @@ pub struct Job {
     pub cells: usize,
 }
 
-// The job after a line.
-#[derive(Clone, Copy)]
-pub enum Carried {
-    Onward(Job),
-    Refused(Refusal),
-}
-
 // The preview of a cut, by the call of its kind.
 fn preview_of(
     stock: TurnStock,
@@ -46,7 +39,7 @@ fn preview_of(
     cut: Cut,
     indices: &mut [usize],
     records: &mut [f64],
-) -> Previewed
+) -> Result<ChangeList, Refusal>
     ensures { Proposed stock.stamp (preview_cut stock.spec cells.now cut (lent_room indices records)) result
         indices.old indices.new records.old records.new }
 {
@@ -83,19 +76,14 @@ fn make_cut(
     cut: Cut,
     indices: &mut [usize],
     records: &mut [f64],
-) -> Applied
+) -> Result<TurnStock, Refused>
     ensures applies { Applies stock (made_cut stock cells.old cut (lent_room indices records)) result
         cells.old cells.new }
     ensures lists_lent { ListsLent (written_of (preview_cut stock.spec cells.old cut (lent_room indices records))) indices records }
 {
-    let previewed = preview_of(stock, cells, cut, indices, records);
-    match previewed {
-        Previewed::Refused(r) => Applied::Refused(r),
-        Previewed::Listed(list) => {
-            let n = cells.len() / 4;
-            changes::commit_unasked(stock, n, cells, indices, records, list.count)
-        }
-    }
+    let list = preview_of(stock, cells, cut, indices, records)?;
+    let n = cells.len() / 4;
+    changes::commit_unasked(stock, n, cells, indices, records, list.count)
 }
 
 // The places of n cells in a list of so many numbers.
@@ -106,24 +94,16 @@ fn places(n: usize, len: usize) -> usize
 }
 
 // A bar: new cells at the front of the lent ones, of the edition that the job has.
-fn take_bar(edition: u32, spec: TurnStockSpec, cells: &mut [f64]) -> Carried
+fn take_bar(edition: u32, spec: TurnStockSpec, cells: &mut [f64]) -> Result<Job, Refusal>
     ensures { CellsLent (bar_line edition spec) result cells }
 {
-    let counted = stock::validate(spec);
-    match counted {
-        Counted::Refused(r) => Carried::Refused(r),
-        Counted::Cells(n) => {
-            if cells.len() / 4 < n {
-                return Carried::Refused(Refusal::CellsDoNotFit);
-            }
-            let end = 4 * n;
-            let made = stock::fill(spec, edition, &mut cells[..end]);
-            match made {
-                Made::Refused(r) => Carried::Refused(r),
-                Made::Stock(stock) => Carried::Onward(Job { stock, cells: n }),
-            }
-        }
+    let n = stock::validate(spec)?;
+    if cells.len() / 4 < n {
+        return Err(Refusal::CellsDoNotFit);
     }
+    let end = 4 * n;
+    let stock = stock::fill(spec, edition, &mut cells[..end])?;
+    Ok(Job { stock, cells: n })
 }
 
 // A cut of the job's cells.
@@ -133,7 +113,7 @@ fn take_cut(
     cut: Cut,
     indices: &mut [usize],
     records: &mut [f64],
-) -> Carried
+) -> Result<Job, Refusal>
     ensures cells_lent { CellsLent (cut_line job cut (lent_room indices records)) result cells }
     ensures lists_lent { ListsLent (written_of (preview_cut job.stock.spec (cells_of_job job cells.old) cut (lent_room indices records)))
         indices records }
@@ -142,40 +122,35 @@ fn take_cut(
     let end = places(job.cells, cells.len());
     let applied = make_cut(stock, &mut cells[..end], cut, indices, records);
     match applied {
-        Applied::Refused(r) => Carried::Refused(r),
-        Applied::RefusedAt(r, _) => Carried::Refused(r),
-        Applied::Stock(after) => Carried::Onward(Job {
-            stock: after,
-            cells: job.cells,
-        }),
+        Err(e) => Err(e.why),
+        Ok(stock) => Ok(Job { stock, ..job }),
     }
 }
 
 // A ring taken from the job's stock.
-fn take_ring(job: Job, rings: &mut [f64], ring: Ring) -> Carried
+fn take_ring(job: Job, rings: &mut [f64], ring: Ring) -> Result<Job, Refusal>
     ensures { RingsLent (removing_line job ring) result rings }
 {
     let removed = rings::remove_ring(job.stock, rings, ring);
     match removed {
-        Removed::Refused(r) => Carried::Refused(r),
-        Removed::RefusedAt(r, _) => Carried::Refused(r),
-        Removed::Stock(stock, _) => Carried::Onward(Job {
-            stock,
-            cells: job.cells,
+        Err(e) => Err(e.why),
+        Ok(after) => Ok(Job {
+            stock: after.stock,
+            ..job
         }),
     }
 }
 
 // The first line, which is a bar.
-fn first_line(edition: u32, line: Line, cells: &mut [f64]) -> Carried
+fn first_line(edition: u32, line: Line, cells: &mut [f64]) -> Result<Job, Refusal>
     ensures { CellsLent (first_line edition line) result cells }
 {
     match line {
         Line::Bar(spec) => take_bar(edition, spec, cells),
-        Line::Cutting(_) => Carried::Refused(Refusal::LineMalformed),
-        Line::Removing(_) => Carried::Refused(Refusal::LineMalformed),
-        Line::Arc => Carried::Refused(Refusal::LineMalformed),
-        Line::Bad => Carried::Refused(Refusal::LineMalformed),
+        Line::Cutting(_) => Err(Refusal::LineMalformed),
+        Line::Removing(_) => Err(Refusal::LineMalformed),
+        Line::Arc => Err(Refusal::LineMalformed),
+        Line::Bad => Err(Refusal::LineMalformed),
     }
 }
 
@@ -187,16 +162,16 @@ fn later_line(
     rings: &mut [f64],
     indices: &mut [usize],
     records: &mut [f64],
-) -> Carried
+) -> Result<Job, Refusal>
     ensures carries_lent { CarriesLent (later_line job line (lent_room indices records)) result cells rings }
     ensures lists_lent { ListsLent (line_changes job line (lent_room indices records) cells.old) indices records }
 {
     match line {
         Line::Cutting(cut) => take_cut(job, cells, cut, indices, records),
         Line::Removing(ring) => take_ring(job, rings, ring),
-        Line::Arc => Carried::Refused(Refusal::Arc),
-        Line::Bar(_) => Carried::Refused(Refusal::LineMalformed),
-        Line::Bad => Carried::Refused(Refusal::LineMalformed),
+        Line::Arc => Err(Refusal::Arc),
+        Line::Bar(_) => Err(Refusal::LineMalformed),
+        Line::Bad => Err(Refusal::LineMalformed),
     }
 }
 
@@ -210,12 +185,12 @@ pub fn carry_out(
     rings: &mut [f64],
     indices: &mut [usize],
     records: &mut [f64],
-) -> Carried
+) -> Result<Job, Refusal>
     ensures carries_lent { CarriesLent (job_line job line.now (lent_room indices records)) result cells rings }
     ensures lists_lent { ListsLent (job_changes job line.now (lent_room indices records) cells.old) indices records }
 {
     if LINE_LIMIT <= line.len() {
-        return Carried::Refused(Refusal::LineMalformed);
+        return Err(Refusal::LineMalformed);
     }
     let read = job_words::read_line(line);
     if job.cells == 0 {

@@ -3,23 +3,21 @@ use mathlib.Core.Path.{◌≡◌, refl, sym, ap, ◌∙◌}
 use mathlib.Core.Bool.{Bool, true, false}
 use mathlib.Core.List.{List, [], ◌∷◌, ◌++◌, append-nil, foldl}
 use Prim.Native.Nat.{ℕ, ◌≤◌}
-use native.Mathlib.Omega.{arith}
 use lib.Dec.{eqb, ltb}
-use lib.ListN.{length, take, length-set}
+use lib.ListN.{length, length-set}
 use lib.Ieee.{Float}
-use Rattle.refusals.specs.Lent.{Lent}
 use Rattle.text.proofs.Chosen.{yes, no}
 use Rattle.streams.specs.declared.Got.{Got}
 use Rattle.streams.specs.declared.Got.TheVariants as got
 use Rattle.job_run.specs.declared.Run.{Run}
 use Rattle.lines.specs.File.{joined}
-use Rattle.job_run.specs.Run.{State, state, stopped, Hold, hold, byte_on, as_found, as_left, finish_of, job_of}
+use Rattle.job_run.specs.Run.{State, state, stopped, Hold, hold, byte_on, finish_of, job_of}
 use borrow.Author.Tests.{eqb-false}
 use Rattle.job_run.proofs.Lines.{finish-stopped}
 use Rattle.job_run.proofs.WholeFile.{end_of, end_cut_of, however-cut, cut-finish}
 use Rattle.job_streams.specs.declared.End.{End}
 use Rattle.job_streams.specs.declared.Ended.{Ended}
-use Rattle.job_streams.specs.Read.{brought_by, After, ReadsOn, end_at, whole_end, cut_at, cut_end, end_by, JobOfSome}
+use Rattle.job_streams.specs.Read.{After, end_at, whole_end, cut_at, cut_end, end_by, JobOfSome}
 
 -- two parts in turn are their concatenation
 on : (s t : List ℕ) (h : Hold) → foldl byte_on h (s ++ t) ≡ foldl byte_on (foldl byte_on h s) t
@@ -55,10 +53,6 @@ after_more {h} a b = record {
   same = b.same ∙ ap (λ (x : Hold). foldl byte_on x b.bytes) a.same ∙ sym (on a.bytes b.bytes h);
 }
 
--- the bytes of a read
-pub brought-is : {g : Got} {n : ℕ} (part : List ℕ) → g ≡ got.Bytes n → take n part ≡ brought_by g part
-brought-is part e = ap (λ (x : Got). brought_by x part) (sym e)
-
 -- the end after one
 pub end_is : {g h : Got} (run : Run) (len : ℕ) {r : Ended} → g ≡ h → r ≡ end_by h run len → r ≡ end_by g run len
 end_is run len eg er = er ∙ ap (λ (x : Got). end_by x run len) (sym eg)
@@ -69,17 +63,11 @@ whole-end run len er ee = rw (er, ee)
 pub cut-end : (run : Run) {r : Run} {e : End} → r ≡ finish_of run 1 → e ≡ cut_at run.refused → ◌≡◌ {A = Ended} (record { run = r; end = e }) (cut_end run)
 cut-end run er ee = rw (er, ee)
 
--- a job is read on, and then its input is at its end
-module _ {st : State} {line : List ℕ} {run r₁ : Run} {len n₁ : ℕ} {cells rings : Lent Float} {held : Lent ℕ} (r : Ended)
-    (a : After (hold st line 0) (as_found run len cells rings held)) (o : ReadsOn run len cells rings held r₁ n₁) where
-  room : 127 ≤ length line
-  room = omega (arith, after-length a, o.room.line)
-
-  t : After (hold st line 0) (as_left r₁ n₁ cells rings held)
-  t = after_more a o.after
-
+-- a job was read so far, and its input is at its end
+module _ {st : State} {line held : List ℕ} {r₁ : Run} {n₁ : ℕ} {cs rs : List Float} (r : Ended) (room : 127 ≤ length line)
+    (t : After (hold st line 0) (hold (state r₁ cs rs) held n₁)) where
   abbrev ended : Run → State
-  ended x = state x cells.exit.now rings.exit.now
+  ended x = state x cs rs
 
   whole : ended (finish_of r₁ n₁) ≡ job_of st t.bytes
   unfolding joined

@@ -1,6 +1,6 @@
 -- A job read from a reader. No contract can say which bytes come: a promise here says that there are some of which the run is the job. Assumes nothing.
-use Rattle.std.specs.Prelude.{◌≡◌, Bool, true, false, ℕ, eqb, take, Float}
-use mathlib.Core.List.{List, [], foldl}
+use Rattle.std.specs.Prelude.{◌≡◌, ℕ, eqb, Float}
+use mathlib.Core.List.{List, foldl}
 use Rattle.refusals.specs.Lent.{Lent}
 use Rattle.floats.specs.Pick.{pick}
 use Rattle.streams.specs.declared.Got.{Got}
@@ -10,12 +10,6 @@ use Rattle.job_run.specs.Run.{State, state, Hold, byte_on, JobRoom, as_found, as
 use Rattle.job_streams.specs.declared.End.{End}
 use Rattle.job_streams.specs.declared.End.TheVariants as ends
 use Rattle.job_streams.specs.declared.Ended.{Ended}
-
--- the bytes that a read brings, at the front of what was lent to it
-abbrev pub brought_by : Got → List ℕ → List ℕ
-brought_by (got.Bytes n) part = take n part
-brought_by got.End part = []
-brought_by got.Cut part = []
 
 -- k is h after some bytes more
 pub record After (h k : Hold) : Type 0 where
@@ -28,11 +22,6 @@ pub record ReadsOn (run : Run) (len : ℕ) (cells rings : Lent Float) (line : Le
   pub after : After (as_found run len cells rings line) (as_left r n cells rings line)
 
 -- ---- the end
-
-abbrev pub may_be_more : Got → Bool
-may_be_more (got.Bytes n) = true
-may_be_more got.End = false
-may_be_more got.Cut = false
 
 -- where the input ends, by the bytes that are held of an unfinished line
 abbrev pub end_at : ℕ → End

@@ -5,10 +5,9 @@
 // there, and never answered as if it were whole.
 #![tactic(auto)]
 
-ghost use Rattle.std.specs.Prelude.{◌≡◌, ◌≤◌};
-ghost use Rattle.streams.specs.Moves.{Reads};
+ghost use Rattle.std.specs.Prelude.{◌≡◌};
 ghost use Rattle.job_run.specs.Run.{state, output_of};
-ghost use Rattle.job_streams.specs.Read.{brought_by, ReadsOn, may_be_more, end_at, whole_end, cut_at, cut_end, end_by, ReadsJob};
+ghost use Rattle.job_streams.specs.Read.{ReadsOn, end_at, whole_end, cut_at, cut_end, end_by, ReadsJob};
 ghost use Rattle.job_streams.specs.Write.{PutsLine, AllPut};
 
 use job_run::{ANSWER_LINES, CELL_NUMBERS, LINE_LIMIT, RING_NUMBERS, Run};
@@ -16,6 +15,9 @@ use std::io::{Read, Write};
 use std::rt::Clock;
 use streams::{GATHERED, Got, Out};
 use text::LINE_ROOM;
+
+// So many bytes are read at a time at most.
+pub use streams::PART;
 
 // How the input ended: behind a whole line or none, or a line was refused before; inside a line; or by
 // a read that failed.
@@ -41,34 +43,7 @@ struct Turn {
     got: Got,
 }
 
-// So many bytes are read at a time at most.
-pub const PART: usize = 65536;
-
 // ---- reading
-
-fn part_size(most: usize) -> usize
-    ensures { (1 ≤ result) × (result ≤ 65536) }
-{
-    if most < 1 {
-        return 1;
-    }
-    if PART < most {
-        return PART;
-    }
-    most
-}
-
-// The bytes that a read brought; at the end, none.
-fn brought(got: Got, part: &[u8]) -> &[u8]
-    requires { Reads got part.now }
-    ensures { result.now ≡ brought_by got part.now }
-{
-    match got {
-        Got::Bytes(n) => &part[..n],
-        Got::End => &part[..0],
-        Got::Cut => &part[..0],
-    }
-}
 
 // Reads once, into lent bytes, and takes what came.
 fn take_once(
@@ -84,10 +59,10 @@ fn take_once(
     ensures { ReadsOn run len cells rings line result.run result.len }
 {
     let got = streams::read_some(rt, from, part);
-    let taken = job_run::take_part(run, cells, rings, line, len, brought(got, part));
-    let after = taken.run;
+    let came = text::front(part, got.brought());
+    let taken = job_run::take_part(run, cells, rings, line, len, came);
     Turn {
-        run: after,
+        run: taken.run,
         len: taken.len,
         got,
     }
@@ -107,19 +82,8 @@ fn take_some(
     ensures { ReadsOn run len cells rings line result.run result.len }
 {
     let mut buf = io::large_buffer();
-    let end = part_size(most);
+    let end = streams::part_size(most);
     take_once(rt, from, &mut buf[..end], run, cells, rings, line, len)
-}
-
-// Whether there may be more after a read.
-fn may_be_more(got: Got) -> bool
-    ensures { result ≡ may_be_more got }
-{
-    match got {
-        Got::Bytes(_) => true,
-        Got::End => false,
-        Got::Cut => false,
-    }
 }
 
 fn end_at(len: usize) -> End
@@ -183,20 +147,15 @@ pub fn read_job(
 {
     let mut run = start;
     let mut len: usize = 0;
-    let mut turns = u64::MAX;
-    loop {
+    for _ in 0..u64::MAX {
         let t = take_some(rt, from, most, run, cells, rings, line, len);
         run = t.run;
         len = t.len;
-        let got = t.got;
-        if !may_be_more(got) {
-            return end_by(got, run, len);
+        if !t.got.may_be_more() {
+            return end_by(t.got, run, len);
         }
-        if turns == 0 {
-            return end_by(got, run, len);
-        }
-        turns -= 1;
     }
+    cut_off(run)
 }
 
 // ---- writing
@@ -231,10 +190,8 @@ fn gather_answer(
     ensures { AllPut (output_of (state run cells.now rings.now)) result gathered.new }
 {
     let mut out = streams::fresh();
-    let mut k: usize = 0;
-    while k < ANSWER_LINES {
+    for k in 0..ANSWER_LINES {
         out = put_line(rt, to, out, gathered, run, cells, rings, k);
-        k += 1;
     }
     out
 }

@@ -1,8 +1,7 @@
 -- Every field from one on is a number. Assumes nothing.
-use Rattle.std.proofs.Common.{◌≡◌, ℕ, ◌+◌, ◌<◌, ◌≤◌, true, false, List, [], length, get_or, drop, set, sym, ap, ◌∙◌, add-one, arith, drop_of_length-le, drop-cons, get_or-set_other, get_or-set_same, below_more, eq-eqb, ne_eqb}
+use Rattle.std.proofs.Common.{◌≡◌, ℕ, ◌+◌, ◌<◌, ◌≤◌, true, false, List, [], length, get_or, drop, set, sym, ap, ◌∙◌, add-one, arith, drop_of_length-le, drop-cons, get_or-set_other, get_or-set_same, below_more, eq-eqb, ne_eqb, None, Some}
 use lib.Ieee.{Float, nan}
 use Rattle.text.proofs.Chosen.{yes, no}
-use Rattle.job_words.specs.declared.number.Number.TheVariants.{Mm, NoNumber}
 use Rattle.job_words.specs.Number.{field_number}
 use Rattle.floats.specs.Pick.{pick_true}
 use Rattle.stock.specs.declared.TurnSide.{TurnSide}
@@ -21,12 +20,12 @@ numbers-start fs k n m q e =
     simp (← q, eq-eqb _ _ e, yes) (ap (λ (i : ℕ). all_numbers (drop i fs)) z)
 
 -- the field at i is none
-pub all-no : (fs : List (List ℕ)) (i : ℕ) → i < length fs → field_number (get_or fs i []) ≡ NoNumber → all_numbers (drop i fs) ≡ false
+pub all-no : (fs : List (List ℕ)) (i : ℕ) → i < length fs → field_number (get_or fs i []) ≡ None → all_numbers (drop i fs) ≡ false
 unfolding all_numbers
 all-no fs i h e = rw (drop-cons fs i [] h) (simp (e, no))
 
 -- it is one
-pub all-step : (fs : List (List ℕ)) (k i : ℕ) {x : Float} → k + i < length fs → field_number (get_or fs (k + i) []) ≡ Mm x
+pub all-step : (fs : List (List ℕ)) (k i : ℕ) {x : Float} → k + i < length fs → field_number (get_or fs (k + i) []) ≡ Some x
     → all_numbers (drop (k + i) fs) ≡ all_numbers (drop (k + (i + 1)) fs)
 unfolding all_numbers
 all-step fs k i h e =
@@ -38,7 +37,7 @@ unfolding all_numbers
 all_end fs i h = rw (drop_of_length-le fs h)
 
 -- one number more at the front of a list
-pub each_more : (fs : List (List ℕ)) (xs : List Float) (k i : ℕ) {x : Float} → i < length xs → field_number (get_or fs (k + i) []) ≡ Mm x
+pub each_more : (fs : List (List ℕ)) (xs : List Float) (k i : ℕ) {x : Float} → i < length xs → field_number (get_or fs (k + i) []) ≡ Some x
     → ((j : ℕ) → j < i → get_or xs j nan ≡ at fs (k + j)) → (j : ℕ) → j < i + 1 → get_or (set xs i x) j nan ≡ at fs (k + j)
 unfolding at
 each_more fs xs k i {x} h e f =

@@ -1,13 +1,12 @@
 -- A number's sign and its size. Assumes nothing.
-use Rattle.std.proofs.Common.{◌≡◌, ℕ, zero, suc, ◌-◌, ◌<◌, ◌≤◌, List, [], ◌∷◌, length, get_or, take, drop, ℤ, pos, ◌-ℤ◌, neg_ℤ, sym, refl, ap, ◌∙◌, subst, arith, length-drop, take_all, w64, SFits, to_z, of_z, eq-eqb, ne_eqb}
+use Rattle.std.proofs.Common.{◌≡◌, ℕ, zero, suc, ◌-◌, ◌<◌, ◌≤◌, List, [], ◌∷◌, length, get_or, take, drop, ℤ, pos, ◌-ℤ◌, neg_ℤ, sym, refl, ap, ◌∙◌, subst, arith, length-drop, take_all, w64, SFits, to_z, of_z, eq-eqb, ne_eqb, None}
 use lib.IntN.{+ℤ_idl}
 use mir.ValLaws.{to_z_pos, to_z-of_z}
-use Rattle.job_words.specs.declared.number.Number.TheVariants.{NoNumber}
 use Rattle.text.proofs.Chosen.{yes, no}
 use Rattle.job_words.specs.Number.{field_number, positive, negative}
 use Rattle.text.specs.Whole.{whole_of}
 
-pub number-empty : (f : List ℕ) → length f < 1 → field_number f ≡ NoNumber
+pub number-empty : (f : List ℕ) → length f < 1 → field_number f ≡ None
 unfolding field_number
 number-empty [] h = refl
 number-empty (b ∷ s) h = absurd (omega arith)

@@ -1,11 +1,9 @@
 -- What a job line says. Assumes nothing.
-use Rattle.std.specs.Prelude.{◌≡◌, ℕ, ◌+◌, ◌<◌, Bool, true, false, List, [], ◌∷◌, length, drop, ◌==◌, from_bits, slice_index_or, Float}
+use Rattle.std.specs.Prelude.{◌≡◌, ℕ, ◌+◌, ◌<◌, Bool, true, false, List, [], ◌∷◌, length, drop, ◌==◌, from_bits, slice_index_or, Float, None, Option, Some, is_some}
 use Rattle.std.specs.Float.{nan, binary64}
 use Rattle.floats.specs.Pick.{pick}
 use Rattle.text.specs.Parts.{parted_at}
 use Rattle.text.specs.Same.{same_bytes}
-use Rattle.job_words.specs.declared.number.Number.{Number}
-use Rattle.job_words.specs.declared.number.Number.TheVariants.{Mm, NoNumber}
 use Rattle.job_words.specs.Number.{field_number}
 use Rattle.stock.specs.declared.TurnSide.{TurnSide}
 use Rattle.stock.specs.declared.TurnSide.TheVariants.{Outer, Inner}
@@ -22,13 +20,13 @@ most_cells = 512
 abbrev pub fields_of : List ℕ → List (List ℕ)
 fields_of s = parted_at 9 s
 
-abbrev pub is_mm : Number → Bool
-is_mm (Mm x) = true
-is_mm NoNumber = false
+abbrev pub is_mm : Option Float → Bool
+is_mm (Some x) = true
+is_mm None = false
 
-abbrev pub mm_of : Number → Float
-mm_of (Mm x) = x
-mm_of NoNumber = from_bits binary64 0
+abbrev pub mm_of : Option Float → Float
+mm_of (Some x) = x
+mm_of None = from_bits binary64 0
 
 -- the field at i as millimetres; 0 where it is no number
 unfoldable pub at : List (List ℕ) → ℕ → Float
@@ -43,10 +41,10 @@ all_numbers (f ∷ fs) = pick (is_mm (field_number f)) (all_numbers fs) false
 unfoldable pub numbers : List (List ℕ) → ℕ → ℕ → Bool
 numbers fs k n = pick (length fs == k + n) (all_numbers (drop k fs)) false
 
--- that, and where it is so a list has these numbers at its front, in order
-pub record NumbersRead (fs : List (List ℕ)) (k n : ℕ) (r : Bool) (xs : List Float) : Type 0 where
-  pub are : r ≡ numbers fs k n
-  pub each : r ≡ true → (i : ℕ) → i < n → slice_index_or xs i nan ≡ at fs (k + i)
+-- the numbers of these fields, in order, where they are all numbers; else none
+pub record NumbersRead (fs : List (List ℕ)) (k n : ℕ) (r : Option (List Float)) : Type 0 where
+  pub are : is_some r ≡ numbers fs k n
+  pub each : (xs : List Float) → r ≡ Some xs → (i : ℕ) → i < n → slice_index_or xs i nan ≡ at fs (k + i)
 
 -- ---- the words of a line
 

@@ -7,19 +7,16 @@
 
 mod number;
 
-ghost use Rattle.std.specs.Prelude.{◌≡◌, ◌+◌, ◌<◌, ◌≤◌, length};
+ghost use Rattle.std.specs.Prelude.{◌≡◌, ◌+◌, ◌<◌};
 ghost use Rattle.job_words.specs.Kind.{fields_of, NumbersRead, bar_of, nose_on, nose_of, thread_of, thread_inner_of, drill_of, ring_of, line_of};
 
 use cuts::Cut;
-pub use number::{Number, read_number};
+pub use number::read_number;
 use rings::Ring;
 use stock::{TurnSide, TurnStockSpec};
 
 // A job's bar has so many cells at most.
 pub const MAX_CELLS: usize = 512;
-
-// A line has so many numbers at most.
-const MOST: usize = 6;
 
 #[derive(Clone, Copy)]
 pub enum Line {
@@ -30,59 +27,53 @@ pub enum Line {
     Bad,
 }
 
-// Whether from the field at k on there are exactly n fields, every one a number; the numbers are put at
-// the front of a lent list, to the first field that is none.
-fn read_numbers(s: &[u8], k: usize, n: usize, xs: &mut [f64]) -> bool
-    requires { (k + n < 16) × (n ≤ length xs.old) }
-    ensures { NumbersRead (fields_of s.now) k n result xs.new }
+// The N numbers of the fields from the one at k on, where there are exactly so many and every one is a
+// number.
+fn read_numbers<const N: usize>(s: &[u8], k: usize) -> Option<[f64; N]>
+    requires { k + N < 16 }
+    ensures { NumbersRead (fields_of s.now) k N result }
 {
-    if text::part_count(s, b'\t') != k + n {
-        return false;
+    if text::part_count(s, b'\t') != k + N {
+        return None;
     }
-    let mut i = 0;
-    while i < n {
-        let Number::Mm(x) = read_number(text::part(s, b'\t', k + i)) else {
-            return false;
-        };
-        xs[i] = x;
-        i += 1;
+    let mut xs = [0.0f64; N];
+    for i in 0..N {
+        xs[i] = read_number(text::part(s, b'\t', k + i))?;
     }
-    true
+    Some(xs)
 }
 
 fn read_bar(s: &[u8]) -> Line
     ensures { result ≡ bar_of (fields_of s.now) }
 {
-    let mut xs = [0.0f64; MOST];
-    if read_numbers(s, 1, 5, &mut xs) {
-        return Line::Bar(TurnStockSpec {
-            z_min_mm: xs[0],
-            z_max_mm: xs[1],
-            outer_radius_mm: xs[2],
-            bore_radius_mm: xs[3],
-            cell_mm: xs[4],
-            max_cells: MAX_CELLS,
-        });
-    }
-    Line::Bad
+    let Some(xs) = read_numbers::<5>(s, 1) else {
+        return Line::Bad;
+    };
+    Line::Bar(TurnStockSpec {
+        z_min_mm: xs[0],
+        z_max_mm: xs[1],
+        outer_radius_mm: xs[2],
+        bore_radius_mm: xs[3],
+        cell_mm: xs[4],
+        max_cells: MAX_CELLS,
+    })
 }
 
 fn read_nose_on(s: &[u8], side: TurnSide) -> Line
     ensures { result ≡ nose_on (fields_of s.now) side }
 {
-    let mut xs = [0.0f64; MOST];
-    if read_numbers(s, 2, 6, &mut xs) {
-        return Line::Cutting(Cut::Line {
-            side,
-            rn: xs[0],
-            sag: xs[1],
-            a_r: xs[2],
-            a_z: xs[3],
-            b_r: xs[4],
-            b_z: xs[5],
-        });
-    }
-    Line::Bad
+    let Some(xs) = read_numbers::<6>(s, 2) else {
+        return Line::Bad;
+    };
+    Line::Cutting(Cut::Line {
+        side,
+        rn: xs[0],
+        sag: xs[1],
+        a_r: xs[2],
+        a_z: xs[3],
+        b_r: xs[4],
+        b_z: xs[5],
+    })
 }
 
 fn read_nose(s: &[u8]) -> Line
@@ -101,58 +92,54 @@ fn read_nose(s: &[u8]) -> Line
 fn read_thread(s: &[u8]) -> Line
     ensures { result ≡ thread_of (fields_of s.now) }
 {
-    let mut xs = [0.0f64; MOST];
-    if read_numbers(s, 1, 3, &mut xs) {
-        return Line::Cutting(Cut::Thread {
-            z0: xs[0],
-            z1: xs[1],
-            radius: xs[2],
-        });
-    }
-    Line::Bad
+    let Some(xs) = read_numbers::<3>(s, 1) else {
+        return Line::Bad;
+    };
+    Line::Cutting(Cut::Thread {
+        z0: xs[0],
+        z1: xs[1],
+        radius: xs[2],
+    })
 }
 
 fn read_thread_inner(s: &[u8]) -> Line
     ensures { result ≡ thread_inner_of (fields_of s.now) }
 {
-    let mut xs = [0.0f64; MOST];
-    if read_numbers(s, 1, 3, &mut xs) {
-        return Line::Cutting(Cut::ThreadInner {
-            z0: xs[0],
-            z1: xs[1],
-            radius: xs[2],
-        });
-    }
-    Line::Bad
+    let Some(xs) = read_numbers::<3>(s, 1) else {
+        return Line::Bad;
+    };
+    Line::Cutting(Cut::ThreadInner {
+        z0: xs[0],
+        z1: xs[1],
+        radius: xs[2],
+    })
 }
 
 fn read_drill(s: &[u8]) -> Line
     ensures { result ≡ drill_of (fields_of s.now) }
 {
-    let mut xs = [0.0f64; MOST];
-    if read_numbers(s, 1, 3, &mut xs) {
-        return Line::Cutting(Cut::Drill {
-            tip_z: xs[0],
-            radius: xs[1],
-            cone: xs[2],
-        });
-    }
-    Line::Bad
+    let Some(xs) = read_numbers::<3>(s, 1) else {
+        return Line::Bad;
+    };
+    Line::Cutting(Cut::Drill {
+        tip_z: xs[0],
+        radius: xs[1],
+        cone: xs[2],
+    })
 }
 
 fn read_ring(s: &[u8]) -> Line
     ensures { result ≡ ring_of (fields_of s.now) }
 {
-    let mut xs = [0.0f64; MOST];
-    if read_numbers(s, 1, 4, &mut xs) {
-        return Line::Removing(Ring {
-            z0: xs[0],
-            z1: xs[1],
-            r0: xs[2],
-            r1: xs[3],
-        });
-    }
-    Line::Bad
+    let Some(xs) = read_numbers::<4>(s, 1) else {
+        return Line::Bad;
+    };
+    Line::Removing(Ring {
+        z0: xs[0],
+        z1: xs[1],
+        r0: xs[2],
+        r1: xs[3],
+    })
 }
 
 // A job line without its newline.

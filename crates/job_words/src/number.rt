@@ -5,13 +5,7 @@
 ghost use Rattle.std.specs.Prelude.{◌≡◌, ◌≤◌, pos, neg_ℤ};
 ghost use Rattle.job_words.specs.Number.{millimetres, field_number};
 
-use text::{Whole, read_whole};
-
-#[derive(Clone, Copy)]
-pub enum Number {
-    Mm(f64),
-    NoNumber,
-}
+use text::read_whole;
 
 // Micrometres as millimetres: converted, and divided by 1000 with one rounding.
 fn over_zero(v: u64) -> f64
@@ -29,22 +23,17 @@ fn under_zero(v: u64) -> f64
 }
 
 // A field as millimetres.
-pub fn read_number(f: &[u8]) -> Number
+pub fn read_number(f: &[u8]) -> Option<f64>
     ensures { result ≡ field_number f.now }
 {
     if f.len() < 1 {
-        return Number::NoNumber;
+        return None;
     }
     let b = f[0];
     if b == b'-' {
-        match read_whole(&f[1..]) {
-            Whole::Of(v) => Number::Mm(under_zero(v)),
-            Whole::No => Number::NoNumber,
-        }
-    } else {
-        match read_whole(f) {
-            Whole::Of(v) => Number::Mm(over_zero(v)),
-            Whole::No => Number::NoNumber,
-        }
+        let v = read_whole(&f[1..])?;
+        return Some(under_zero(v));
     }
+    let v = read_whole(f)?;
+    Some(over_zero(v))
 }

@@ -1,9 +1,12 @@
 -- The tests that a move and a rebuild tell: those of the rings as they were before. Assumes nothing.
+use Rattle.std.specs.Prelude.{Err, Ok, Result}
 use mathlib.Core.Path.{◌≡◌, refl, sym, ap, ◌∙◌}
 use mathlib.Core.Bool.{Bool, true, false}
 use mathlib.Core.List.{List}
 use Prim.Native.Nat.{ℕ}
 use lib.Ieee.{Float}
+use Rattle.refusals.specs.Number.{placed_of}
+use Rattle.refusals.specs.declared.Refused.{Refused}
 use Rattle.refusals.specs.Paper.{Paper, Reason, answers, refuses, onward}
 use Rattle.floats.specs.Pick.{pick, pick_true, pick-false}
 use Rattle.stock.specs.declared.TurnStockSpec.{TurnStockSpec}
@@ -11,11 +14,9 @@ use Rattle.stock.specs.declared.TurnStock.{TurnStock}
 use Rattle.stock.proofs.Count.{no_answer, same_answer, demanded}
 use Rattle.changes.specs.declared.ChangeList.{ChangeList}
 use Rattle.rings.specs.declared.Ring.{Ring}
-use Rattle.rings.specs.declared.Counts.{Counts}
-use Rattle.rings.specs.declared.StoredAs.{StoredAs}
-use Rattle.rings.specs.declared.StoredAs.TheVariants as stored
 use Rattle.rings.specs.Store.{store_as}
-use Rattle.rings.specs.Remove.{remove_rings, counts_paper, count_of, stored_paper, store_after, StoresAs}
+use Rattle.rings.specs.declared.RingCount.{RingCount}
+use Rattle.rings.specs.Remove.{remove_rings, count_of, store_after, StoresAs}
 use Rattle.rings.specs.Tests.{list_tests}
 use Rattle.rings.proofs.Listed.{tests-after}
 use Rattle.moves.specs.Move.{Left, RingsLeft, generation_after, rings_moved, move_of, parts_of, counts_of, moved_rings, is_moved, told_tests}
@@ -46,7 +47,7 @@ moved-rings k xs removed a h =
     r.first ∙ ap (λ (x : RingsLeft). answers x.rings) t
 
 -- ---- a move
-pub moved_told : (k : TurnStock) (cs bs xs : List Float) (list : ChangeList) (is : List ℕ) (ys removed : List Float) (r : Counts) (cs' xs' : List Float) (t : Bool) (ts ts' : List ℕ) → Shifts (move_of k cs bs xs list is ys removed) r cs cs' xs xs' → t ≡ is_moved r
+pub moved_told : (k : TurnStock) (cs bs xs : List Float) (list : ChangeList) (is : List ℕ) (ys removed : List Float) (r : Result RingCount Refused) (cs' xs' : List Float) (t : Bool) (ts ts' : List ℕ) → Shifts (move_of k cs bs xs list is ys removed) r cs cs' xs xs' → t ≡ is_moved r
     → ts' ≡ pick t (list_tests k.spec xs' k.rings removed ts) ts → ts' ≡ told_tests (move_of k cs bs xs list is ys removed) (list_tests k.spec xs k.rings removed ts) ts
 moved_told k cs bs xs list is ys removed r cs' xs' t ts ts' s f e =
     told-where (move_of k cs bs xs list is ys removed) (λ (a : Left). a.rings) t k.spec xs xs' k.rings removed ts ts' e
@@ -54,17 +55,15 @@ moved_told k cs bs xs list is ys removed r cs' xs' t ts ts' s f e =
     (λ x h. f ∙ moved-not r x (s.answer ∙ ap counts_of h))
 
 -- ---- a rebuild
-stored-as : (r : StoredAs) (n : ℕ) → stored_paper r ≡ answers n → is_stored r ≡ true
-stored-as (stored.Rings m) n h = refl
-stored-as (stored.Refused c) n h = absurd (no_answer _ n h)
-stored-as (stored.RefusedAt c k) n h = absurd (no_answer _ n h)
+stored-as : (r : Result ℕ Refused) (n : ℕ) → placed_of r ≡ answers n → is_stored r ≡ true
+stored-as (Ok m) n h = refl
+stored-as (Err c) n h = absurd (no_answer _ n h)
 
-stored-not : (r : StoredAs) (x : Reason) → stored_paper r ≡ refuses x → is_stored r ≡ false
-stored-not (stored.Rings m) x h = absurd (no_answer x m (sym h))
-stored-not (stored.Refused c) x h = refl
-stored-not (stored.RefusedAt c k) x h = refl
+stored-not : (r : Result ℕ Refused) (x : Reason) → placed_of r ≡ refuses x → is_stored r ≡ false
+stored-not (Ok m) x h = absurd (no_answer x m (sym h))
+stored-not (Err c) x h = refl
 
-pub rebuilt-told : (spec : TurnStockSpec) (cs : List Float) (len : ℕ) (given xs xs' : List Float) (r : StoredAs) (t : Bool) (ts ts' : List ℕ) → StoresAs xs (parts_of spec cs len given xs) r xs' → t ≡ is_stored r
+pub rebuilt-told : (spec : TurnStockSpec) (cs : List Float) (len : ℕ) (given xs xs' : List Float) (r : Result ℕ Refused) (t : Bool) (ts ts' : List ℕ) → StoresAs xs (parts_of spec cs len given xs) r xs' → t ≡ is_stored r
     → ts' ≡ pick t (list_tests spec xs' 0 given ts) ts → ts' ≡ told_tests (parts_of spec cs len given xs) (list_tests spec xs 0 given ts) ts
 unfolding count_of onward
 rebuilt-told spec cs len given xs xs' r t ts ts' s f e =

@@ -1,6 +1,7 @@
 -- A move: a commit of changes with the rings that the move removed; and a stock rebuilt from its parts. Assumes nothing.
-use Rattle.std.specs.Prelude.{◌≡◌, Bool, true, false, List, ℕ, ◌+◌, ◌/◌, leb, length, Float}
-use Rattle.refusals.specs.Number.{reason_of, reason_at}
+use Rattle.std.specs.Prelude.{◌≡◌, Bool, true, false, List, ℕ, ◌+◌, ◌/◌, leb, length, Float, Err, Ok, Result}
+use Rattle.refusals.specs.declared.Refused.{Refused}
+use Rattle.refusals.specs.Number.{placed_of}
 use Rattle.refusals.specs.Paper.{Paper, answers, refuses, demand, demand_none, onward}
 use Rattle.refusals.specs.Limits.{last_generation}
 use Rattle.refusals.specs.Lent.{Lent}
@@ -17,15 +18,10 @@ use Rattle.changes.specs.declared.ChangeList.{ChangeList}
 use Rattle.changes.specs.Change.{room_of, changes_from}
 use Rattle.rings.specs.declared.Ring.{Ring}
 use Rattle.rings.specs.Store.{bar_ring, rings_of, store_as, count_fits, bad_ring, raised_by}
-use Rattle.rings.specs.declared.Counts.{Counts}
-use Rattle.rings.specs.declared.Counts.TheVariants as counts
-use Rattle.rings.specs.Remove.{RingCount, counts_paper, count_of, store_after, stock_after, remove_rings}
+use Rattle.rings.specs.declared.RingCount.{RingCount}
+use Rattle.rings.specs.Remove.{count_of, store_after, stock_after, remove_rings}
 use Rattle.rings.specs.Tests.{list_tests}
 use Rattle.changes.specs.Commit.{pass_all, put_all, numbers_kept}
-use Rattle.moves.specs.declared.Moved.{Moved}
-use Rattle.moves.specs.declared.Moved.TheVariants as moved
-use Rattle.moves.specs.declared.Rebuilt.{Rebuilt}
-use Rattle.moves.specs.declared.Rebuilt.TheVariants as rebuilt
 
 -- ---- a move
 
@@ -80,7 +76,7 @@ move_of k cs bs xs list is ys removed =
     demand (leb list.count (room_of (length is) (length ys))) 6
     (move_in k n cs bs xs list.stamp (changes_from is ys list.count) removed))
 
--- ---- what a move answers, case by case, and what the lent numbers hold afterwards
+-- ---- what a move answers, and what the lent numbers hold afterwards
 
 -- the count of rings and the generation
 abbrev pub counts_of : Paper Left → Paper RingCount
@@ -102,19 +98,14 @@ abbrev pub moved_kept : TurnStock → Paper Left → List Float → List Float
 moved_kept k (answers a) bs = numbers_kept k.spec a.cells
 moved_kept k (refuses n) bs = bs
 
-abbrev pub moved_paper : Moved → Paper TurnStock
-moved_paper (moved.Stock k) = answers k
-moved_paper (moved.Refused c) = refuses (reason_of c)
-moved_paper (moved.RefusedAt c k) = refuses (reason_at c k)
-
 -- the stock, the lent cells and the lent rings after a move of the stock k
-pub record Moves (k : TurnStock) (p : Paper Left) (r : Moved) (cs cs' xs xs' : List Float) : Type 0 where
-  pub answer : moved_paper r ≡ stock_after k (counts_of p)
+pub record Moves (k : TurnStock) (p : Paper Left) (r : Result TurnStock Refused) (cs cs' xs xs' : List Float) : Type 0 where
+  pub answer : placed_of r ≡ stock_after k (counts_of p)
   pub cells : cs' ≡ moved_cells p cs
   pub rings : xs' ≡ moved_rings p xs
 
 -- the same, with the kept numbers
-pub record MovesKept (k : TurnStock) (p : Paper Left) (r : Moved) (cs cs' bs bs' xs xs' : List Float) : Type 0 where
+pub record MovesKept (k : TurnStock) (p : Paper Left) (r : Result TurnStock Refused) (cs cs' bs bs' xs xs' : List Float) : Type 0 where
   pub left : Moves k p r cs cs' xs xs'
   pub kept : bs' ≡ moved_kept k p bs
 
@@ -124,12 +115,12 @@ told_tests (answers a) new old = new
 told_tests (refuses n) new old = old
 
 -- the same, with the tests of each ring of the list `removed` at the front of a lent list
-pub record MovesTold (k : TurnStock) (p : Paper Left) (removed : List Float) (r : Moved) (cs cs' bs bs' xs xs' : List Float) (ts ts' : List ℕ) : Type 0 where
+pub record MovesTold (k : TurnStock) (p : Paper Left) (removed : List Float) (r : Result TurnStock Refused) (cs cs' bs bs' xs xs' : List Float) (ts ts' : List ℕ) : Type 0 where
   pub moves : MovesKept k p r cs cs' bs bs' xs xs'
   pub tests : ts' ≡ told_tests p (list_tests k.spec xs k.rings removed ts) ts
 
 -- of lent cells, kept numbers, rings and tests, at both moments
-abbrev pub MovesLent : TurnStock → Paper Left → List Float → Moved → Lent Float → Lent Float → Lent Float → Lent ℕ → Type 0
+abbrev pub MovesLent : TurnStock → Paper Left → List Float → Result TurnStock Refused → Lent Float → Lent Float → Lent Float → Lent ℕ → Type 0
 MovesLent k p removed r cells blocks rings tests =
     MovesTold k p removed r cells.entry.now cells.exit.now blocks.entry.now blocks.exit.now rings.entry.now rings.exit.now tests.entry.now tests.exit.now
 
@@ -146,15 +137,14 @@ rings_left_after (answers a) xs = store_as xs a.rings
 rings_left_after (refuses n) xs = xs
 
 -- the answer and the lent rings after they are taken
-pub record TakesRings (p : Paper RingsLeft) (r : Counts) (xs xs' : List Float) : Type 0 where
-  pub answer : counts_paper r ≡ counts_left p
+pub record TakesRings (p : Paper RingsLeft) (r : Result RingCount Refused) (xs xs' : List Float) : Type 0 where
+  pub answer : placed_of r ≡ counts_left p
   pub rings : xs' ≡ rings_left_after p xs
 
 -- an answer that is no refusal
-abbrev pub is_moved : Counts → Bool
-is_moved (counts.Stored n g) = true
-is_moved (counts.Refused c) = false
-is_moved (counts.RefusedAt c k) = false
+abbrev pub is_moved : Result RingCount Refused → Bool
+is_moved (Ok c) = true
+is_moved (Err r) = false
 
 -- ---- a stock from its parts
 
@@ -171,28 +161,23 @@ abbrev pub stock_stored : TurnStockSpec → ℕ → Paper ℕ → Paper TurnStoc
 stock_stored spec edition (answers n) = answers (stock_from spec edition n 0)
 stock_stored spec edition (refuses r) = refuses r
 
-abbrev pub rebuilt_paper : Rebuilt → Paper TurnStock
-rebuilt_paper (rebuilt.Stock k) = answers k
-rebuilt_paper (rebuilt.Refused c) = refuses (reason_of c)
-rebuilt_paper (rebuilt.RefusedAt c k) = refuses (reason_at c k)
-
 -- the kept numbers are those of the cells, whatever they were; a refusal leaves them
 abbrev pub rebuilt_kept : TurnStockSpec → List Float → Paper (List Ring) → List Float → List Float
 rebuilt_kept spec cs (answers l) bs = numbers_kept spec cs
 rebuilt_kept spec cs (refuses n) bs = bs
 
 -- the stock, the kept numbers and the lent rings
-pub record Rebuilds (spec : TurnStockSpec) (edition : ℕ) (cs : List Float) (p : Paper (List Ring)) (r : Rebuilt) (bs bs' xs ys : List Float) : Type 0 where
-  pub answer : rebuilt_paper r ≡ stock_stored spec edition (count_of p)
+pub record Rebuilds (spec : TurnStockSpec) (edition : ℕ) (cs : List Float) (p : Paper (List Ring)) (r : Result TurnStock Refused) (bs bs' xs ys : List Float) : Type 0 where
+  pub answer : placed_of r ≡ stock_stored spec edition (count_of p)
   pub kept : bs' ≡ rebuilt_kept spec cs p bs
   pub store : ys ≡ store_after xs p
 
 -- the same, with the tests of each ring given at the front of a lent list
-pub record RebuildsTold (spec : TurnStockSpec) (edition : ℕ) (cs : List Float) (p : Paper (List Ring)) (given : List Float) (r : Rebuilt) (bs bs' xs ys : List Float) (ts ts' : List ℕ) : Type 0 where
+pub record RebuildsTold (spec : TurnStockSpec) (edition : ℕ) (cs : List Float) (p : Paper (List Ring)) (given : List Float) (r : Result TurnStock Refused) (bs bs' xs ys : List Float) (ts ts' : List ℕ) : Type 0 where
   pub rebuilds : Rebuilds spec edition cs p r bs bs' xs ys
   pub tests : ts' ≡ told_tests p (list_tests spec xs 0 given ts) ts
 
 -- of lent numbers, rings and tests, at both moments
-abbrev pub RebuildsLent : TurnStockSpec → ℕ → List Float → Paper (List Ring) → List Float → Rebuilt → Lent Float → Lent Float → Lent ℕ → Type 0
+abbrev pub RebuildsLent : TurnStockSpec → ℕ → List Float → Paper (List Ring) → List Float → Result TurnStock Refused → Lent Float → Lent Float → Lent ℕ → Type 0
 RebuildsLent spec edition cs p given r blocks rings tests =
     RebuildsTold spec edition cs p given r blocks.entry.now blocks.exit.now rings.entry.now rings.exit.now tests.entry.now tests.exit.now

@@ -1,11 +1,11 @@
 -- Which segments have a side: in 01's domain exactly those whose ends are apart (`normal-none`). Assumes nothing.
+use Rattle.std.specs.Prelude.{None, Some}
 use mathlib.Core.Path.{◌≡◌, refl, sym, ap, ◌∙◌, subst}
 use mathlib.Core.Logic.{◌↔◌}
 use Prim.Native.Nat.{ℕ}
 use native.Mathlib.Nat.{le_of_eq}
 use native.Mathlib.Omega.{arith}
 use mathlib.Core.Bool.{Bool, true, false, not}
-use mathlib.Core.Option.{Option, none, some}
 use lib.Dec.{T, lit<, lit≤, not_T}
 use lib.Ieee.{Float, binary64, neg, eq, lt, le}
 use lib.Ieee.Bits.{is_false}
@@ -58,20 +58,20 @@ module _ {l : Float} (p : Finite binary64 l) where
       subst (λ (z : Float). T (eq l z)) (sym zero_is) (to-eq (number-finite p) number-zero (omega arith))
 
 -- a normal is missing exactly where the test of the length fails
-no-normal : (b : Bool) (n : Point) → pick b (some n) none ≡ none → b ≡ false
+no-normal : (b : Bool) (n : Point) → pick b (Some n) None ≡ None → b ≡ false
 unfolding pick
 no-normal true n h = let z : ◌≡◌ {A = ℕ} 0 1 = cc in absurd (omega arith)
 no-normal false n h = refl
 
 -- a segment in 01's domain has no side exactly where its ends are the same numbers
-pub normal-none : (a b : Point) → PointWithin a → PointWithin b → (normal_of a b ≡ none) ↔ (T (eq a.r b.r) × T (eq a.z b.z))
+pub normal-none : (a b : Point) → PointWithin a → PointWithin b → (normal_of a b ≡ None) ↔ (T (eq a.r b.r) × T (eq a.z b.z))
 unfolding normal_of
 normal-none a b wa wb = (
   λ h.
       let u = zero-only.0 (length-zero size positive (no-normal (lt zero64 l) n (sym is ∙ h))) in
       ((no_difference (finite-within wb.r) (finite-within wa.r)).0 u.0, (no_difference (finite-within wb.z) (finite-within wa.z)).0 u.1),
   λ h.
-      is ∙ pick-false (lt zero64 l) (some n) none (zero-length size (zero-only.1 (
+      is ∙ pick-false (lt zero64 l) (Some n) None (zero-length size (zero-only.1 (
         (no_difference (finite-within wb.r) (finite-within wa.r)).1 h.0,
         (no_difference (finite-within wb.z) (finite-within wa.z)).1 h.1,
       ))),
@@ -101,7 +101,7 @@ normal-none a b wa wb = (
     n : Point
     n = facing (pt (dz /₆₄ l) (neg dr /₆₄ l))
 
-    is : normal_by dr dz (length_of dr dz) ≡ pick (lt zero64 l) (some n) none
+    is : normal_by dr dz (length_of dr dz) ≡ pick (lt zero64 l) (Some n) None
     is = ap (normal_by dr dz) e
 
     size : Finite binary64 l

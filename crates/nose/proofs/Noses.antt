@@ -1,8 +1,8 @@
 -- In 01's domain what a nose reaches is finite and not -0.0, in every bin: an accepted preview commits. Assumes nothing.
+use Rattle.std.specs.Prelude.{Option, None, Some}
 use mathlib.Core.Path.{◌≡◌, refl}
 use mathlib.Core.Bool.{Bool, true, false, ◌&&◌}
 use mathlib.Core.List.{List}
-use mathlib.Core.Option.{Option, none, some}
 use Prim.Native.Nat.{ℕ, zero, suc, ◌+◌, ◌*◌, ◌≤◌, ◌<◌}
 use native.Mathlib.Nat.{le_refl}
 use native.Mathlib.Omega.{arith}
@@ -27,7 +27,8 @@ use Rattle.stock.specs.Spec.{clean_spec}
 use Rattle.stock.specs.Bin.{bin_of}
 use Rattle.stock.proofs.Count.{Checked}
 use Rattle.stock.proofs.Bins.{Sized, HeldSpec, HeldList, BinSized, bin-within, bin_bits}
-use Rattle.reach.specs.Low.{Found, lower_of, upper_of}
+use Rattle.reach.specs.declared.Swept.{Swept}
+use Rattle.reach.specs.Low.{lower_of, upper_of}
 use Rattle.nose.specs.declared.Point.{Point}
 use Rattle.nose.specs.declared.Segment.{Segment}
 use Rattle.nose.specs.Capsule.{pt, less_root, end_at, facing, normal_by, normal_of, shifted, line_at, on_line, side_at, capsule_min_r, least_point, capsule_lowest}
@@ -41,7 +42,7 @@ abbrev W : ℕ → Float → Type 0
 W = Within binary64
 
 -- where a test holds there is a radius
-if_some : (P : Float → Type 0) (t : Bool) (a : Option Float) → (T t → SomeOf P a) → SomeOf P (pick t a none)
+if_some : (P : Float → Type 0) (t : Bool) (a : Option Float) → (T t → SomeOf P a) → SomeOf P (pick t a None)
 unfolding pick
 if_some P true a h = h tt
 if_some P false a h = tt
@@ -80,15 +81,15 @@ unfolding line_at of_bits
 line-within p q c P Q =
     let t = (c -₆₄ p.z) /₆₄ (q.z -₆₄ p.z) in
     some-pick (W reach_bits) (ne q.z p.z)
-    (pick (le zero64 t && le t one64) (some (p.r +₆₄ t *₆₄ (q.r -₆₄ p.r))) none)
-    (pick (le (size_of (p.z -₆₄ c)) on_line) (some (least_of p.r q.r)) none)
-    (if_some (W reach_bits) (le zero64 t && le t one64) (some (p.r +₆₄ t *₆₄ (q.r -₆₄ p.r))) (λ h. part-within (record { held = div-fits binary64 (c -₆₄ p.z) (q.z -₆₄ p.z); low = and_l (le zero64 t) (le t one64) h; high = and_r (le zero64 t) (le t one64) h }) P Q (lit< tt)))
-    (if_some (W reach_bits) (le (size_of (p.z -₆₄ c)) on_line) (some (least_of p.r q.r)) (λ h. within-weaken (lit≤ tt) (within-least P Q)))
+    (pick (le zero64 t && le t one64) (Some (p.r +₆₄ t *₆₄ (q.r -₆₄ p.r))) None)
+    (pick (le (size_of (p.z -₆₄ c)) on_line) (Some (least_of p.r q.r)) None)
+    (if_some (W reach_bits) (le zero64 t && le t one64) (Some (p.r +₆₄ t *₆₄ (q.r -₆₄ p.r))) (λ h. part-within (record { held = div-fits binary64 (c -₆₄ p.z) (q.z -₆₄ p.z); low = and_l (le zero64 t) (le t one64) h; high = and_r (le zero64 t) (le t one64) h }) P Q (lit< tt)))
+    (if_some (W reach_bits) (le (size_of (p.z -₆₄ c)) on_line) (Some (least_of p.r q.r)) (λ h. within-weaken (lit≤ tt) (within-least P Q)))
 
 -- the radial part of a normal, where there is one
 abbrev NormalWithin : Option Point → Type 0
-NormalWithin none = Unit {0}
-NormalWithin (some n) = W 0 n.r
+NormalWithin None = Unit {0}
+NormalWithin (Some n) = W 0 n.r
 
 -- a normal that is turned keeps its size
 facing-within : (n : Point) → W 0 n.r → W 0 (facing n).r
@@ -103,7 +104,7 @@ normal-within a b wa wb =
     let dz = b.z -₆₄ a.z in
     go dr dz (within-sub wb.r wa.r (lit< tt)) (within-sub wb.z wa.z (lit< tt)) (length_of dr dz) refl
   where
-    if-long : (t : Bool) (n : Point) → (T t → W 0 n.r) → NormalWithin (pick t (some n) none)
+    if-long : (t : Bool) (n : Point) → (T t → W 0 n.r) → NormalWithin (pick t (Some n) None)
     if-long true n h = h tt
     if-long false n h = tt
 
@@ -119,8 +120,8 @@ shift-within p rn n w R N = within-weaken (lit≤ tt) (within-add w.r (within-mu
 -- the straight side
 side-within : (a b : Point) (rn c : Float) (n : Option Point) → PointWithin a → PointWithin b → W 21 rn → NormalWithin n → SomeOf (W reach_bits) (side_at a b rn c n)
 unfolding side_at
-side-within a b rn c none wa wb R N = tt
-side-within a b rn c (some n) wa wb R N = line-within (shifted a rn n) (shifted b rn n) c (shift-within a rn n wa R N) (shift-within b rn n wb R N)
+side-within a b rn c None wa wb R N = tt
+side-within a b rn c (Some n) wa wb R N = line-within (shifted a rn n) (shifted b rn n) c (shift-within a rn n wa R N) (shift-within b rn n wb R N)
 
 -- its least radius on a line is at most 2 ^ 39
 pub capsule-within : (a b : Point) (rn c : Float) → PointWithin a → PointWithin b → W 21 rn → W bin_bits c → SomeOf (W reach_bits) (capsule_min_r a b rn c)
@@ -138,7 +139,7 @@ lowest-within a b rn wa wb R =
 
 -- ---- a bin
 -- low and high, where they are there
-pub record FoundWithin (found : Found) : Type 0 where
+pub record FoundWithin (found : Swept) : Type 0 where
   pub low : SomeOf (W reach_bits) found.low
   pub high : SomeOf (W reach_bits) found.high
 
@@ -151,12 +152,12 @@ module _ (bin : ZRange) (B : BinSized bin) (rn : Float) (R : W 20 rn) (s : Segme
       let G : W 21 grown = within-add R w.sag (lit< tt) in
       let p = capsule_lowest s.a s.b grown in
       let t = le bin.za p.z && le p.z bin.zb in
-      let x = pick t (some p.r) none in
+      let x = pick t (Some p.r) None in
       let y = capsule_min_r s.a s.b grown bin.za in
       let z = capsule_min_r s.a s.b grown bin.zb in
       lower-keeps (W reach_bits) (lower_of (lower_of l x) y) z
       (lower-keeps (W reach_bits) (lower_of l x) y
-      (lower-keeps (W reach_bits) l x u (if_some (W reach_bits) t (some p.r) (λ h. within-weaken (lit≤ tt) (lowest-within s.a s.b grown w.a w.b G))))
+      (lower-keeps (W reach_bits) l x u (if_some (W reach_bits) t (Some p.r) (λ h. within-weaken (lit≤ tt) (lowest-within s.a s.b grown w.a w.b G))))
       (capsule-within s.a s.b grown bin.za w.a w.b G B.za.within))
       (capsule-within s.a s.b grown bin.zb w.a w.b G B.zb.within)
 
@@ -173,7 +174,7 @@ module _ (bin : ZRange) (B : BinSized bin) (rn : Float) (R : W 20 rn) (s : Segme
       (upper-keeps (W reach_bits) y z (capsule-within s.a s.b shrunk bin.za w.a w.b G B.za.within) (capsule-within s.a s.b shrunk bin.zb w.a w.b G B.zb.within)))
 
   -- both with a segment more
-  segment-within : (acc : Found) → FoundWithin acc → FoundWithin (with_segment acc s rn bin)
+  segment-within : (acc : Swept) → FoundWithin acc → FoundWithin (with_segment acc s rn bin)
   unfolding with_segment
   segment-within acc u =
       of_two FoundWithin _ acc (record { low = low_with acc.low s (rn +₆₄ s.sag) bin; high = high_with acc.high s rn bin }) u

@@ -1,20 +1,19 @@
 -- A circle that stays over a radius on a line, told without its root: where the square of `far` is no less than what is rooted, `far` is no less than the root (`end-over`). Assumes nothing.
-use mathlib.Core.Path.{◌≡◌, refl, sym, ap, ◌∙◌, subst}
+use Rattle.std.specs.Prelude.{Option, None, Some}
+use mathlib.Core.Path.{◌≡◌, refl, sym, ap, subst}
 use mathlib.Core.Bool.{Bool, true, false, ◌&&◌, true≢false}
-use mathlib.Core.Option.{Option, none, some}
-use Prim.Native.Nat.{ℕ, ◌^◌, ◌≤◌}
+use Prim.Native.Nat.{◌^◌, ◌≤◌}
 use native.Mathlib.Nat.{le_of_eq}
 use native.Mathlib.Nat as nat
 use lib.Dec.{T, lit≤}
-use lib.IntN.{pos, negsuc}
+use lib.IntN.{negsuc}
 use lib.Pow.{pow_mono}
-use lib.Ieee.{Float, nan, inf, fin, binary64, fits, is_nan, add, sub, neg, lt, le, eq, of_bits, of_fields, odd}
+use lib.Ieee.{Float, nan, inf, fin, binary64, fits, add, sub, neg, lt, le, eq, of_bits, of_fields, odd}
 use lib.Ieee.Fits.{sub-fits}
-use lib.Ieee.Scale.{finite}
 use Rattle.refusals.specs.Paper.{Paper, answers}
-use Rattle.floats.specs.Pick.{pick, pick_true, pick-false}
+use Rattle.floats.specs.Pick.{pick_true, pick-false}
 use Rattle.floats.specs.Numbers.{◌-₆₄◌, ◌*₆₄◌, least_of, greatest_of, size_of}
-use Rattle.floats.specs.Kinds.{Number, Finite, Within}
+use Rattle.floats.specs.Kinds.{Finite, Within}
 use Rattle.floats.proofs.Bools.{so, to-false}
 use Rattle.floats.proofs.Bounding.{clash, lt-le-chain}
 use Rattle.floats.proofs.Keys.{mag}
@@ -28,9 +27,7 @@ use Rattle.numbers.proofs.Units.{square-nonneg}
 use Rattle.numbers.proofs.Sizes.{root-answers, root-finite, root-mono, size-order}
 use Rattle.numbers.proofs.Squares.{root-of-square}
 use Rattle.numbers.proofs.Tiny.{below-size}
-use Rattle.reach.specs.declared.Low.{Low}
-use Rattle.reach.specs.declared.Low.TheVariants.{At}
-use Rattle.reach.specs.Low.{low_paper, lower_of}
+use Rattle.reach.specs.Low.{lower_of}
 use Rattle.reach.proofs.Reaches.{lower-keeps, some-pick}
 use Rattle.nose.specs.declared.Point.{Point}
 use Rattle.nose.specs.declared.Capsule.{Capsule}
@@ -115,7 +112,7 @@ module _ (far : Float) (held : T (fits binary64 far)) (low : T (le tiny_below fa
       let k : T (le g (far *₆₄ far)) = greatest-le N number-zero (number-finite square-finite) h (square-nonneg far-finite) in
       let G = finite-between (finite-within (within-zero binary64)) square-finite (greatest-number N number-zero).held n k in
       let a = root-answers g G n in
-      some-pick (λ y. T (lt top y)) (le (size_of dz) rn) (less_root p.r (root_of g)) none
+      some-pick (λ y. T (lt top y)) (le (size_of dz) rn) (less_root p.r (root_of g)) None
       (subst (λ (q : Paper Float). Over top (less_root p.r q)) (sym a.1) (less-over p.r a.0 far top f (root-finite G a.1) far-finite (root-under g a.0 G n k a.1) l))
       tt
 
@@ -135,20 +132,19 @@ over-test p rr c top far f g e rn =
     end-over far g (so y.1) (so x.1) p rn rr c top f (so z.0) (so z.1)
 
 -- a radius hides what stays over it
-pub hides : (l : Low) (top : Float) (o : Option Float) → l ≡ At top → Over top o → lower_of o (low_paper l) ≡ low_paper l
-unfolding low_paper
-hides l top o e h = subst (λ (z : Low). lower_of o (low_paper z) ≡ low_paper z) (sym e) (go o h)
+pub hides : (l : Option Float) (top : Float) (o : Option Float) → l ≡ Some top → Over top o → lower_of o l ≡ l
+hides l top o e h = subst (λ (z : Option Float). lower_of o z ≡ z) (sym e) (go o h)
   where
     is_true : (b : Bool) → T b → b ≡ true
     is_true true t = refl
     is_true false t = absurd t
 
-    go : (o : Option Float) → Over top o → lower_of o (some top) ≡ some top
-    go none h = unfold lower_of in refl
-    go (some y) h = unfold lower_of least_of in ap some (pick_true (lt top y) top y (is_true (lt top y) h))
+    go : (o : Option Float) → Over top o → lower_of o (Some top) ≡ Some top
+    go None h = unfold lower_of in refl
+    go (Some y) h = unfold lower_of least_of in ap Some (pick_true (lt top y) top y (is_true (lt top y) h))
 
 -- ---- a capsule whose straight side misses the line
-pub capsule-over : (w : Capsule) (c top : Float) → Over top (end_on w.a w.rn w.rr c) → Over top (end_on w.b w.rn w.rr c) → side_on w c ≡ none → Over top (capsule_at w c)
+pub capsule-over : (w : Capsule) (c top : Float) → Over top (end_on w.a w.rn w.rr c) → Over top (end_on w.b w.rn w.rr c) → side_on w c ≡ None → Over top (capsule_at w c)
 unfolding capsule_at
 capsule-over w c top a b e =
     let P : Float → Type 0 = λ x. T (lt top x) in

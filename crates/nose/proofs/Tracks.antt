@@ -1,9 +1,9 @@
 -- A segment with its bin-free part worked out says the same as the segment. Assumes nothing.
+use Rattle.std.specs.Prelude.{Option, None, Some}
 use mathlib.Core.Path.{◌≡◌, refl, sym, ap, ◌∙◌, subst}
 use mathlib.Core.Logic.{◌⊎◌, inl, inr}
 use mathlib.Core.Bool.{Bool, true, false, ◌&&◌, ◌||◌}
 use mathlib.Core.List.{List, []}
-use mathlib.Core.Option.{Option, none, some}
 use Prim.Native.Nat.{ℕ, zero, suc, ◌+◌}
 use native.Mathlib.Nat.{zero-mul}
 use native.Mathlib.Numerals.{add-one}
@@ -21,42 +21,44 @@ use Rattle.stock.specs.declared.TurnStockSpec.{TurnStockSpec}
 use Rattle.stock.specs.declared.TurnSide.{TurnSide}
 use Rattle.stock.specs.declared.ZRange.{ZRange}
 use Rattle.stock.specs.Bin.{bin_of}
-use Rattle.reach.specs.Low.{Found, lower_of, upper_of}
-use Rattle.reach.specs.Reach.{passed, reach_from}
+use Rattle.reach.specs.declared.Swept.{Swept}
+use Rattle.reach.specs.Low.{lower_of, upper_of}
+use Rattle.reach.specs.declared.Reach.TheVariants.{Passed}
+use Rattle.reach.specs.Reach.{reach_from}
 use Rattle.nose.specs.declared.Point.{Point}
 use Rattle.nose.specs.declared.Segment.{Segment}
 use Rattle.nose.specs.declared.Track.{Track}
 use Rattle.nose.specs.Capsule.{end_at, line_at, side_at, normal_of, capsule_min_r}
 use Rattle.nose.specs.Nose.{segment_at, segment_count, low_with, high_with, with_segment, nose_to, nose_reach, nose_act}
-use Rattle.nose.specs.Track.{normal_held, capsule_of, end_on, side_on, capsule_at, alike_of, track_of, sample_at, step_of, with_track}
+use Rattle.nose.specs.Track.{capsule_of, end_on, side_on, capsule_at, alike_of, track_of, sample_at, step_of, with_track}
 use Rattle.floats.proofs.Bools.{so}
 
 -- ---- a capsule
 -- the lower of a radius and none is the radius
-lower-none : (a : Option Float) → lower_of a none ≡ a
+lower-none : (a : Option Float) → lower_of a None ≡ a
 unfolding lower_of
-lower-none none = refl
-lower-none (some x) = refl
+lower-none None = refl
+lower-none (Some x) = refl
 
 -- there is no upper of a radius and none
-upper-none : (a : Option Float) → upper_of a none ≡ none
+upper-none : (a : Option Float) → upper_of a None ≡ None
 unfolding upper_of
-upper-none none = refl
-upper-none (some x) = refl
+upper-none None = refl
+upper-none (Some x) = refl
 
 -- nor of none and a radius
-none-upper : (b : Option Float) → upper_of none b ≡ none
+none-upper : (b : Option Float) → upper_of None b ≡ None
 unfolding upper_of
 none-upper b = refl
 
 -- with a normal or with none
-capsule-by : (a b : Point) (rn c : Float) (n : Option Point) → capsule_at (capsule_of a b (normal_held n) rn) c ≡ lower_of (lower_of (end_at a rn c) (end_at b rn c)) (side_at a b rn c n)
+capsule-by : (a b : Point) (rn c : Float) (n : Option Point) → capsule_at (capsule_of a b n rn) c ≡ lower_of (lower_of (end_at a rn c) (end_at b rn c)) (side_at a b rn c n)
 unfolding capsule_at capsule_of end_on side_on end_at line_at side_at pick
-capsule-by a b rn c none = sym (lower-none _)
-capsule-by a b rn c (some n) = refl
+capsule-by a b rn c None = sym (lower-none _)
+capsule-by a b rn c (Some n) = refl
 
 -- it says what the capsule of its two ends says
-pub capsule-is : (a b : Point) (rn c : Float) → capsule_at (capsule_of a b (normal_held (normal_of a b)) rn) c ≡ capsule_min_r a b rn c
+pub capsule-is : (a b : Point) (rn c : Float) → capsule_at (capsule_of a b (normal_of a b) rn) c ≡ capsule_min_r a b rn c
 unfolding capsule_min_r
 capsule-is a b rn c = capsule-by a b rn c (normal_of a b)
 
@@ -128,7 +130,7 @@ highs high s rn bin =
     (λ e. ap (λ (k : Float). capsule_min_r s.a s.b k bin.zb) (same e))
 
 -- a track says what its segment says
-pub by-track : (acc : Found) (s : Segment) (rn : Float) (bin : ZRange) → with_track acc (track_of s rn) bin ≡ with_segment acc s rn bin
+pub by-track : (acc : Swept) (s : Segment) (rn : Float) (bin : ZRange) → with_track acc (track_of s rn) bin ≡ with_segment acc s rn bin
 unfolding with_track track_of with_segment sample_at step_of low_with shrunk_at
 by-track acc s rn bin = simp (capsule-is, highs acc.high s rn bin)
 
@@ -138,18 +140,18 @@ unfolding nose_to
 nose-more side rn xs bin k = rw (add-one k) (sym (by-track (nose_to side rn xs bin k) (segment_at xs k side) rn bin))
 
 -- what is found over all segments is what the cut reaches
-pub nose-at : (spec : TurnStockSpec) (side : TurnSide) (rn : Float) (xs : List Float) (i : ℕ) (found : Found) → found ≡ nose_to side (clean_of rn) xs (bin_of spec i) (segment_count xs) → reach_from side found.low found.high ≡ (nose_act spec side rn xs).at i
+pub nose-at : (spec : TurnStockSpec) (side : TurnSide) (rn : Float) (xs : List Float) (i : ℕ) (found : Swept) → found ≡ nose_to side (clean_of rn) xs (bin_of spec i) (segment_count xs) → reach_from side found.low found.high ≡ (nose_act spec side rn xs).at i
 unfolding nose_act nose_reach
-nose-at spec side rn xs i found h = ap (λ (f : Found). reach_from side f.low f.high) h
+nose-at spec side rn xs i found h = ap (λ (f : Swept). reach_from side f.low f.high) h
 
 -- no segments reach nothing
-pub no-segments : (spec : TurnStockSpec) (side : TurnSide) (rn : Float) (i : ℕ) → (nose_act spec side rn []).at i ≡ passed
+pub no-segments : (spec : TurnStockSpec) (side : TurnSide) (rn : Float) (i : ℕ) → (nose_act spec side rn []).at i ≡ Passed
 unfolding nose_act nose_reach nose_to reach_from
 no-segments spec side rn i = refl
 
 -- ---- what does not clear a bin
 -- a segment that is passed over keeps the high too
-keeps_high : (t : Bool) (acc f : Found) → f.high ≡ acc.high → (pick t acc f).high ≡ acc.high
+keeps_high : (t : Bool) (acc f : Swept) → f.high ≡ acc.high → (pick t acc f).high ≡ acc.high
 unfolding pick
 keeps_high true acc f e = refl
 keeps_high false acc f e = e
@@ -160,7 +162,7 @@ unfolding pick
 either_same true a b e = refl
 either_same false a b e = e
 
-module _ (acc : Found) (s : Segment) (rn : Float) (bin : ZRange) where
+module _ (acc : Swept) (s : Segment) (rn : Float) (bin : ZRange) where
   -- a high that one capsule leaves, the segment leaves
   with-high : high_with acc.high s rn bin ≡ acc.high → (with_segment acc s rn bin).high ≡ acc.high
   unfolding with_segment
@@ -172,23 +174,23 @@ module _ (acc : Found) (s : Segment) (rn : Float) (bin : ZRange) where
   shy-high h = with-high (pick_true _ _ _ h)
 
   -- no upper of the two ends, no change of the high
-  missed : upper_of (capsule_min_r s.a s.b (rn -₆₄ s.sag) bin.za) (capsule_min_r s.a s.b (rn -₆₄ s.sag) bin.zb) ≡ none → (with_segment acc s rn bin).high ≡ acc.high
+  missed : upper_of (capsule_min_r s.a s.b (rn -₆₄ s.sag) bin.za) (capsule_min_r s.a s.b (rn -₆₄ s.sag) bin.zb) ≡ None → (with_segment acc s rn bin).high ≡ acc.high
   unfolding high_with
   missed e = with-high (either_same _ _ _ (ap (λ (x : Option Float). lower_of acc.high x) e ∙ lower-none acc.high))
 
   -- nor does a shrunk capsule that reaches only a part of the bin
-  pub part-high : (capsule_min_r s.a s.b (rn -₆₄ s.sag) bin.za ≡ none) ⊎ (capsule_min_r s.a s.b (rn -₆₄ s.sag) bin.zb ≡ none) → (with_segment acc s rn bin).high ≡ acc.high
+  pub part-high : (capsule_min_r s.a s.b (rn -₆₄ s.sag) bin.za ≡ None) ⊎ (capsule_min_r s.a s.b (rn -₆₄ s.sag) bin.zb ≡ None) → (with_segment acc s rn bin).high ≡ acc.high
   part-high (inl e) = missed (ap (λ (x : Option Float). upper_of x (capsule_min_r s.a s.b (rn -₆₄ s.sag) bin.zb)) e ∙ none-upper _)
   part-high (inr e) = missed (ap (λ (x : Option Float). upper_of (capsule_min_r s.a s.b (rn -₆₄ s.sag) bin.za) x) e ∙ upper-none _)
 
 -- ---- which bins a track leaves as they are
 -- one that starts above the track
-pub track-under : (acc : Found) (t : Track) (bin : ZRange) → lt t.to bin.za ≡ true → with_track acc t bin ≡ acc
+pub track-under : (acc : Swept) (t : Track) (bin : ZRange) → lt t.to bin.za ≡ true → with_track acc t bin ≡ acc
 unfolding with_track
 track-under acc t bin h = pick_true _ _ _ (rw h)
 
 -- one that ends below it
-pub track-over : (acc : Found) (t : Track) (bin : ZRange) → lt bin.zb t.from ≡ true → with_track acc t bin ≡ acc
+pub track-over : (acc : Swept) (t : Track) (bin : ZRange) → lt bin.zb t.from ≡ true → with_track acc t bin ≡ acc
 unfolding with_track
 track-over acc t bin h = pick_true _ _ _ (rw h (either (lt t.to bin.za)))
   where
@@ -197,6 +199,6 @@ track-over acc t bin h = pick_true _ _ _ (rw h (either (lt t.to bin.za)))
     either false = refl
 
 -- any other bin takes a step
-pub track-step : (acc : Found) (t : Track) (bin : ZRange) → lt t.to bin.za ≡ false → lt bin.zb t.from ≡ false → with_track acc t bin ≡ step_of acc t.low t.shy bin (sample_at t bin.za) (sample_at t bin.zb)
+pub track-step : (acc : Swept) (t : Track) (bin : ZRange) → lt t.to bin.za ≡ false → lt bin.zb t.from ≡ false → with_track acc t bin ≡ step_of acc t.low t.shy bin (sample_at t bin.za) (sample_at t bin.zb)
 unfolding with_track
 track-step acc t bin h k = pick-false _ _ _ (rw (h, k))

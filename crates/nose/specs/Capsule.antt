@@ -1,6 +1,5 @@
 -- The capsule of a segment and a radius: the points within the radius of the segment, in (r, z). The order of operations is 000's. Assumes nothing.
-use Rattle.std.specs.Prelude.{◌&&◌, ◌||◌, Float}
-use Rattle.std.proofs.Math.Option.{Option, none, some}
+use Rattle.std.specs.Prelude.{◌&&◌, ◌||◌, Float, Option, None, Some}
 use Rattle.std.specs.Float.{binary64}
 use Rattle.std.specs.Float.Ieee.{of_bits, neg, lt, le, eq, ne}
 use Rattle.refusals.specs.Paper.{Paper, answers, refuses}
@@ -26,14 +25,14 @@ on_line = of_bits binary64 0x3D719799812DEA11
 -- ---- the circle about an end
 -- a radius less a root; none where the root is refused
 abbrev pub less_root : Float → Paper Float → Option Float
-less_root r (answers x) = some (r -₆₄ x)
-less_root r (refuses n) = none
+less_root r (answers x) = Some (r -₆₄ x)
+less_root r (refuses n) = None
 
 -- the least radius of the circle about p on the line z = c, if it reaches the line
 unfoldable pub end_at : Point → Float → Float → Option Float
 end_at p rn c =
     let dz = p.z -₆₄ c in
-    pick (le (size_of dz) rn) (less_root p.r (root_of (greatest_of (rn *₆₄ rn -₆₄ dz *₆₄ dz) zero64))) none
+    pick (le (size_of dz) rn) (less_root p.r (root_of (greatest_of (rn *₆₄ rn -₆₄ dz *₆₄ dz) zero64))) None
 
 -- ---- the straight side that faces the axis
 -- a normal turned so that it faces the axis
@@ -42,8 +41,8 @@ facing n = pick (lt zero64 n.r || (eq n.r zero64 && lt zero64 n.z)) (pt (neg n.r
 
 -- the normal of a direction of this length; none where it has no length
 abbrev pub normal_by : Float → Float → Paper Float → Option Point
-normal_by dr dz (answers l) = pick (lt zero64 l) (some (facing (pt (dz /₆₄ l) (neg dr /₆₄ l)))) none
-normal_by dr dz (refuses n) = none
+normal_by dr dz (answers l) = pick (lt zero64 l) (Some (facing (pt (dz /₆₄ l) (neg dr /₆₄ l)))) None
+normal_by dr dz (refuses n) = None
 
 -- the normal of the segment from a to b
 unfoldable pub normal_of : Point → Point → Option Point
@@ -61,13 +60,13 @@ unfoldable pub line_at : Point → Point → Float → Option Float
 line_at p q c =
     let t = (c -₆₄ p.z) /₆₄ (q.z -₆₄ p.z) in
     pick (ne q.z p.z)
-    (pick (le zero64 t && le t one64) (some (p.r +₆₄ t *₆₄ (q.r -₆₄ p.r))) none)
-    (pick (le (size_of (p.z -₆₄ c)) on_line) (some (least_of p.r q.r)) none)
+    (pick (le zero64 t && le t one64) (Some (p.r +₆₄ t *₆₄ (q.r -₆₄ p.r))) None)
+    (pick (le (size_of (p.z -₆₄ c)) on_line) (Some (least_of p.r q.r)) None)
 
 -- the segment moved by rn along its normal, if it has one
 unfoldable pub side_at : Point → Point → Float → Float → Option Point → Option Float
-side_at a b rn c none = none
-side_at a b rn c (some n) = line_at (shifted a rn n) (shifted b rn n) c
+side_at a b rn c None = None
+side_at a b rn c (Some n) = line_at (shifted a rn n) (shifted b rn n) c
 
 -- ---- the capsule
 -- its least radius on the line z = c, if it reaches the line

@@ -1,6 +1,5 @@
 -- What a round nose, swept along segments, reaches in a bin. Assumes nothing.
-use Rattle.std.specs.Prelude.{ℕ, zero, suc, ◌+◌, ◌*◌, ◌/◌, Bool, true, ◌&&◌, ◌||◌, List, eqb, leb, length, Float}
-use Rattle.std.proofs.Math.Option.{Option, none, some}
+use Rattle.std.specs.Prelude.{ℕ, zero, suc, ◌+◌, ◌*◌, ◌/◌, Bool, true, ◌&&◌, ◌||◌, List, eqb, leb, length, Float, Option, None, Some}
 use Rattle.std.specs.Float.{nan}
 use Rattle.std.specs.Float.Ieee.{lt, le}
 use Rattle.refusals.specs.Limits.{segment_limit}
@@ -11,8 +10,10 @@ use Rattle.stock.specs.declared.TurnSide.{TurnSide}
 use Rattle.stock.specs.declared.ZRange.{ZRange}
 use Rattle.stock.specs.Bin.{bin_of}
 use Rattle.stock.specs.Cell.{number_at}
-use Rattle.reach.specs.Low.{Found, lower_of, upper_of}
-use Rattle.reach.specs.Reach.{Reached, flipped, reach_from, Act}
+use Rattle.reach.specs.declared.Swept.{Swept}
+use Rattle.reach.specs.Low.{lower_of, upper_of}
+use Rattle.reach.specs.declared.Reach.{Reach}
+use Rattle.reach.specs.Reach.{flipped, reach_from, Act}
 use Rattle.nose.specs.declared.Point.{Point}
 use Rattle.nose.specs.declared.Segment.{Segment}
 use Rattle.nose.specs.Capsule.{pt, capsule_min_r, capsule_lowest}
@@ -59,7 +60,7 @@ segments_good rn xs =
 -- ---- low and high of a bin
 -- a point's radius, where the point lies in the bin
 unfoldable pub in_bin : Point → ZRange → Option Float
-in_bin p bin = pick (le bin.za p.z && le p.z bin.zb) (some p.r) none
+in_bin p bin = pick (le bin.za p.z && le p.z bin.zb) (Some p.r) None
 
 -- low: the grown capsule's least radius in the bin, at its lowest point or at the bin's ends
 unfoldable pub low_with : Option Float → Segment → Float → ZRange → Option Float
@@ -73,24 +74,24 @@ high_with high s rn bin =
     pick (lt rn s.sag) high (lower_of high (upper_of (capsule_min_r s.a s.b shrunk bin.za) (capsule_min_r s.a s.b shrunk bin.zb)))
 
 -- one segment more; one whose grown capsule stands beside the bin is passed over
-unfoldable pub with_segment : Found → Segment → Float → ZRange → Found
+unfoldable pub with_segment : Swept → Segment → Float → ZRange → Swept
 with_segment acc s rn bin =
     let grown = rn +₆₄ s.sag in
     pick (lt (greatest_of s.a.z s.b.z +₆₄ grown) bin.za || lt bin.zb (least_of s.a.z s.b.z -₆₄ grown)) acc
     (record { low = low_with acc.low s grown bin; high = high_with acc.high s rn bin })
 
 -- over no segments
-abbrev pub nothing : Found
-nothing = record { low = none; high = none }
+abbrev pub nothing : Swept
+nothing = record { low = None; high = None }
 
 -- over the first k segments
-unfoldable pub nose_to : TurnSide → Float → List Float → ZRange → ℕ → Found
+unfoldable pub nose_to : TurnSide → Float → List Float → ZRange → ℕ → Swept
 nose_to side rn xs bin zero = nothing
 nose_to side rn xs bin (suc k) = with_segment (nose_to side rn xs bin k) (segment_at xs k side) rn bin
 
 -- ---- what the nose reaches
 -- the nose along all segments, in a bin
-unfoldable pub nose_reach : TurnSide → Float → List Float → ZRange → Reached
+unfoldable pub nose_reach : TurnSide → Float → List Float → ZRange → Reach
 nose_reach side rn xs bin =
     let found = nose_to side rn xs bin (segment_count xs) in
     reach_from side found.low found.high

@@ -10,16 +10,15 @@
 //
 // What of a segment no bin changes is worked out once, in its track; what a bin's line needs of a
 // track is a sample, and two samples make a step.
-#![tactic(auto)]
+#![tactic(auto, using(floats::specs::Pick::picks), unfolding(crate::specs::Track::alike_of, crate::specs::Track::capsule_at, crate::specs::Capsule::capsule_lowest, crate::specs::Track::capsule_of, crate::specs::Track::end_on, crate::specs::Capsule::facing, crate::specs::Nose::in_bin, crate::specs::Capsule::least_point, crate::specs::Capsule::normal_of, crate::specs::Track::sample_at, crate::specs::Nose::segment_good, crate::specs::Capsule::shifted, crate::specs::Track::side_on, crate::specs::Track::step_of, crate::specs::Track::track_of))]
 
 ghost use Rattle.std.specs.Prelude.{◌≡◌, true, ◌+◌, ◌*◌, ◌≤◌, length, Float};
-ghost use Rattle.reach.specs.Low.{low_paper, lower_of, swept_paper};
+ghost use Rattle.reach.specs.Low.{lower_of};
 ghost use Rattle.nose.specs.Capsule.{facing, shifted, normal_of, least_point, capsule_lowest};
 ghost use Rattle.nose.specs.Nose.{clean_at, segment_at, no_segment, segment_good, good_to, segments_good, in_bin};
-ghost use Rattle.nose.specs.Track.{no_normal, normal_held, capsule_of, end_on, side_on, capsule_at, Over, alike_of, track_of, sample_paper, sample_at, step_of};
+ghost use Rattle.nose.specs.Track.{capsule_of, end_on, side_on, capsule_at, Over, alike_of, track_of, sample_at, step_of};
 
-use numbers::Rooted;
-use reach::{Low, Swept};
+use reach::Swept;
 use refusals::SEGMENT_LIMIT;
 use stock::{TurnSide, ZRange};
 
@@ -113,10 +112,8 @@ fn good_to(segments: &[f64], m: usize) -> bool
     ensures { result ≡ good_to segments.now m }
 {
     let mut ok = true;
-    let mut k: usize = 0;
-    while k < m {
+    for k in 0..m {
         ok = ok & segment_good(segments, SEGMENT_NUMBERS * k);
-        k += 1;
     }
     ok
 }
@@ -156,41 +153,22 @@ fn shifted(p: Point, rn: f64, n: Point) -> Point
     }
 }
 
-// Whether a segment has a normal, and which.
-#[derive(Clone, Copy)]
-struct Normal {
-    long: bool,
-    n: Point,
-}
-
-// Of a segment with no length.
-fn no_normal() -> Normal
-    ensures { result ≡ no_normal }
-{
-    Normal {
-        long: false,
-        n: Point { r: 0.0, z: 0.0 },
-    }
-}
-
 // The normal of a segment that faces the axis; none where the segment has no length.
-fn normal_of(a: Point, b: Point) -> Normal
-    ensures { result ≡ normal_held (normal_of a b) }
+fn normal_of(a: Point, b: Point) -> Option<Point>
+    ensures { result ≡ normal_of a b }
 {
     let dr = b.r - a.r;
     let dz = b.z - a.z;
-    let found = numbers::length(dr, dz);
-    let Rooted::Root(l) = found else {
-        return no_normal();
+    let Ok(l) = numbers::length(dr, dz) else {
+        return None;
     };
     if l > 0.0 {
-        let n = facing(Point {
+        return Some(facing(Point {
             r: dz / l,
             z: -dr / l,
-        });
-        return Normal { long: true, n };
+        }));
     }
-    no_normal()
+    None
 }
 
 // What of a capsule of one radius no line changes: the radius and its square, the straight side
@@ -210,10 +188,10 @@ pub struct Capsule {
 }
 
 // The capsule about a segment with this normal.
-fn capsule_of(a: Point, b: Point, normal: Normal, rn: f64) -> Capsule
+fn capsule_of(a: Point, b: Point, normal: Option<Point>, rn: f64) -> Capsule
     ensures { result ≡ capsule_of a b normal rn }
 {
-    let n = normal.n;
+    let n = normal.unwrap_or(Point { r: 0.0, z: 0.0 });
     let p = shifted(a, rn, n);
     let q = shifted(b, rn, n);
     Capsule {
@@ -221,7 +199,7 @@ fn capsule_of(a: Point, b: Point, normal: Normal, rn: f64) -> Capsule
         b,
         rn,
         rr: rn * rn,
-        long: normal.long,
+        long: normal.is_some(),
         sloped: q.z != p.z,
         p,
         dr: q.r - p.r,
@@ -231,18 +209,17 @@ fn capsule_of(a: Point, b: Point, normal: Normal, rn: f64) -> Capsule
 }
 
 // The circle of radius rn about an end, on the line z = c. rr is the radius's square.
-fn end_on(p: Point, rn: f64, rr: f64, c: f64) -> Low
-    ensures { low_paper result ≡ end_on p rn rr c }
+fn end_on(p: Point, rn: f64, rr: f64, c: f64) -> Option<f64>
+    ensures { result ≡ end_on p rn rr c }
 {
     let dz = p.z - c;
     if floats::abs(dz) <= rn {
-        let found = numbers::root(floats::greatest(rr - dz * dz, 0.0));
-        let Rooted::Root(x) = found else {
-            return Low::Nowhere;
+        let Ok(x) = numbers::root(floats::greatest(rr - dz * dz, 0.0)) else {
+            return None;
         };
-        return Low::At(p.r - x);
+        return Some(p.r - x);
     }
-    Low::Nowhere
+    None
 }
 
 // Whether the circle about p stays over top on the line z = c; rr is its radius's square. `false` says
@@ -256,10 +233,10 @@ fn over(p: Point, rr: f64, c: f64, top: f64) -> bool
 }
 
 // Whether the circle about p stays over a radius that is there. `false` says nothing.
-fn hidden(x: Low, p: Point, rr: f64, c: f64) -> bool
-    ensures { result ≡ true → (rn : Float) → lower_of (end_on p rn rr c) (low_paper x) ≡ low_paper x }
+fn hidden(x: Option<f64>, p: Point, rr: f64, c: f64) -> bool
+    ensures { result ≡ true → (rn : Float) → lower_of (end_on p rn rr c) x ≡ x }
 {
-    let Low::At(top) = x else {
+    let Some(top) = x else {
         return false;
     };
     over(p, rr, c, top)
@@ -267,8 +244,8 @@ fn hidden(x: Low, p: Point, rr: f64, c: f64) -> bool
 
 // The circles about both ends, on the line z = c. Ahead of a move its end is the nearer, and hides the
 // circle about its start.
-fn ends_on(w: Capsule, c: f64) -> Low
-    ensures { low_paper result ≡ lower_of (end_on w.a w.rn w.rr c) (end_on w.b w.rn w.rr c) }
+fn ends_on(w: Capsule, c: f64) -> Option<f64>
+    ensures { result ≡ lower_of (end_on w.a w.rn w.rr c) (end_on w.b w.rn w.rr c) }
 {
     let x = end_on(w.b, w.rn, w.rr, c);
     if hidden(x, w.a, w.rr, c) {
@@ -278,25 +255,25 @@ fn ends_on(w: Capsule, c: f64) -> Low
 }
 
 // The straight side, on the line z = c.
-fn side_on(w: Capsule, c: f64) -> Low
-    ensures { low_paper result ≡ side_on w c }
+fn side_on(w: Capsule, c: f64) -> Option<f64>
+    ensures { result ≡ side_on w c }
 {
     if w.sloped {
         let t = (c - w.p.z) / w.dz;
         if (0.0 <= t) & (t <= 1.0) {
-            return Low::At(w.p.r + t * w.dr);
+            return Some(w.p.r + t * w.dr);
         }
-        return Low::Nowhere;
+        return None;
     }
     if floats::abs(w.p.z - c) <= ON_LINE {
-        return Low::At(w.lowest);
+        return Some(w.lowest);
     }
-    Low::Nowhere
+    None
 }
 
 // The capsule, on the line z = c.
-fn capsule_at(w: Capsule, c: f64) -> Low
-    ensures { low_paper result ≡ capsule_at w c }
+fn capsule_at(w: Capsule, c: f64) -> Option<f64>
+    ensures { result ≡ capsule_at w c }
 {
     let ends = ends_on(w, c);
     if w.long {
@@ -382,13 +359,13 @@ pub fn track_of(s: Segment, rn: f64) -> Track
 // The least radius of the grown and of the shrunk capsule on one line.
 #[derive(Clone, Copy)]
 pub struct Sample {
-    pub grown: Low,
-    pub shrunk: Low,
+    pub grown: Option<f64>,
+    pub shrunk: Option<f64>,
 }
 
 // A track on the line z = c. Where the two capsules are the same, one is worked out.
 pub fn sampled(t: Track, c: f64) -> Sample
-    ensures { sample_paper result ≡ sample_at t c }
+    ensures { result ≡ sample_at t c }
 {
     let grown = capsule_at(t.grown, c);
     if t.same {
@@ -400,20 +377,21 @@ pub fn sampled(t: Track, c: f64) -> Sample
     let shrunk = capsule_at(t.shrunk, c);
     Sample { grown, shrunk }
 }
+
 // A point's radius, where the point lies in the bin.
-fn in_bin(p: Point, bin: ZRange) -> Low
-    ensures { low_paper result ≡ in_bin p bin }
+fn in_bin(p: Point, bin: ZRange) -> Option<f64>
+    ensures { result ≡ in_bin p bin }
 {
     if (bin.za <= p.z) & (p.z <= bin.zb) {
-        return Low::At(p.r);
+        return Some(p.r);
     }
-    Low::Nowhere
+    None
 }
 
 // Low and high with one segment more, which reaches the bin: by its track's low point and shy, and
 // its samples at the bin's two ends.
 pub fn step(acc: Swept, low: Point, shy: bool, bin: ZRange, a: Sample, b: Sample) -> Swept
-    ensures { swept_paper result ≡ step_of (swept_paper acc) low shy bin (sample_paper a) (sample_paper b) }
+    ensures { result ≡ step_of acc low shy bin a b }
 {
     let low0 = acc.low;
     let high0 = acc.high;

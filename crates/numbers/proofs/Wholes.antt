@@ -1,6 +1,5 @@
 -- What `whole_part` and `whole_up` test of q, and what the whole part and the least whole number at or above q are there. Assumes nothing.
-use Rattle.std.proofs.Common.{◌≡◌, ℕ, zero, suc, ◌+◌, ◌-◌, ◌*◌, ◌/◌, ◌^◌, ◌<◌, ◌≤◌, min, Bool, true, false, not, ◌&&◌, T, ltb, leb, ◌⊎◌, ℤ, pos, negsuc, sym, refl, ap, ◌∙◌, subst, ap₂, inl, inr, true≢false, zero-le, le_trans, le_of_eq, lt_of_lt_of_le, le_of_lt, lt_irrefl, div-lt_iff_lt-mul, add-mul, eq-zero-or-pos, mul-pos, one-mul, le-div_iff_mul-le, zero-mul, mul-one, div-le_self, mul_right_comm, div-mul-le_self, div-one, arith, ltb→lt, lt→ltb, nltb→le, pow_pos, ltb-false, ltb-true, le-leb, leb-true}
-use mathlib.Core.Option.{Option, none, some}
+use Rattle.std.proofs.Common.{◌≡◌, ℕ, zero, suc, ◌+◌, ◌-◌, ◌*◌, ◌/◌, ◌^◌, ◌<◌, ◌≤◌, min, Bool, true, false, not, ◌&&◌, T, ltb, leb, ◌⊎◌, ℤ, pos, negsuc, sym, refl, ap, ◌∙◌, subst, ap₂, inl, inr, true≢false, zero-le, le_trans, le_of_eq, lt_of_lt_of_le, le_of_lt, lt_irrefl, div-lt_iff_lt-mul, add-mul, eq-zero-or-pos, mul-pos, one-mul, le-div_iff_mul-le, zero-mul, mul-one, div-le_self, mul_right_comm, div-mul-le_self, div-one, arith, ltb→lt, lt→ltb, nltb→le, pow_pos, ltb-false, ltb-true, le-leb, leb-true, Option, None, Some}
 use native.Mathlib.Nat.{div-eq_of_lt, div-eq_of_lt-le, lt-div-mul-add, min-eq_left, min-eq_right}
 use lib.Dec.{not_T}
 use lib.Ieee.{Float, nan, inf, fin, binary64, up, down, lt, le, eq, add, sub, neg, round, fits, is_nan, of_bits, of_fields, odd, of_int, to_unsigned}
@@ -83,13 +82,13 @@ minus-low m e h = to_le (number true m e h) number-zero (omega (arith, key-fin b
 zero-size : (m : ℕ) (e : ℤ) → T (fits binary64 (fin false m e)) → T (le (fin false m e) (fin false 0 (pos 0))) → m * up e ≡ 0
 zero-size m e h l = go (eq-zero-or-pos (m * up e))
   where
-    none : mag binary64 (fin false m e) ≡ 0
-    none = omega (arith, of_le (number false m e h) number-zero l, key-fin binary64 false m e, zero-key binary64 false)
+    None : mag binary64 (fin false m e) ≡ 0
+    None = omega (arith, of_le (number false m e h) number-zero l, key-fin binary64 false m e, zero-key binary64 false)
 
     go : (m * up e ≡ 0) ⊎ (0 < m * up e) → m * up e ≡ 0
     go (inl z) = z
     go (inr p) =
-        absurd (lt_irrefl 0 (subst (λ (x : ℕ). 0 < x) (sym (mag-exact binary64 false m e h) ∙ ap (λ (x : ℕ). x * down e) none ∙ zero-mul (down e)) (mul-pos p (pow_pos 1074))))
+        absurd (lt_irrefl 0 (subst (λ (x : ℕ). 0 < x) (sym (mag-exact binary64 false m e h) ∙ ap (λ (x : ℕ). x * down e) None ∙ zero-mul (down e)) (mul-pos p (pow_pos 1074))))
 
 pub above : (q : Float) → T (fits binary64 q) → le q zero64 ≡ false → lt q two64 ≡ true → Above q
 unfolding lt of_bits of_fields odd
@@ -109,12 +108,12 @@ above (fin false m e) h a b = record {
 pub in-range : (q : Float) → T (fits binary64 q) → Above q → T (lt (fin true 1 (pos 0)) q) × T (lt q (fin false 1 (pos 64)))
 unfolding lt
 in-range q h a = subst (λ (x : Float). T (lt (fin true 1 (pos 0)) x) × T (lt x (fin false 1 (pos 64)))) (sym a.is) (
-  lt→ltb 0 (1 * 1 * down a.exp + a.sig * up a.exp * 1) (some (down a.exp) (a.sig * up a.exp * 1) (down_pos a.exp)),
+  lt→ltb 0 (1 * 1 * down a.exp + a.sig * up a.exp * 1) (Some (down a.exp) (a.sig * up a.exp * 1) (down_pos a.exp)),
   lt→ltb (a.sig * up a.exp * 1) (1 * 2 ^ 64 * down a.exp) (subst (λ (x : ℕ). x < 1 * 2 ^ 64 * down a.exp) (sym (mul-one (a.sig * up a.exp))) a.below),
 )
   where
-    some : (d b : ℕ) → 0 < d → 0 < 1 * 1 * d + b
-    some d b p = omega arith
+    Some : (d b : ℕ) → 0 < d → 0 < 1 * 1 * d + b
+    Some d b p = omega arith
 
 quotient-below : (N D : ℕ) → 0 < D → N < 2 ^ 64 * D → N / D < 2 ^ 64
 quotient-below N D p h = (div-lt_iff_lt-mul p).1 h
@@ -156,11 +155,11 @@ part_none (inf false) h a b = absurd (lie b (unfold le lt eq in tt))
 part_none (fin true m e) h a b = refl
 part_none (fin false m e) h a b = absurd (lie b (nlt→le number64 (number false m e h) (not_T (lt (fin false m e) (fin false 1 (pos 64))) (λ t. lie a (and_i (lt (fin true 1 (pos 0)) (fin false m e)) (lt (fin false m e) (fin false 1 (pos 64))) minus t)))))
   where
-    some : (d b : ℕ) → 0 < d → 0 < 1 * 1 * d + b
-    some d b p = omega arith
+    Some : (d b : ℕ) → 0 < d → 0 < 1 * 1 * d + b
+    Some d b p = omega arith
 
     minus : T (lt (fin true 1 (pos 0)) (fin false m e))
-    minus = unfold lt in lt→ltb 0 (1 * 1 * down e + m * up e * 1) (some (down e) (m * up e * 1) (down_pos e))
+    minus = unfold lt in lt→ltb 0 (1 * 1 * down e + m * up e * 1) (Some (down e) (m * up e * 1) (down_pos e))
 
 -- ---- the whole part, as a float again, against q
 whole-even : (m k : ℕ) → T (fits binary64 (fin false m (pos k))) → of_int binary64 (pos (m * 2 ^ k / 1)) ≡ fin false m (pos k)
@@ -194,14 +193,14 @@ module _ (q : Float) (h : T (fits binary64 q)) (a : Above q) (limit t : ℕ) (e 
   floor : t ≡ a.sig * up a.exp / down a.exp
   floor = e ∙ part_of q a
 
-  up_is : whole_up q limit ≡ pick (leb ((a.sig * up a.exp + (down a.exp - 1)) / down a.exp) limit) (some ((a.sig * up a.exp + (down a.exp - 1)) / down a.exp)) none
+  up_is : whole_up q limit ≡ pick (leb ((a.sig * up a.exp + (down a.exp - 1)) / down a.exp) limit) (Some ((a.sig * up a.exp + (down a.exp - 1)) / down a.exp)) None
   unfolding whole_up
   up_is = ap (λ (x : Float). at_most limit (ceiling_of x)) a.is
 
   test-is : lt (of_int binary64 (pos t)) q ≡ ltb (t * down a.exp) (a.sig * up a.exp)
   test-is = ap₂ (λ (n : ℕ) (x : Float). lt (of_int binary64 (pos n)) x) floor a.is ∙ whole-test a.sig a.exp held ∙ ap (λ (n : ℕ). ltb (n * down a.exp) (a.sig * up a.exp)) (sym floor)
 
-  pub up-over : limit < t → none ≡ whole_up q limit
+  pub up-over : limit < t → None ≡ whole_up q limit
   up-over l =
       let c = raised-at-least (a.sig * up a.exp) (down a.exp) (down_pos a.exp) in
       sym (up_is ∙ pick-false _ _ _ (lt-leb _ _ (lt_of_lt_of_le (subst (λ (n : ℕ). limit < n) floor l) c)))
@@ -209,20 +208,20 @@ module _ (q : Float) (h : T (fits binary64 q)) (a : Above q) (limit t : ℕ) (e 
   raised_is : lt (of_int binary64 (pos t)) q ≡ true → (a.sig * up a.exp + (down a.exp - 1)) / down a.exp ≡ t + 1
   raised_is b = raised-odd (a.sig * up a.exp) (down a.exp) (down_pos a.exp) (subst (λ (n : ℕ). n * down a.exp < a.sig * up a.exp) floor (ltb→lt (t * down a.exp) (a.sig * up a.exp) (so (sym test-is ∙ b)))) ∙ ap (λ (n : ℕ). n + 1) (sym floor)
 
-  pub up_next : lt (of_int binary64 (pos t)) q ≡ true → t < limit → some (t + 1) ≡ whole_up q limit
-  up_next b l = sym (up_is ∙ ap (λ (n : ℕ). pick (leb n limit) (some n) none) (raised_is b) ∙ pick_true _ _ _ (le-leb (t + 1) limit (omega arith)))
+  pub up_next : lt (of_int binary64 (pos t)) q ≡ true → t < limit → Some (t + 1) ≡ whole_up q limit
+  up_next b l = sym (up_is ∙ ap (λ (n : ℕ). pick (leb n limit) (Some n) None) (raised_is b) ∙ pick_true _ _ _ (le-leb (t + 1) limit (omega arith)))
 
-  pub up-full : lt (of_int binary64 (pos t)) q ≡ true → limit ≤ t → none ≡ whole_up q limit
-  up-full b l = sym (up_is ∙ ap (λ (n : ℕ). pick (leb n limit) (some n) none) (raised_is b) ∙ pick-false _ _ _ (lt-leb (t + 1) limit (omega arith)))
+  pub up-full : lt (of_int binary64 (pos t)) q ≡ true → limit ≤ t → None ≡ whole_up q limit
+  up-full b l = sym (up_is ∙ ap (λ (n : ℕ). pick (leb n limit) (Some n) None) (raised_is b) ∙ pick-false _ _ _ (lt-leb (t + 1) limit (omega arith)))
 
-  pub up_same : lt (of_int binary64 (pos t)) q ≡ false → t ≤ limit → some t ≡ whole_up q limit
+  pub up_same : lt (of_int binary64 (pos t)) q ≡ false → t ≤ limit → Some t ≡ whole_up q limit
   up_same b l =
       let g = nltb→le (t * down a.exp) (a.sig * up a.exp) (not_T (ltb (t * down a.exp) (a.sig * up a.exp)) (lie (sym test-is ∙ b))) in
       let c = raised-even (a.sig * up a.exp) (down a.exp) (down_pos a.exp) (subst (λ (n : ℕ). a.sig * up a.exp ≤ n * down a.exp) floor g) ∙ sym floor in
-      sym (up_is ∙ ap (λ (n : ℕ). pick (leb n limit) (some n) none) c ∙ pick_true _ _ _ (le-leb t limit l))
+      sym (up_is ∙ ap (λ (n : ℕ). pick (leb n limit) (Some n) None) c ∙ pick_true _ _ _ (le-leb t limit l))
 
 -- q is at most 0
-pub up-zero : (q : Float) (limit : ℕ) → T (fits binary64 q) → le q zero64 ≡ true → eq (sub binary64 q q) zero64 ≡ true → some 0 ≡ whole_up q limit
+pub up-zero : (q : Float) (limit : ℕ) → T (fits binary64 q) → le q zero64 ≡ true → eq (sub binary64 q q) zero64 ≡ true → Some 0 ≡ whole_up q limit
 unfolding whole_up
 up-zero nan limit h a b = absurd (unfold le lt eq in so a)
 up-zero (inf s) limit h a b = absurd (inf-less s (so b))
@@ -234,16 +233,16 @@ up-zero (fin true m e) limit h a b = sym (pick_true _ _ _ (le-leb 0 limit zero-l
 up-zero (fin false m e) limit h a b =
     let z = zero-size m e h (subst (λ (x : Float). T (le (fin false m e) x)) zero_is (so a)) in
     let n : (m * up e + (down e - 1)) / down e ≡ 0 = div-eq_of_lt (let p = down_pos e in omega arith) in
-    sym (ap (λ (n : ℕ). pick (leb n limit) (some n) none) n ∙ pick_true _ _ _ (le-leb 0 limit zero-le))
+    sym (ap (λ (n : ℕ). pick (leb n limit) (Some n) None) n ∙ pick_true _ _ _ (le-leb 0 limit zero-le))
 
-pub up-minus : (q : Float) (limit : ℕ) → le q zero64 ≡ true → eq (sub binary64 q q) zero64 ≡ false → none ≡ whole_up q limit
+pub up-minus : (q : Float) (limit : ℕ) → le q zero64 ≡ true → eq (sub binary64 q q) zero64 ≡ false → None ≡ whole_up q limit
 unfolding whole_up
 up-minus nan limit a b = refl
 up-minus (inf s) limit a b = refl
 up-minus (fin s m e) limit a b = absurd (lie b (subst (λ (x : Float). T (eq x zero64)) (sym (sub_self binary64 (fin s m e) tt)) (unfold eq of_bits of_fields odd in tt)))
 
 -- q is 2 ^ 64 or more, or no number
-pub up-beyond : (q : Float) (limit : ℕ) → T (fits binary64 q) → limit < 2 ^ 64 → le q zero64 ≡ false → lt q two64 ≡ false → none ≡ whole_up q limit
+pub up-beyond : (q : Float) (limit : ℕ) → T (fits binary64 q) → limit < 2 ^ 64 → le q zero64 ≡ false → lt q two64 ≡ false → None ≡ whole_up q limit
 unfolding whole_up
 up-beyond nan limit h l a b = refl
 up-beyond (inf s) limit h l a b = refl
@@ -255,17 +254,17 @@ up-beyond (fin false m e) limit h l a b =
     sym (pick-false _ _ _ (lt-leb _ _ (lt_of_lt_of_le l c)))
 
 -- what is answered is at most the limit
-pub up-most : (q : Float) (limit n : ℕ) → whole_up q limit ≡ some n → n ≤ limit
+pub up-most : (q : Float) (limit n : ℕ) → whole_up q limit ≡ Some n → n ≤ limit
 unfolding whole_up pick
 up-most q limit n = go (ceiling_of q)
   where
-    kept : (m : ℕ) (t : Bool) → leb m limit ≡ t → pick t (some m) none ≡ some n → n ≤ limit
+    kept : (m : ℕ) (t : Bool) → leb m limit ≡ t → pick t (Some m) None ≡ Some n → n ≤ limit
     kept m true e h = let s : m ≡ n = cc in subst (λ (k : ℕ). k ≤ limit) s (leb-true m limit e)
     kept m false e h = let z : ◌≡◌ {A = ℕ} 0 1 = cc in absurd (omega arith)
 
-    go : (o : Option ℕ) → at_most limit o ≡ some n → n ≤ limit
-    go none h = let z : ◌≡◌ {A = ℕ} 0 1 = cc in absurd (omega arith)
-    go (some m) h = kept m (leb m limit) refl h
+    go : (o : Option ℕ) → at_most limit o ≡ Some n → n ≤ limit
+    go None h = let z : ◌≡◌ {A = ℕ} 0 1 = cc in absurd (omega arith)
+    go (Some m) h = kept m (leb m limit) refl h
 
 -- ---- both of them
 
@@ -281,18 +280,18 @@ part_low (fin false m e) h l =
     ap (λ (n : ℕ). min (n / down e) (2 ^ 64 - 1)) z ∙ ap (λ (n : ℕ). min n (2 ^ 64 - 1)) (div-eq_of_lt (down_pos e)) ∙ (omega arith)
 
 -- the least whole number at or above q is at most one more than the whole part
-pub up-part : (q : Float) (limit n : ℕ) → limit < 2 ^ 64 → whole_up q limit ≡ some n → n ≤ whole_part q + 1
+pub up-part : (q : Float) (limit n : ℕ) → limit < 2 ^ 64 → whole_up q limit ≡ Some n → n ≤ whole_part q + 1
 unfolding whole_up to_unsigned
 up-part q limit n l e = go q e (up-most q limit n e)
   where
-    never : ◌≡◌ {A = Option ℕ} none (some n) → ⊥
+    never : ◌≡◌ {A = Option ℕ} None (Some n) → ⊥
     never h = let z : ◌≡◌ {A = ℕ} 0 1 = cc in omega arith
 
-    is : (k : ℕ) (t : Bool) → pick t (some k) none ≡ some n → k ≡ n
-    is k true e = let s : some k ≡ some n = sym (pick_true true (some k) none refl) ∙ e in cc
-    is k false e = absurd (never (sym (pick-false false (some k) none refl) ∙ e))
+    is : (k : ℕ) (t : Bool) → pick t (Some k) None ≡ Some n → k ≡ n
+    is k true e = let s : Some k ≡ Some n = sym (pick_true true (Some k) None refl) ∙ e in cc
+    is k false e = absurd (never (sym (pick-false false (Some k) None refl) ∙ e))
 
-    go : (x : Float) → at_most limit (ceiling_of x) ≡ some n → n ≤ limit → n ≤ whole_part x + 1
+    go : (x : Float) → at_most limit (ceiling_of x) ≡ Some n → n ≤ limit → n ≤ whole_part x + 1
     go nan h m = absurd (never h)
     go (inf s) h m = absurd (never h)
     go (fin true k e) h m = let z = is 0 (leb 0 limit) h in omega arith

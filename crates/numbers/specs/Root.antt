@@ -3,10 +3,7 @@
 use Rattle.std.specs.Prelude.{ℕ, zero, suc, ◌+◌, ◌-◌, ◌*◌, ◌/◌, ◌^◌, ◌<◌, true, false, cond, pos, nat_le, nat_lt, Float}
 use Rattle.std.specs.Float.{nan, inf, fin}
 use Rattle.std.specs.Float.Ieee.{up, down, size, odd}
-use Rattle.refusals.specs.Number.{reason_of}
 use Rattle.refusals.specs.Paper.{Paper, answers, refuses, only}
-use Rattle.numbers.specs.declared.Rooted.{Rooted}
-use Rattle.numbers.specs.declared.Rooted.TheVariants.{Root, Refused}
 
 -- r, or the next number up where its square is at most n
 abbrev pub step_up : ℕ → ℕ → ℕ
@@ -51,8 +48,3 @@ root_of (fin false (suc m) e) = answers (root_within (units_of (fin false (suc m
 pub record Nearer (N R Y : ℕ) : Type 0 where
   pub above : R < Y → N * 4 < (R + Y) * (R + Y)
   pub under : Y < R → (R + Y) * (R + Y) < N * 4
-
--- what the answer of `root` and of `length` says, case by case
-abbrev pub rooted_paper : Rooted → Paper Float
-rooted_paper (Root r) = answers r
-rooted_paper (Refused c) = refuses (reason_of c)

@@ -9,27 +9,14 @@
 #![tactic(auto)]
 
 ghost use Rattle.std.specs.Prelude.{◌≡◌, ◌*◌, ◌^◌, ◌<◌, ◌≤◌, min, max, true};
-ghost use Rattle.numbers.specs.Root.{root_of, rooted_paper};
+ghost use Rattle.refusals.specs.Number.{paper_of};
+ghost use Rattle.numbers.specs.Root.{root_of};
 ghost use Rattle.numbers.specs.RootBits.{nearest_root, aligned_root, Pattern};
 ghost use Rattle.floats.specs.Numbers.{◌*₆₄◌};
 ghost use Rattle.numbers.specs.Length.{scale_up, plain_length, scaled_back, length_of};
-ghost use Rattle.numbers.specs.Whole.{whole_part, whole_up, whole_paper};
+ghost use Rattle.numbers.specs.Whole.{whole_part, whole_up};
 
 use refusals::Refusal;
-
-// A root or a length.
-#[derive(Clone, Copy)]
-pub enum Rooted {
-    Root(f64),
-    Refused(Refusal),
-}
-
-// A whole number within a limit.
-#[derive(Clone, Copy)]
-pub enum Whole {
-    Of(u64),
-    Over,
-}
 
 // The whole number nearest to the square root of m * 2^52, one binary digit at a time: `rem` is
 // what the square of `r` leaves of the digits of m that were taken, two at a time.
@@ -40,8 +27,7 @@ fn by_digits(m: u64) -> u64
     let mut w = m;
     let mut r: u64 = 0;
     let mut rem: u64 = 0;
-    let mut i: u64 = 0;
-    while i < 53 {
+    for _ in 0..53u64 {
         rem = rem * 4 + w / 0x10_0000_0000_0000;
         w = w % 0x10_0000_0000_0000 * 4;
         r = r * 2;
@@ -49,7 +35,6 @@ fn by_digits(m: u64) -> u64
             rem = rem - (r * 2 + 1);
             r = r + 1;
         }
-        i = i + 1;
     }
     if r < rem { r + 1 } else { r }
 }
@@ -153,20 +138,20 @@ fn root_bits(b: u64) -> u64
 
 // The value nearest to the square root of x. Of zero it is +0.0, also of -0.0. What is negative,
 // infinite or no number is refused.
-pub fn root(x: f64) -> Rooted
-    ensures { rooted_paper result ≡ root_of x }
+pub fn root(x: f64) -> Result<f64, Refusal>
+    ensures { paper_of result ≡ root_of x }
 {
     if x > 0.0 {
         let b = f64::to_bits(x);
         if b < 0x7ff0_0000_0000_0000 {
-            return Rooted::Root(f64::from_bits(root_bits(b)));
+            return Ok(f64::from_bits(root_bits(b)));
         }
-        return Rooted::Refused(Refusal::ArgumentOutside);
+        return Err(Refusal::ArgumentOutside);
     }
     if x == 0.0 {
-        return Rooted::Root(0.0);
+        return Ok(0.0);
     }
-    Rooted::Refused(Refusal::ArgumentOutside)
+    Err(Refusal::ArgumentOutside)
 }
 
 // 2^-400: parts that are both below it in size are tiny.
@@ -179,22 +164,19 @@ const SCALE_DOWN: f64 = 2.409919865102884e-181;
 
 // The length of tiny parts, whose own squares may vanish. Scaling up is exact, and scaling back rounds
 // once.
-fn tiny_length(x: f64, y: f64) -> Rooted
-    ensures { rooted_paper result ≡ scaled_back (plain_length (x *₆₄ scale_up) (y *₆₄ scale_up)) }
+fn tiny_length(x: f64, y: f64) -> Result<f64, Refusal>
+    ensures { paper_of result ≡ scaled_back (plain_length (x *₆₄ scale_up) (y *₆₄ scale_up)) }
 {
     let u = x * SCALE_UP;
     let v = y * SCALE_UP;
-    let scaled = root(u * u + v * v);
-    match scaled {
-        Rooted::Root(l) => Rooted::Root(l * SCALE_DOWN),
-        Rooted::Refused(c) => Rooted::Refused(c),
-    }
+    let scaled = root(u * u + v * v)?;
+    Ok(scaled * SCALE_DOWN)
 }
 
 // The length of (x, y): the root of the rounded sum of the rounded squares, and of tiny parts the same
 // on a larger scale. It is zero for zeros alone, and no part is larger.
-pub fn length(x: f64, y: f64) -> Rooted
-    ensures { rooted_paper result ≡ length_of x y }
+pub fn length(x: f64, y: f64) -> Result<f64, Refusal>
+    ensures { paper_of result ≡ length_of x y }
 {
     if (floats::abs(x) < TINY_BELOW) & (floats::abs(y) < TINY_BELOW) {
         return tiny_length(x, y);
@@ -216,39 +198,39 @@ pub fn whole_part(q: f64) -> u64
 }
 
 // The least whole number at or above q, if it is at most the limit.
-pub fn whole_up(q: f64, limit: u64) -> Whole
-    ensures { whole_paper result ≡ whole_up q limit }
+pub fn whole_up(q: f64, limit: u64) -> Option<u64>
+    ensures { result ≡ whole_up q limit }
 {
     if q <= 0.0 {
         if q - q == 0.0 {
-            return Whole::Of(0);
+            return Some(0);
         }
-        return Whole::Over;
+        return None;
     }
     if q < 18446744073709551616.0 {
         let t = std::num::truncating_f64_to_u64(q);
         if limit < t {
-            return Whole::Over;
+            return None;
         }
         if std::num::nearest_u64_to_f64(t) < q {
             if t < limit {
-                return Whole::Of(t + 1);
+                return Some(t + 1);
             }
-            return Whole::Over;
+            return None;
         }
-        return Whole::Of(t);
+        return Some(t);
     }
-    Whole::Over
+    None
 }
 
 pub fn lesser(a: usize, b: usize) -> usize
     ensures { result ≡ min a b }
 {
-    if a < b { a } else { b }
+    a.min(b)
 }
 
 pub fn greater(a: usize, b: usize) -> usize
     ensures { result ≡ max a b }
 {
-    if a < b { b } else { a }
+    a.max(b)
 }

@@ -1,20 +1,20 @@
 -- Cuts made in turn, one by one: what stands after each, and where a refusal ends them. Assumes nothing.
+use Rattle.std.specs.Prelude.{Err, Ok, Result}
 use mathlib.Core.Path.{◌≡◌, refl, sym, ap, ◌∙◌, subst}
 use mathlib.Core.List.{List, []}
 use Prim.Native.Nat.{ℕ, suc, ◌+◌, ◌<◌}
+use Rattle.refusals.specs.declared.Refused.{Refused}
 use native.Mathlib.Numerals.{add-one}
 use native.Mathlib.Omega.{arith}
 use lib.Ieee.{Float}
 use Rattle.refusals.specs.declared.Refusal.{Refusal}
-use Rattle.refusals.specs.Number.{number_of, reason_at}
+use Rattle.refusals.specs.Number.{number_of, reason_at, reason_in, refused_at, placed_of}
 use Rattle.refusals.specs.Paper.{Paper, Reason, answers, refuses, at, placed, onward, onward-answers, onward-refuses, placed-answers, placed-refuses}
 use Rattle.stock.specs.declared.TurnStockSpec.{TurnStockSpec}
 use Rattle.stock.specs.declared.TurnStock.{TurnStock}
 use Rattle.stock.specs.Stock.{stock_with}
 use Rattle.stock.proofs.Count.{no_answer, same_answer}
-use Rattle.changes.specs.declared.Applied.{Applied}
-use Rattle.changes.specs.declared.Applied.TheVariants as applied
-use Rattle.changes.specs.Commit.{Committed, generation_of, stock_at, cells_after, applied_paper, Applies}
+use Rattle.changes.specs.Commit.{Committed, generation_of, stock_at, cells_after, Applies}
 use Rattle.cuts.specs.declared.Tool.{Tool}
 use Rattle.passes.specs.Cuts.{Cuts, Pass, cuts_of, pass_of, standing, pass_at, pass_turned, turned_to}
 use Rattle.passes.specs.Steps.{Turns}
@@ -22,7 +22,7 @@ use Rattle.passes.proofs.Loops.{stays}
 use Rattle.passes.proofs.Decoded.{pass-is, beside-any}
 
 -- a cut read from the lists, and made
-pub made_at : (k : TurnStock) (ks : List ℕ) (xs : List Float) (ps : List ℕ) (ls : List Float) (j : ℕ) (t : Tool) (ys : List Float) (c : Committed) (r : Applied) (cs cs' : List Float) → t ≡ (pass_at (cuts_of ks xs ps ls) j).tool → ys ≡ (pass_at (cuts_of ks [] ps ls) j).beside
+pub made_at : (k : TurnStock) (ks : List ℕ) (xs : List Float) (ps : List ℕ) (ls : List Float) (j : ℕ) (t : Tool) (ys : List Float) (c : Committed) (r : Result TurnStock Refused) (cs cs' : List Float) → t ≡ (pass_at (cuts_of ks xs ps ls) j).tool → ys ≡ (pass_at (cuts_of ks [] ps ls) j).beside
     → Applies k (pass_turned k.spec (pass_of t ys) c) r cs cs' → Applies k (pass_turned k.spec (pass_at (cuts_of ks xs ps ls) j) c) r cs cs'
 made_at k ks xs ps ls j t ys c r cs cs' et ey a = subst (λ (p : Pass). Applies k (pass_turned k.spec p c) r cs cs') (pass-is (cuts_of ks xs ps ls) j t ys et (ey ∙ beside-any ks xs ps ls j)) a
 
@@ -65,27 +65,27 @@ module _ (k : TurnStock) (ls : Cuts) (cs : List Float) where
         ∙ ap (λ (x : TurnStockSpec). placed j (pass_turned x (pass_at ls j) (standing s es))) (sym (ap (λ (x : TurnStock). x.spec) st.stock))
 
     -- the next cut is accepted
-    pub stands_on : (r : Applied) (next : TurnStock) (es' : List Float) → Applies s (pass_turned s.spec (pass_at ls j) (standing s es)) r es es' → r ≡ applied.Stock next → Stand (j + 1) next es'
+    pub stands_on : (r : Result TurnStock Refused) (next : TurnStock) (es' : List Float) → Applies s (pass_turned s.spec (pass_at ls j) (standing s es)) r es es' → r ≡ Ok next → Stand (j + 1) next es'
     stands_on r next es' a e =
-        let w = went s next es es' _ (sym (ap applied_paper e) ∙ a.answer) a.cells in
+        let w = went s next es es' _ (sym (ap placed_of e) ∙ a.answer) a.cells in
         record {
           stock = w.stock ∙ ap (λ (x : TurnStock). stock_with x x.rings next.stamp.generation) st.stock;
           turned = ap (turned_to k.spec ls (standing k cs)) (add-one j) ∙ next-is ∙ ap (placed j) w.paper ∙ placed-answers j (standing next es');
         }
 
     -- it is refused: that is the answer of all
-    pub stands-no-more : (r : Applied) (q : Reason) (c : Refusal) (es' : List Float) (m : ℕ) → j < m → Applies s (pass_turned s.spec (pass_at ls j) (standing s es)) r es es' → applied_paper r ≡ refuses q → q.number ≡ number_of c → Turns k (turned_to k.spec ls (standing k cs) m) (applied.RefusedAt c j) es'
+    pub stands-no-more : (r : Result TurnStock Refused) (q : Reason) (c : Refusal) (es' : List Float) (m : ℕ) (f : Refused) → f ≡ refused_at c j → j < m → Applies s (pass_turned s.spec (pass_at ls j) (standing s es)) r es es' → placed_of r ≡ refuses q → q.number ≡ number_of c → Turns k (turned_to k.spec ls (standing k cs) m) (Err f) es'
     unfolding turned_to
-    stands-no-more r q c es' m h a e f =
+    stands-no-more r q c es' m y ey h a e f =
         let p = next-is ∙ ap (placed j) (stopped s _ q (sym e ∙ a.answer)) ∙ placed-refuses j q ∙ ap (λ (x : ℕ). refuses (at x j)) f in
         let all = stays (turned_to k.spec ls (standing k cs)) (refuses (reason_at c j)) (λ (i : ℕ) (u : turned_to k.spec ls (standing k cs) i ≡ refuses (reason_at c j)). ap (λ (x : Paper Committed). onward x (λ d. placed i (pass_turned k.spec (pass_at ls i) d))) u ∙ onward-refuses (reason_at c j) _) (suc j) m (omega arith) p in
         record {
-          answer = sym (ap (λ (x : Paper Committed). stock_at k (generation_of x)) all);
+          answer = ap (λ (x : Refused). refuses (reason_in x)) ey ∙ sym (ap (λ (x : Paper Committed). stock_at k (generation_of x)) all);
           cells = λ d u. absurd (no_answer (reason_at c j) d (sym all ∙ u));
         }
 
     -- there is no next
-    pub stands-last : (m : ℕ) → j ≡ m → Turns k (turned_to k.spec ls (standing k cs) m) (applied.Stock s) es
+    pub stands-last : (m : ℕ) → j ≡ m → Turns k (turned_to k.spec ls (standing k cs) m) (Ok s) es
     stands-last m e =
         let all = ap (turned_to k.spec ls (standing k cs)) (sym e) ∙ st.turned in
         record {

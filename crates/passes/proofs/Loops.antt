@@ -1,33 +1,19 @@
--- What loops of a check hand on: numbers copied, targets, kinds, the first bin that does not meet its target. Assumes nothing.
-use mathlib.Core.Path.{◌≡◌, refl, sym, ap, ap₂, ◌∙◌}
+-- What loops of a check hand on: targets, kinds, the first bin that does not meet its target. Assumes nothing.
+use Rattle.std.specs.Prelude.{Option, None, Some}
+use mathlib.Core.Path.{◌≡◌, refl, ap, ap₂, ◌∙◌}
 use mathlib.Core.Bool.{Bool, true, false, not, ◌&&◌}
-use mathlib.Core.List.{List, [], ◌∷◌, ◌++◌}
-use mathlib.Core.Option.{Option, none, some}
+use mathlib.Core.List.{List}
 use Prim.Native.Nat.{ℕ, zero, suc, ◌+◌, ◌≤◌, ◌<◌}
 use native.Mathlib.Numerals.{add-one}
 use native.Mathlib.Omega.{arith}
 use borrow.Author.Tests.{leb-true, leb-false}
 use lib.Dec.{leb}
-use lib.ListN.{length, take, set, get_or}
-use lib.Seq.{take_all, take-suc, take-suc-set}
-use lib.Ieee.{Float, nan}
+use lib.ListN.{get_or}
+use lib.Ieee.{Float}
 use Rattle.refusals.specs.Paper.{first_of}
 use Rattle.floats.specs.Pick.{pick, pick_true, pick-false}
 use Rattle.passes.specs.Cuts.{is_inside}
 use Rattle.passes.specs.Check.{target_good, targets_to, meets, first_miss, outside_to}
-
--- ---- numbers copied one by one
-
-pub copied_more : (to from : List Float) (i : ℕ) → i < length from → length to ≡ length from → take i to ≡ take i from → take (i + 1) (set to i (get_or from i nan)) ≡ take (i + 1) from
-copied_more to from i h l e =
-    ap (λ (n : ℕ). take n (set to i (get_or from i nan))) (add-one i)
-    ∙ take-suc-set to i (get_or from i nan) (omega arith)
-    ∙ ap (λ (r : List Float). r ++ (get_or from i nan ∷ [])) e
-    ∙ sym (take-suc from i nan h)
-    ∙ ap (λ (n : ℕ). take n from) (sym (add-one i))
-
-pub copied_all : (to from : List Float) (i : ℕ) → length from ≤ i → length to ≡ length from → take i to ≡ take i from → to ≡ from
-copied_all to from i h l e = sym (take_all i to (omega arith)) ∙ e ∙ take_all i from h
 
 -- ---- one more
 
@@ -39,7 +25,7 @@ pub outside-more : (kinds : List ℕ) (k : ℕ) → outside_to kinds (k + 1) ≡
 unfolding outside_to
 outside-more kinds k = ap (outside_to kinds) (add-one k)
 
-pub miss_more : (ts cs : List Float) (i : ℕ) → first_miss ts cs (i + 1) ≡ first_of (first_miss ts cs i) (pick (meets ts cs i) none (some i))
+pub miss_more : (ts cs : List Float) (i : ℕ) → first_miss ts cs (i + 1) ≡ first_of (first_miss ts cs i) (pick (meets ts cs i) None (Some i))
 unfolding first_miss
 miss_more ts cs i = ap (first_miss ts cs) (add-one i)
 
@@ -55,13 +41,13 @@ stays f v step j (suc m) h e = stays_on f v step j m h e (λ l. stays f v step j
 
 module _ (ts cs : List Float) where
   -- the bins before i meet their targets, and i does not
-  pub missed-at : (i n : ℕ) → i < n → first_miss ts cs i ≡ none → meets ts cs i ≡ false → first_miss ts cs n ≡ some i
+  pub missed-at : (i n : ℕ) → i < n → first_miss ts cs i ≡ None → meets ts cs i ≡ false → first_miss ts cs n ≡ Some i
   unfolding first_miss
-  missed-at i n h e m = stays (first_miss ts cs) (some i) (λ (k : ℕ) (q : first_miss ts cs k ≡ some i). ap (λ (o : Option ℕ). first_of o (pick (meets ts cs k) none (some k))) q) (suc i) n (omega arith) (ap₂ first_of e (pick-false _ none (some i) m))
+  missed-at i n h e m = stays (first_miss ts cs) (Some i) (λ (k : ℕ) (q : first_miss ts cs k ≡ Some i). ap (λ (o : Option ℕ). first_of o (pick (meets ts cs k) None (Some k))) q) (suc i) n (omega arith) (ap₂ first_of e (pick-false _ None (Some i) m))
 
-  pub met-more : (i : ℕ) → first_miss ts cs i ≡ none → meets ts cs i ≡ true → first_miss ts cs (i + 1) ≡ none
-  met-more i e m = miss_more ts cs i ∙ ap₂ first_of e (pick_true _ none (some i) m)
+  pub met-more : (i : ℕ) → first_miss ts cs i ≡ None → meets ts cs i ≡ true → first_miss ts cs (i + 1) ≡ None
+  met-more i e m = miss_more ts cs i ∙ ap₂ first_of e (pick_true _ None (Some i) m)
 
-  pub met-none : first_miss ts cs 0 ≡ none
+  pub met-none : first_miss ts cs 0 ≡ None
   unfolding first_miss
   met-none = refl

@@ -1,14 +1,16 @@
 -- A tool previewed into lent lists, and committed from them. Assumes nothing.
+use Rattle.std.specs.Prelude.{Err, Ok, Result}
 use mathlib.Core.Path.{◌≡◌, refl, sym, ap, ◌∙◌, subst}
 use mathlib.Core.Bool.{Bool, not}
 use mathlib.Core.List.{List}
 use Prim.Native.Nat.{ℕ, ◌*◌, ◌/◌, ◌≤◌, min}
+use Rattle.refusals.specs.declared.Refused.{Refused}
 use native.Mathlib.Omega.{arith}
 use lib.Dec.{leb}
 use lib.ListN.{length}
 use lib.Ieee.{Float}
 use Rattle.refusals.specs.declared.Refusal.{Refusal}
-use Rattle.refusals.specs.Number.{reason_of}
+use Rattle.refusals.specs.Number.{reason_of, placed_of}
 use Rattle.refusals.specs.Paper.{Paper, Reason, answers, refuses, demand, onward, onward-answers, onward-refuses}
 use Rattle.refusals.specs.Limits.{cell_limit}
 use Rattle.stock.specs.declared.TurnStockSpec.{TurnStockSpec}
@@ -22,15 +24,11 @@ use Rattle.reach.specs.Reach.{Act, act_cell}
 use Rattle.nose.specs.Nose.{segments_good, nose_act}
 use Rattle.polygon.specs.Polygon.{polygon_good, polygon_act}
 use Rattle.changes.specs.declared.ChangeList.{ChangeList}
-use Rattle.changes.specs.declared.Previewed.{Previewed}
-use Rattle.changes.specs.declared.Previewed.TheVariants.{Listed, Refused}
 use Rattle.changes.specs.Change.{changes_to, room_of, settled, stamped, count_of, Proposed}
-use Rattle.changes.specs.declared.Applied.{Applied}
-use Rattle.changes.specs.declared.Applied.TheVariants as applied
 use Rattle.changes.specs.Commit.{Committed, commit_in, commit_held, own_commit, Applies}
 use Rattle.changes.proofs.Proposals.{same-listing}
 use Rattle.changes.proofs.Proposal.{held-is}
-use Rattle.changes.proofs.Written.{left, same_outcome}
+use Rattle.changes.proofs.Written.{left_at, same_outcome}
 use Rattle.cuts.specs.Cut.{clean_cut, cut_good, is_arc, cut_act}
 use Rattle.cuts.specs.Preview.{proposed, preview_of, preview_cut}
 use Rattle.cuts.specs.declared.Tool.{Tool}
@@ -92,7 +90,7 @@ module _ (k : TurnStock) (cs : List Float) (t : Tool) (ys : List Float) where
   unfolding pass_turned own rule
   turned-is room h = ap (λ (p : Paper (List TurnChange)). onward p own) (sym (room-same k.spec cs room h t ys))
 
-  held : (room : ℕ) (is is' : List ℕ) (xs xs' : List Float) → room ≡ room_of (length is) (length xs) → (list : ChangeList) → Proposed k.stamp (rule room) (Listed list) is is' xs xs'
+  held : (room : ℕ) (is is' : List ℕ) (xs xs' : List Float) → room ≡ room_of (length is) (length xs) → (list : ChangeList) → Proposed k.stamp (rule room) (Ok list) is is' xs xs'
       → onward (rule room) own ≡ commit_held (clean_spec k.spec) (length cs / 4) cs k.stamp.generation is' xs' list.count
   unfolding own_commit own rule
   held room is is' xs xs' er list p =
@@ -106,22 +104,22 @@ module _ (k : TurnStock) (cs : List Float) (t : Tool) (ys : List Float) where
       ∙ ap (λ (q : Paper ℕ). onward q (λ n. commit_in (clean_spec k.spec) n cs k.stamp.generation l)) w.stock
       ∙ onward-answers w.bins _
       ∙ ap (λ (m : ℕ). commit_in (clean_spec k.spec) m cs k.stamp.generation l) bins
-      ∙ sym (held-is k.stamp list l is is' xs xs' (same-listing k.stamp (settled (room_of (length is) (length xs)) l) (rule room) (Listed list) is is' xs xs' fits p) (clean_spec k.spec) (length cs / 4) cs k.stamp.generation)
+      ∙ sym (held-is k.stamp list l is is' xs xs' (same-listing k.stamp (settled (room_of (length is) (length xs)) l) (rule room) (Ok list) is is' xs xs' fits p) (clean_spec k.spec) (length cs / 4) cs k.stamp.generation)
 
-  pub made_none : (previewed : Previewed) (r : Refusal) (is is' : List ℕ) (xs xs' : List Float) → RoomForAll cs is xs
+  pub made_none : (previewed : Result ChangeList Refusal) (r : Refusal) (x : Result TurnStock Refused) (is is' : List ℕ) (xs xs' : List Float) → RoomForAll cs is xs
       → Proposed k.stamp (preview_tool k.spec cs t ys (room_of (length is) (length xs))) previewed is is' xs xs'
-      → previewed ≡ Refused r → Applies k (pass_turned k.spec (pass_of t ys) (standing k cs)) (applied.Refused r) cs cs
+      → previewed ≡ Err r → placed_of x ≡ refuses (reason_of r) → Applies k (pass_turned k.spec (pass_of t ys) (standing k cs)) x cs cs
   unfolding rule
-  made_none previewed r is is' xs xs' full p e =
+  made_none previewed r x is is' xs xs' full p e h =
       let room = room_of (length is) (length xs) in
-      let w = subst (λ (d : Previewed). Proposed k.stamp (rule room) d is is' xs xs') e p in
-      left k _ r cs (turned-is room full ∙ ap (λ (q : Paper (List TurnChange)). onward q own) (counted_none k.stamp _ _ w.answer) ∙ onward-refuses (reason_of r) own)
+      let w = subst (λ (d : Result ChangeList Refusal). Proposed k.stamp (rule room) d is is' xs xs') e p in
+      left_at k _ x (reason_of r) cs h (turned-is room full ∙ ap (λ (q : Paper (List TurnChange)). onward q own) (counted_none k.stamp _ _ w.answer) ∙ onward-refuses (reason_of r) own)
 
-  pub made_all : (previewed : Previewed) (list : ChangeList) (is is' : List ℕ) (xs xs' : List Float) (r : Applied) (cs' : List Float) → RoomForAll cs is xs
+  pub made_all : (previewed : Result ChangeList Refusal) (list : ChangeList) (is is' : List ℕ) (xs xs' : List Float) (r : Result TurnStock Refused) (cs' : List Float) → RoomForAll cs is xs
       → Proposed k.stamp (preview_tool k.spec cs t ys (room_of (length is) (length xs))) previewed is is' xs xs'
-      → previewed ≡ Listed list → Applies k (commit_held (clean_spec k.spec) (length cs / 4) cs k.stamp.generation is' xs' list.count) r cs cs' → Applies k (pass_turned k.spec (pass_of t ys) (standing k cs)) r cs cs'
+      → previewed ≡ Ok list → Applies k (commit_held (clean_spec k.spec) (length cs / 4) cs k.stamp.generation is' xs' list.count) r cs cs' → Applies k (pass_turned k.spec (pass_of t ys) (standing k cs)) r cs cs'
   unfolding rule
   made_all previewed list is is' xs xs' r cs' full p e a =
       let room = room_of (length is) (length xs) in
-      let w = subst (λ (d : Previewed). Proposed k.stamp (rule room) d is is' xs xs') e p in
+      let w = subst (λ (d : Result ChangeList Refusal). Proposed k.stamp (rule room) d is is' xs xs') e p in
       same_outcome k _ _ r cs cs' (turned-is room full ∙ held room is is' xs xs' refl list w) a

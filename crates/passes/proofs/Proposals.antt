@@ -1,4 +1,5 @@
 -- What a call that proposes passes answers and leaves, by what its rule says. Assumes nothing.
+use Rattle.std.specs.Prelude.{Err, Ok, Result}
 use mathlib.Core.Path.{◌≡◌, refl, sym, ap, ◌∙◌}
 use mathlib.Core.Bool.{Bool, true, false, ◌&&◌}
 use mathlib.Core.List.{List}
@@ -9,7 +10,7 @@ use lib.ListN.{length, take}
 use lib.Ieee.{Float, le}
 use borrow.Author.Tests.{eqb-true}
 use Rattle.refusals.specs.declared.Refusal.{Refusal}
-use Rattle.refusals.specs.Number.{reason_of}
+use Rattle.refusals.specs.Number.{reason_of, paper_of}
 use Rattle.refusals.specs.Paper.{Paper, Reason, answers, refuses, only, demand-true, demand-false, onward-answers, onward-refuses}
 use Rattle.refusals.specs.Lent.{over}
 use Rattle.floats.specs.Numbers.{zero64, clean_of, usable}
@@ -19,16 +20,20 @@ use Rattle.stock.specs.Cell.{stock_of}
 use Rattle.passes.specs.Cuts.{pass_limit}
 use Rattle.passes.specs.Check.{targets_to, targets_good}
 use Rattle.passes.specs.declared.propose.Level.{Level}
-use Rattle.passes.specs.declared.propose.Proposal.TheVariants.{Passes, Refused}
 use Rattle.passes.specs.Propose.{open_to, nose_good, propose_of, sixes, Proposes, Listing}
 
 -- refused: the three lists stay
-pub left : (p : Paper (List Level)) (r : Refusal) (ks : List ℕ) (xs : List Float) (ps : List ℕ) → p ≡ refuses (reason_of r) → Proposes p (Refused r) ks ks xs xs ps ps
+pub left : (p : Paper (List Level)) (r : Refusal) (ks : List ℕ) (xs : List Float) (ps : List ℕ) → p ≡ refuses (reason_of r) → Proposes p (Err r) ks ks xs xs ps ps
 unfolding over sixes
 left p r ks xs ps e = rw e (record { answer = refl; kinds = refl; numbers = refl; parts = refl })
 
+-- the same of a refusal that another call handed on
+pub left_at : (p : Paper (List Level)) (r : Result ℕ Refusal) (x : Reason) (ks : List ℕ) (xs : List Float) (ps : List ℕ) → paper_of r ≡ refuses x → p ≡ refuses x → Proposes p r ks ks xs xs ps ps
+unfolding over sixes
+left_at p r x ks xs ps a e = rw e (record { answer = a; kinds = refl; numbers = refl; parts = refl })
+
 -- accepted: the passes over the fronts
-pub proposed : (p : Paper (List Level)) (l : List Level) (k : ℕ) (ks ks' : List ℕ) (xs xs' : List Float) (ps ps' : List ℕ) → p ≡ answers l → Listing l k ks ks' xs xs' ps ps' → Proposes p (Passes k) ks ks' xs xs' ps ps'
+pub proposed : (p : Paper (List Level)) (l : List Level) (k : ℕ) (ks ks' : List ℕ) (xs xs' : List Float) (ps ps' : List ℕ) → p ≡ answers l → Listing l k ks ks' xs xs' ps ps' → Proposes p (Ok k) ks ks' xs xs' ps ps'
 proposed p l k ks ks' xs xs' ps ps' e g = rw e (record { answer = ap answers g.count; kinds = g.kinds; numbers = g.numbers; parts = g.parts })
 
 and_first : (a b : Bool) → (a && b) ≡ true → a ≡ true

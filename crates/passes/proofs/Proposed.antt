@@ -1,4 +1,5 @@
 -- What is written by a proposal: outside lines, no more than there may be. So a check of it is never refused with 25 for its cuts. Assumes nothing.
+use Rattle.std.specs.Prelude.{Ok}
 use mathlib.Core.Path.{◌≡◌, refl, ap, ◌∙◌}
 use mathlib.Core.Bool.{Bool, true, false}
 use mathlib.Core.List.{List, []}
@@ -22,7 +23,6 @@ use Rattle.cuts.specs.declared.Tool.TheVariants.{Single}
 use Rattle.passes.specs.Cuts.{Cuts, pass_limit, number_of, tool_of, pass_at}
 use Rattle.passes.specs.Check.{targets_good, outside_to, cuts_good}
 use Rattle.passes.specs.declared.propose.Level.{Level}
-use Rattle.passes.specs.declared.propose.Proposal.TheVariants.{Passes}
 use Rattle.passes.specs.Propose.{open_to, passes_of, nose_good, propose_of, pass_count, passes_in, Proposes}
 
 -- ---- outside lines are good cuts
@@ -60,7 +60,7 @@ counts (answers l) k e = cc
 counts (refuses q) k e = cc
 
 -- ---- the first k kinds, where k passes were proposed
-module _ (spec : TurnStockSpec) (cs ts : List Float) (rn : Float) (room k : ℕ) (ks ks' : List ℕ) (xs xs' : List Float) (ps ps' : List ℕ) (g : Proposes (propose_of spec cs ts rn room) (Passes k) ks ks' xs xs' ps ps') where
+module _ (spec : TurnStockSpec) (cs ts : List Float) (rn : Float) (room k : ℕ) (ks ks' : List ℕ) (xs xs' : List Float) (ps ps' : List ℕ) (g : Proposes (propose_of spec cs ts rn room) (Ok k) ks ks' xs xs' ps ps') where
   count-is : k ≡ length (passes_in (propose_of spec cs ts rn room))
   count-is = counts (propose_of spec cs ts rn room) k g.answer
 

@@ -1,16 +1,19 @@
 -- The verdict of a check, case by case: from the cuts, from the bins, with the kept numbers, and after what is asked first. Assumes nothing.
+use Rattle.std.specs.Prelude.{Option, None, Some, Ok, Err, Result}
+use Rattle.std.proofs.Common.{IsErrAnd}
+use Rattle.std.proofs.lemmas.Result.{err_from_is_err_and}
 use mathlib.Core.Path.{◌≡◌, refl, sym, ap, ◌∙◌, subst}
 use mathlib.Core.Bool.{true, false, ◌&&◌}
 use mathlib.Core.List.{List}
-use mathlib.Core.Option.{Option, none, some}
 use Prim.Native.Nat.{ℕ, ◌*◌, ◌/◌, ◌≤◌}
+use Rattle.refusals.specs.declared.Refused.{Refused}
 use native.Mathlib.Omega.{arith}
 use borrow.Author.Tests.{eqb-true, leb-true, eq-eqb, ne_eqb}
 use lib.Dec.{eqb, leb}
 use lib.ListN.{length}
 use lib.Ieee.{Float}
 use Rattle.refusals.specs.declared.Refusal.{Refusal}
-use Rattle.refusals.specs.Number.{number_of, reason_of}
+use Rattle.refusals.specs.Number.{number_of, reason_of, placed_of}
 use Rattle.refusals.specs.Paper.{Paper, Reason, answers, refuses, only, demand, onward, place_or, demand-true, demand-false, onward-answers, onward-refuses}
 use Rattle.floats.specs.Pick.{pick_true}
 use Rattle.stock.specs.declared.TurnStockSpec.{TurnStockSpec}
@@ -21,51 +24,49 @@ use Rattle.stock.specs.Stock.{stock_with}
 use Rattle.stock.proofs.Count.{no_answer, same_answer, demanded, and_both, stock-length}
 use Rattle.blocks.specs.Block.{blocks_in, blocks_of, match_to, matches_of}
 use Rattle.blocks.specs.Renew.{renewed_all}
-use Rattle.changes.specs.declared.Applied.{Applied}
-use Rattle.changes.specs.declared.Applied.TheVariants as applied
-use Rattle.changes.specs.Commit.{Committed, generation_of, stock_at, applied_paper, numbers_kept}
+use Rattle.changes.specs.Commit.{Committed, generation_of, stock_at, numbers_kept}
 use Rattle.passes.specs.Cuts.{Cuts, pass_limit, standing, turned_to}
-use Rattle.passes.specs.Check.{targets_to, targets_good, first_miss, outside_to, cuts_good, Verdict, cut_at, by_bins, by_cuts, verdict_of, checkable_of, check_of, said_by, said_of, cells_by, cells_left, kept_left, Checks}
+use Rattle.passes.specs.Check.{targets_to, targets_good, first_miss, outside_to, cuts_good, Verdict, cut_at, by_bins, by_cuts, verdict_of, checkable_of, check_of, said_by, said_of, checked_paper, cells_by, cells_left, kept_left, Checks}
 use Rattle.passes.specs.Steps.{Turns, said_at, cells_at, Judged, Decided, DecidedKept}
-use Rattle.passes.specs.declared.Checked.{Checked}
-use Rattle.passes.specs.declared.Checked.TheVariants as is
+use Rattle.passes.specs.declared.Verdict as verdict
+use Rattle.passes.specs.declared.Verdict.TheVariants as is
 use Rattle.passes.proofs.InTurn.{stopped}
 
 -- ---- the bins
 
-pub judged-missed : (s : TurnStock) (o : Option ℕ) (i : ℕ) (cs es es' : List Float) → o ≡ some i → es' ≡ cs → Judged s o (is.BinFails i) cs es es'
-judged-missed s o i cs es es' e h = record { answer = sym (ap (λ (x : Option ℕ). answers (said_at s x)) e); cells = h ∙ sym (ap (λ (x : Option ℕ). cells_at x cs es) e) }
+pub judged-missed : (s : TurnStock) (o : Option ℕ) (i : ℕ) (cs es es' : List Float) → o ≡ Some i → es' ≡ cs → Judged s o (is.BinFails i) cs es es'
+judged-missed s o i cs es es' e h = record { answer = sym (ap (λ (x : Option ℕ). said_at s x) e); cells = h ∙ sym (ap (λ (x : Option ℕ). cells_at x cs es) e) }
 
-pub judged-met : (s : TurnStock) (o : Option ℕ) (cs es : List Float) → o ≡ none → Judged s o (is.Yes s) cs es es
-judged-met s o cs es e = record { answer = sym (ap (λ (x : Option ℕ). answers (said_at s x)) e); cells = sym (ap (λ (x : Option ℕ). cells_at x cs es) e) }
+pub judged-met : (s : TurnStock) (o : Option ℕ) (cs es : List Float) → o ≡ None → Judged s o (is.Yes s) cs es es
+judged-met s o cs es e = record { answer = sym (ap (λ (x : Option ℕ). said_at s x) e); cells = sym (ap (λ (x : Option ℕ). cells_at x cs es) e) }
 
 -- ---- the cuts
 
 said_same : (k : TurnStock) (c : Committed) (o : Option ℕ) → said_at (stock_with k k.rings c.generation) o ≡ said_by k (by_bins c o)
-said_same k c none = refl
-said_same k c (some i) = refl
+said_same k c None = refl
+said_same k c (Some i) = refl
 
 cells_same : (c : Committed) (o : Option ℕ) (cs : List Float) → cells_at o cs c.cells ≡ cells_by (by_bins c o) cs
-cells_same c none cs = refl
-cells_same c (some i) cs = refl
+cells_same c None cs = refl
+cells_same c (Some i) cs = refl
 
 module _ (k : TurnStock) (cs : List Float) (n : ℕ) (ts : List Float) where
   cut_by : (p : Paper Committed) (q : Reason) (c : Refusal) (j : ℕ) (es' : List Float) → p ≡ refuses q → q.number ≡ number_of c → place_or 0 q.place ≡ j → es' ≡ cs → Decided k cs (by_cuts ts n p) (is.CutFails j c) es'
   cut_by p q c j es' e f g h = record {
-    answer = sym (ap (λ (x : Paper Committed). answers (said_by k (by_cuts ts n x))) e ∙ (λ i. answers (said_by k (cut_at (g i) (f i)))));
+    answer = sym (ap (λ (x : Paper Committed). said_by k (by_cuts ts n x)) e ∙ (λ i. said_by k (cut_at (g i) (f i))));
     cells = h ∙ sym (ap (λ (x : Paper Committed). cells_by (by_cuts ts n x) cs) e);
   }
 
-  bins-by : (p : Paper Committed) (s : TurnStock) (v : Checked) (es es' : List Float) → answers s ≡ stock_at k (generation_of p) → ((c : Committed) → p ≡ answers c → es ≡ c.cells) → Judged s (first_miss ts es n) v cs es es' → Decided k cs (by_cuts ts n p) v es'
+  bins-by : (p : Paper Committed) (s : TurnStock) (v : verdict.Verdict) (es es' : List Float) → answers s ≡ stock_at k (generation_of p) → ((c : Committed) → p ≡ answers c → es ≡ c.cells) → Judged s (first_miss ts es n) v cs es es' → Decided k cs (by_cuts ts n p) v es'
   bins-by (answers c) s v es es' e f w =
       let h = f c refl in
       record {
-        answer = w.answer ∙ (λ i. answers (said_at (same_answer e i) (first_miss ts (h i) n))) ∙ ap answers (said_same k c (first_miss ts c.cells n));
+        answer = w.answer ∙ (λ i. said_at (same_answer e i) (first_miss ts (h i) n)) ∙ said_same k c (first_miss ts c.cells n);
         cells = w.cells ∙ (λ i. cells_at (first_miss ts (h i) n) cs (h i)) ∙ cells_same c (first_miss ts c.cells n) cs;
       }
   bins-by (refuses q) s v es es' e f w = absurd (no_answer q s (sym e))
 
-  module _ (ls : Cuts) (es₀ es es' : List Float) (e₀ : es₀ ≡ cs) (r : Applied) (t : Turns k (turned_to k.spec ls (standing k es₀) (length ls.kinds)) r es) where
+  module _ (ls : Cuts) (es₀ es es' : List Float) (e₀ : es₀ ≡ cs) (r : Result TurnStock Refused) (t : Turns k (turned_to k.spec ls (standing k es₀) (length ls.kinds)) r es) where
     abbrev made : Paper Committed
     made = turned_to k.spec ls (standing k cs) (length ls.kinds)
 
@@ -73,15 +74,15 @@ module _ (k : TurnStock) (cs : List Float) (n : ℕ) (ts : List Float) where
     started = subst (λ (x : List Float). Turns k (turned_to k.spec ls (standing k x) (length ls.kinds)) r es) e₀ t
 
     -- a cut is refused
-    pub decided-cut : (q : Reason) (c : Refusal) (j : ℕ) → applied_paper r ≡ refuses q → q.number ≡ number_of c → place_or 0 q.place ≡ j → es' ≡ cs → Decided k cs (verdict_of k cs n ts ls) (is.CutFails j c) es'
+    pub decided-cut : (q : Reason) (c : Refusal) (j : ℕ) → placed_of r ≡ refuses q → q.number ≡ number_of c → place_or 0 q.place ≡ j → es' ≡ cs → Decided k cs (verdict_of k cs n ts ls) (is.CutFails j c) es'
     decided-cut q c j e f g h = cut_by made q c j es' (stopped k made q (sym e ∙ started.answer)) f g h
 
     -- none is
-    pub decided-bins : (s : TurnStock) (v : Checked) → r ≡ applied.Stock s → Judged s (first_miss ts es n) v cs es es' → Decided k cs (verdict_of k cs n ts ls) v es'
-    decided-bins s v e w = bins-by made s v es es' (sym (ap applied_paper e) ∙ started.answer) started.cells w
+    pub decided-bins : (s : TurnStock) (v : verdict.Verdict) → r ≡ Ok s → Judged s (first_miss ts es n) v cs es es' → Decided k cs (verdict_of k cs n ts ls) v es'
+    decided-bins s v e w = bins-by made s v es es' (sym (ap placed_of e) ∙ started.answer) started.cells w
 
 -- ---- the kept numbers
-pub decided-kept : (k : TurnStock) (cs : List Float) (v : Verdict) (r : Checked) (es' bs bs' : List Float) (s : TurnStockSpec) (n : ℕ) → Decided k cs v r es' → s ≡ clean_spec k.spec → bs' ≡ renewed_all s n es' bs → length es' ≡ 4 * n → length bs ≡ 2 * blocks_in n → DecidedKept k cs v r es' bs'
+pub decided-kept : (k : TurnStock) (cs : List Float) (v : Verdict) (r : verdict.Verdict) (es' bs bs' : List Float) (s : TurnStockSpec) (n : ℕ) → Decided k cs v r es' → s ≡ clean_spec k.spec → bs' ≡ renewed_all s n es' bs → length es' ≡ 4 * n → length bs ≡ 2 * blocks_in n → DecidedKept k cs v r es' bs'
 unfolding renewed_all
 decided-kept k cs v r es' bs bs' s n d e f h l =
     let m : n ≡ length es' / 4 = omega arith in
@@ -185,18 +186,20 @@ module _ (spec : TurnStockSpec) (cs bs ts : List Float) (kinds : List ℕ) (room
 -- ---- the check
 
 module _ (k : TurnStock) (cs bs ts : List Float) (ls : Cuts) (room numbers : ℕ) where
-  pub checks-refused : (r : Refusal) (es fs : List Float) → checkable_of k.spec cs bs ts ls.kinds room numbers ≡ refuses (reason_of r) → Checks k cs (check_of k cs bs ts ls room numbers) (is.Refused r) es es fs fs
+  pub checks-refused : (r : Refusal) (x : Result verdict.Verdict Refusal) (es fs : List Float) → IsErrAnd x (λ y. y ≡ r) → checkable_of k.spec cs bs ts ls.kinds room numbers ≡ refuses (reason_of r) → Checks k cs (check_of k cs bs ts ls room numbers) x es es fs fs
   unfolding check_of
-  checks-refused r es fs e =
+  checks-refused r x es fs h e =
+      let w = err_from_is_err_and x h in
+      let is_err : x ≡ Err r = w.1 ∙ ap Err w.2 in
       let p = ap (λ (q : Paper ℕ). onward q (λ (m : ℕ). answers (verdict_of k cs m ts ls))) e ∙ onward-refuses (reason_of r) (λ (m : ℕ). answers (verdict_of k cs m ts ls)) in
-      record { answer = sym (ap (λ (q : Paper Verdict). said_of k q) p); cells = sym (ap (λ (q : Paper Verdict). cells_left q cs es) p); kept = sym (ap (λ (q : Paper Verdict). kept_left k.spec q cs fs) p) }
+      record { answer = ap checked_paper is_err ∙ sym (ap (λ (q : Paper Verdict). said_of k q) p); cells = sym (ap (λ (q : Paper Verdict). cells_left q cs es) p); kept = sym (ap (λ (q : Paper Verdict). kept_left k.spec q cs fs) p) }
 
-  pub checks-decided : (n : ℕ) (r : Checked) (es es' fs fs' : List Float) → checkable_of k.spec cs bs ts ls.kinds room numbers ≡ answers n → DecidedKept k cs (verdict_of k cs n ts ls) r es' fs' → Checks k cs (check_of k cs bs ts ls room numbers) r es es' fs fs'
+  pub checks-decided : (n : ℕ) (r : verdict.Verdict) (es es' fs fs' : List Float) → checkable_of k.spec cs bs ts ls.kinds room numbers ≡ answers n → DecidedKept k cs (verdict_of k cs n ts ls) r es' fs' → Checks k cs (check_of k cs bs ts ls room numbers) (Ok r) es es' fs fs'
   unfolding check_of
   checks-decided n r es es' fs fs' e d =
       let p = ap (λ (q : Paper ℕ). onward q (λ (m : ℕ). answers (verdict_of k cs m ts ls))) e ∙ onward-answers n (λ (m : ℕ). answers (verdict_of k cs m ts ls)) in
       record {
-        answer = d.decided.answer ∙ sym (ap (λ (q : Paper Verdict). said_of k q) p);
+        answer = ap answers d.decided.answer ∙ sym (ap (λ (q : Paper Verdict). said_of k q) p);
         cells = d.decided.cells ∙ sym (ap (λ (q : Paper Verdict). cells_left q cs es) p);
         kept = d.kept ∙ sym (ap (λ (q : Paper Verdict). kept_left k.spec q cs fs) p);
       }

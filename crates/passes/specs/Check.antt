@@ -1,7 +1,7 @@
 -- The check of proposed cuts against targets, two radii a bin: yes exactly when every cut is accepted in turn and every bin meets its target. Assumes nothing.
-use Rattle.std.specs.Prelude.{◌≡◌, Bool, true, not, ◌&&◌, List, ℕ, zero, suc, ◌+◌, ◌*◌, eqb, leb, length, get_or, Float}
-use Rattle.std.proofs.Math.Option.{Option, none, some}
+use Rattle.std.specs.Prelude.{◌≡◌, Bool, true, not, ◌&&◌, List, ℕ, zero, suc, ◌+◌, ◌*◌, eqb, leb, length, get_or, Float, Option, None, Some, Result, Ok, Err}
 use Rattle.std.specs.Float.Ieee.{le}
+use Rattle.refusals.specs.declared.Refusal.{Refusal}
 use Rattle.refusals.specs.Number.{reason_of}
 use Rattle.refusals.specs.Paper.{Paper, answers, refuses, demand, onward, first_of, place_or}
 use Rattle.refusals.specs.Lent.{Lent}
@@ -15,8 +15,8 @@ use Rattle.stock.specs.Stock.{stock_with}
 use Rattle.blocks.specs.Block.{blocks_in, matches_of}
 use Rattle.changes.specs.Commit.{Committed, numbers_kept}
 use Rattle.passes.specs.Cuts.{Cuts, pass_limit, is_inside, standing, turned_to}
-use Rattle.passes.specs.declared.Checked.{Checked}
-use Rattle.passes.specs.declared.Checked.TheVariants as checked
+use Rattle.passes.specs.declared.Verdict as verdict
+use Rattle.passes.specs.declared.Verdict.TheVariants as says
 
 -- ---- targets: the lower and the upper radius of each bin, -0.0 read as +0.0
 abbrev pub lower_at : List Float → ℕ → Float
@@ -44,8 +44,8 @@ meets ts cs i = le (lower_at ts i) (cell_at cs i).outer.lower_mm && le (cell_at 
 
 -- the first of k bins that does not meet its target
 unfoldable pub first_miss : List Float → List Float → ℕ → Option ℕ
-first_miss ts cs zero = none
-first_miss ts cs (suc i) = first_of (first_miss ts cs i) (pick (meets ts cs i) none (some i))
+first_miss ts cs zero = None
+first_miss ts cs (suc i) = first_of (first_miss ts cs i) (pick (meets ts cs i) None (Some i))
 
 -- ---- cuts
 
@@ -68,8 +68,8 @@ pub data Verdict : Type 0 where
   bin_at : ℕ → Verdict
 
 abbrev pub by_bins : Committed → Option ℕ → Verdict
-by_bins c none = accepted c
-by_bins c (some i) = bin_at i
+by_bins c None = accepted c
+by_bins c (Some i) = bin_at i
 
 abbrev pub by_cuts : List Float → ℕ → Paper Committed → Verdict
 by_cuts ts n (answers c) = by_bins c (first_miss ts c.cells n)
@@ -99,11 +99,14 @@ pub data Said : Type 0 where
   says_cut : ℕ → ℕ → Said
   says_bin : ℕ → Said
 
-abbrev pub checked_paper : Checked → Paper Said
-checked_paper (checked.Yes k) = answers (says_yes k)
-checked_paper (checked.CutFails k r) = answers (says_cut k (reason_of r).number)
-checked_paper (checked.BinFails i) = answers (says_bin i)
-checked_paper (checked.Refused r) = refuses (reason_of r)
+abbrev pub said_in : verdict.Verdict → Said
+said_in (says.Yes k) = says_yes k
+said_in (says.CutFails k r) = says_cut k (reason_of r).number
+said_in (says.BinFails i) = says_bin i
+
+abbrev pub checked_paper : Result verdict.Verdict Refusal → Paper Said
+checked_paper (Ok v) = answers (said_in v)
+checked_paper (Err r) = refuses (reason_of r)
 
 -- on yes the stock at its new generation
 abbrev pub said_by : TurnStock → Verdict → Said
@@ -131,11 +134,11 @@ kept_left spec (answers v) cs bs = numbers_kept spec (cells_by v cs)
 kept_left spec (refuses r) cs bs = bs
 
 -- the answer and the two buffers after a check
-pub record Checks (k : TurnStock) (cs : List Float) (p : Paper Verdict) (r : Checked) (es es' bs bs' : List Float) : Type 0 where
+pub record Checks (k : TurnStock) (cs : List Float) (p : Paper Verdict) (r : Result verdict.Verdict Refusal) (es es' bs bs' : List Float) : Type 0 where
   pub answer : checked_paper r ≡ said_of k p
   pub cells : es' ≡ cells_left p cs es
   pub kept : bs' ≡ kept_left k.spec p cs bs
 
 -- of lent numbers, at both moments
-abbrev pub ChecksLent : TurnStock → List Float → Paper Verdict → Checked → Lent Float → Lent Float → Type 0
+abbrev pub ChecksLent : TurnStock → List Float → Paper Verdict → Result verdict.Verdict Refusal → Lent Float → Lent Float → Type 0
 ChecksLent k cs p r after blocks = Checks k cs p r after.entry.now after.exit.now blocks.entry.now blocks.exit.now

@@ -1,9 +1,10 @@
 -- Level straight passes, proposed: one for each longest run of bins with the same target of which some bin stands over it. Assumes nothing.
-use Rattle.std.specs.Prelude.{◌≡◌, Bool, true, false, not, ◌&&◌, ◌||◌, List, [], ◌∷◌, ◌++◌, ℕ, zero, suc, ◌+◌, ◌*◌, ◌-◌, ◌/◌, min, eqb, ltb, length, take, replicate, set, Float}
+use Rattle.std.specs.Prelude.{◌≡◌, Bool, true, false, not, ◌&&◌, ◌||◌, List, [], ◌∷◌, ◌++◌, ℕ, zero, suc, ◌+◌, ◌*◌, ◌-◌, ◌/◌, min, eqb, ltb, length, take, replicate, set, Float, Result}
 use Rattle.std.proofs.lemmas.List.Edits.{sets}
 use Rattle.std.specs.Float.{binary64}
 use Rattle.std.specs.Float.Ieee.{of_bits, lt, le, eq}
-use Rattle.refusals.specs.Number.{reason_of}
+use Rattle.refusals.specs.declared.Refusal.{Refusal}
+use Rattle.refusals.specs.Number.{paper_of}
 use Rattle.refusals.specs.Paper.{Paper, answers, refuses, demand, onward}
 use Rattle.refusals.specs.Lent.{Lent, over}
 use Rattle.floats.specs.Pick.{pick}
@@ -15,8 +16,6 @@ use Rattle.stock.specs.Cell.{cell_at, stock_of}
 use Rattle.passes.specs.Cuts.{pass_limit}
 use Rattle.passes.specs.Check.{lower_at, upper_at, targets_good}
 use Rattle.passes.specs.declared.propose.Level.{Level}
-use Rattle.passes.specs.declared.propose.Proposal.{Proposal}
-use Rattle.passes.specs.declared.propose.Proposal.TheVariants.{Passes, Refused}
 
 -- 2 and 16
 abbrev pub two64 : Float
@@ -110,11 +109,6 @@ propose_of spec cs ts rn room =
     (demand (nose_good (clean_of rn)) 5
     (answers (passes_of spec n cs ts rn room))))
 
--- what the answer says, case by case
-abbrev pub proposal_paper : Proposal → Paper ℕ
-proposal_paper (Passes k) = answers k
-proposal_paper (Refused r) = refuses (reason_of r)
-
 abbrev pub pass_count : Paper (List Level) → Paper ℕ
 pass_count (answers l) = answers (length l)
 pass_count (refuses r) = refuses r
@@ -134,14 +128,14 @@ sixes [] = []
 sixes (p ∷ l) = six_of p ++ sixes l
 
 -- the answer, and the three lists afterwards: outside lines over the fronts, their parts 0 and 0, the rest as it was
-pub record Proposes (p : Paper (List Level)) (r : Proposal) (ks ks' : List ℕ) (xs xs' : List Float) (ps ps' : List ℕ) : Type 0 where
-  pub answer : proposal_paper r ≡ pass_count p
+pub record Proposes (p : Paper (List Level)) (r : Result ℕ Refusal) (ks ks' : List ℕ) (xs xs' : List Float) (ps ps' : List ℕ) : Type 0 where
+  pub answer : paper_of r ≡ pass_count p
   pub kinds : ks' ≡ over (replicate (length (passes_in p)) 0) ks
   pub numbers : xs' ≡ over (sixes (passes_in p)) xs
   pub parts : ps' ≡ over (replicate (2 * length (passes_in p)) 0) ps
 
 -- of lent lists, at both moments
-abbrev pub ProposesLent : Paper (List Level) → Proposal → Lent ℕ → Lent Float → Lent ℕ → Type 0
+abbrev pub ProposesLent : Paper (List Level) → (Result ℕ Refusal) → Lent ℕ → Lent Float → Lent ℕ → Type 0
 ProposesLent p r kinds numbers parts = Proposes p r kinds.entry.now kinds.exit.now numbers.entry.now numbers.exit.now parts.entry.now parts.exit.now
 
 -- ---- what the functions do. No reader has to believe the rest: `Proposes` follows from it.

@@ -6,8 +6,8 @@
 #![tactic(auto)]
 
 ghost use Rattle.std.specs.Prelude.{◌≡◌, ◌*◌, ◌≤◌, ◌<◌, length};
+ghost use Rattle.refusals.specs.Number.{paper_of};
 ghost use Rattle.refusals.specs.Limits.{cell_limit};
-ghost use Rattle.stock.specs.Spec.{counted_paper};
 ghost use Rattle.blocks.specs.Block.{blocks_in};
 ghost use Rattle.changes.specs.Change.{room_of};
 ghost use Rattle.changes.specs.Commit.{Applies};
@@ -15,10 +15,9 @@ ghost use Rattle.passes.specs.Cuts.{pass_limit, cuts_of, standing, pass_of, pass
 ghost use Rattle.passes.specs.Check.{first_miss, verdict_of, checkable_of, check_of, ChecksLent};
 ghost use Rattle.passes.specs.Steps.{RoomForAll, Turns, Judged, Decided, DecidedKept};
 
-use changes::{Applied, Previewed};
 use cuts::Tool;
-use refusals::{CELL_LIMIT, Refusal};
-use stock::{Counted, TurnStock, TurnStockSpec};
+use refusals::{CELL_LIMIT, Refusal, Refused};
+use stock::{TurnStock, TurnStockSpec};
 
 mod lists;
 pub mod propose;
@@ -34,14 +33,13 @@ const MANY_NUMBERS: usize = 32768;
 
 // What a check finds.
 #[derive(Clone, Copy)]
-pub enum Checked {
+pub enum Verdict {
     // the stock afterwards
     Yes(TurnStock),
     // the first cut that is refused, and why
     CutFails(usize, Refusal),
     // the first bin that does not meet its target
     BinFails(usize),
-    Refused(Refusal),
 }
 
 // A tool previewed into the lent lists, which have room for a change in every cell, and committed from
@@ -54,19 +52,14 @@ fn make(
     beside: &[f64],
     indices: &mut [usize],
     records: &mut [f64],
-) -> Applied
+) -> Result<TurnStock, Refused>
     requires { RoomForAll after.old indices.old records.old }
     ensures { Applies stock (pass_turned stock.spec (pass_of tool beside.now) (standing stock after.old)) result
         after.old after.new }
 {
-    let previewed = cuts::preview_tool(stock, after, tool, beside, indices, records);
-    match previewed {
-        Previewed::Refused(r) => Applied::Refused(r),
-        Previewed::Listed(list) => {
-            let n = after.len() / 4;
-            changes::commit_unasked(stock, n, after, indices, records, list.count)
-        }
-    }
+    let list = cuts::preview_tool(stock, after, tool, beside, indices, records)?;
+    let n = after.len() / 4;
+    changes::commit_unasked(stock, n, after, indices, records, list.count)
 }
 
 // Cut k of the lists.
@@ -80,7 +73,7 @@ fn make_at(
     k: usize,
     indices: &mut [usize],
     records: &mut [f64],
-) -> Applied
+) -> Result<TurnStock, Refused>
     requires { (k < length kinds.now) × (k < pass_limit) × RoomForAll after.old indices.old records.old }
     ensures { Applies stock
         (pass_turned stock.spec (pass_at (cuts_of kinds.now numbers.now parts.now lists.now) k) (standing stock after.old)) result
@@ -102,24 +95,21 @@ fn make_each(
     lists: &[f64],
     indices: &mut [usize],
     records: &mut [f64],
-) -> Applied
+) -> Result<TurnStock, Refused>
     requires { (length kinds.now ≤ pass_limit) × RoomForAll after.old indices.old records.old }
     ensures { Turns stock
         (turned_to stock.spec (cuts_of kinds.now numbers.now parts.now lists.now) (standing stock after.old) (length kinds.now)) result
         after.new }
 {
     let mut s = stock;
-    let mut k: usize = 0;
-    while k < kinds.len() {
+    for k in 0..kinds.len() {
         let applied = make_at(s, after, kinds, numbers, parts, lists, k, indices, records);
         match applied {
-            Applied::Refused(r) => return Applied::RefusedAt(r, k),
-            Applied::RefusedAt(r, _) => return Applied::RefusedAt(r, k),
-            Applied::Stock(next) => s = next,
+            Err(e) => return Err(Refused::at(e.why, k)),
+            Ok(next) => s = next,
         }
-        k += 1;
     }
-    Applied::Stock(s)
+    Ok(s)
 }
 
 // The same with lists of its own, for many cells.
@@ -130,7 +120,7 @@ fn make_many(
     numbers: &[f64],
     parts: &[usize],
     lists: &[f64],
-) -> Applied
+) -> Result<TurnStock, Refused>
     requires { (length kinds.now ≤ pass_limit) × (length after.old ≤ 4 * 4096) }
     ensures { Turns stock
         (turned_to stock.spec (cuts_of kinds.now numbers.now parts.now lists.now) (standing stock after.old) (length kinds.now)) result
@@ -158,7 +148,7 @@ fn make_most(
     numbers: &[f64],
     parts: &[usize],
     lists: &[f64],
-) -> Applied
+) -> Result<TurnStock, Refused>
     requires { length kinds.now ≤ pass_limit }
     ensures { Turns stock
         (turned_to stock.spec (cuts_of kinds.now numbers.now parts.now lists.now) (standing stock after.old) (length kinds.now)) result
@@ -186,7 +176,7 @@ fn make_all(
     numbers: &[f64],
     parts: &[usize],
     lists: &[f64],
-) -> Applied
+) -> Result<TurnStock, Refused>
     requires { length kinds.now ≤ pass_limit }
     ensures { Turns stock
         (turned_to stock.spec (cuts_of kinds.now numbers.now parts.now lists.now) (standing stock after.old) (length kinds.now)) result
@@ -198,30 +188,18 @@ fn make_all(
     make_most(stock, after, kinds, numbers, parts, lists)
 }
 
-// The numbers of one list, written over those of another.
-fn copy(from: &[f64], to: &mut [f64])
-    requires { length to.old ≡ length from.now }
-    ensures { to.new ≡ from.now }
-{
-    let mut i: usize = 0;
-    while i < from.len() {
-        to[i] = from[i];
-        i += 1;
-    }
-}
-
 // The stock s whose cells are `after`, if each bin meets its target; else the first that does not, and
 // the old cells.
-fn judge(s: TurnStock, n: usize, cells: &[f64], targets: &[f64], after: &mut [f64]) -> Checked
+fn judge(s: TurnStock, n: usize, cells: &[f64], targets: &[f64], after: &mut [f64]) -> Verdict
     requires { (length targets.now ≡ 2 * n) × (length after.old ≡ length cells.now) }
     ensures { Judged s (first_miss targets.now after.old n) result cells.now after.old after.new }
 {
     let i = targets::first_miss(targets, after, n);
     if i < n {
-        copy(cells, after);
-        return Checked::BinFails(i);
+        after.copy_from_slice(cells);
+        return Verdict::BinFails(i);
     }
-    Checked::Yes(s)
+    Verdict::Yes(s)
 }
 
 // Every cut made in `after`, and its bins judged; on a no the old cells.
@@ -235,24 +213,20 @@ fn decide(
     parts: &[usize],
     lists: &[f64],
     after: &mut [f64],
-) -> Checked
+) -> Verdict
     requires { (length kinds.now ≤ pass_limit) × (length targets.now ≡ 2 * n) × (length after.old ≡ length cells.now) }
     ensures { Decided stock cells.now
         (verdict_of stock cells.now n targets.now (cuts_of kinds.now numbers.now parts.now lists.now))
         result after.new }
 {
-    copy(cells, after);
+    after.copy_from_slice(cells);
     let applied = make_all(stock, after, kinds, numbers, parts, lists);
     match applied {
-        Applied::Refused(r) => {
-            copy(cells, after);
-            Checked::CutFails(0, r)
+        Err(e) => {
+            after.copy_from_slice(cells);
+            Verdict::CutFails(e.place.unwrap_or(0), e.why)
         }
-        Applied::RefusedAt(r, k) => {
-            copy(cells, after);
-            Checked::CutFails(k, r)
-        }
-        Applied::Stock(s) => judge(s, n, cells, targets, after),
+        Ok(s) => judge(s, n, cells, targets, after),
     }
 }
 
@@ -268,7 +242,7 @@ fn decide_kept(
     lists: &[f64],
     after: &mut [f64],
     after_blocks: &mut [f64],
-) -> Checked
+) -> Verdict
     requires { (length kinds.now ≤ pass_limit) × (length targets.now ≡ 2 * n) × (length after.old ≡ length cells.now)
         × (length cells.now ≡ 4 * n) × (length after_blocks.old ≡ 2 * blocks_in n) }
     ensures { DecidedKept stock cells.now
@@ -292,28 +266,23 @@ fn checkable(
     kinds: &[u32],
     room: usize,
     numbers: usize,
-) -> Counted
-    ensures { counted_paper result ≡ checkable_of spec cells.now blocks.now targets.now kinds.now room numbers }
+) -> Result<usize, Refusal>
+    ensures { paper_of result ≡ checkable_of spec cells.now blocks.now targets.now kinds.now room numbers }
 {
-    let counted = stock::cells_fit(spec, cells);
-    match counted {
-        Counted::Refused(r) => Counted::Refused(r),
-        Counted::Cells(n) => {
-            if room != cells.len() {
-                return Counted::Refused(Refusal::CellsDoNotFit);
-            }
-            if !blocks::matches(stock::clean_spec(spec), n, cells, blocks) {
-                return Counted::Refused(Refusal::BlocksDoNotMatch);
-            }
-            if numbers != blocks.len() {
-                return Counted::Refused(Refusal::BlocksDoNotMatch);
-            }
-            if lists::are_good(kinds) & targets::are_good(targets, n) {
-                return Counted::Cells(n);
-            }
-            Counted::Refused(Refusal::PassesOutside)
-        }
+    let n = stock::cells_fit(spec, cells)?;
+    if room != cells.len() {
+        return Err(Refusal::CellsDoNotFit);
     }
+    if !blocks::matches(stock::clean_spec(spec), n, cells, blocks) {
+        return Err(Refusal::BlocksDoNotMatch);
+    }
+    if numbers != blocks.len() {
+        return Err(Refusal::BlocksDoNotMatch);
+    }
+    if lists::are_good(kinds) & targets::are_good(targets, n) {
+        return Ok(n);
+    }
+    Err(Refusal::PassesOutside)
 }
 
 // Check proposed cuts against targets: yes with the stock afterwards, the first cut that is refused, or
@@ -330,14 +299,14 @@ pub fn check(
     lists: &[f64],
     after: &mut [f64],
     after_blocks: &mut [f64],
-) -> Checked
+) -> Result<Verdict, Refusal>
     ensures { ChecksLent stock cells.now
         (check_of stock cells.now blocks.now targets.now
         (cuts_of kinds.now numbers.now parts.now lists.now)
         (length after.old) (length after_blocks.old))
         result after after_blocks }
 {
-    let counted = checkable(
+    let n = checkable(
         stock.spec,
         cells,
         blocks,
@@ -345,20 +314,17 @@ pub fn check(
         kinds,
         after.len(),
         after_blocks.len(),
-    );
-    match counted {
-        Counted::Refused(r) => Checked::Refused(r),
-        Counted::Cells(n) => decide_kept(
-            stock,
-            n,
-            cells,
-            targets,
-            kinds,
-            numbers,
-            parts,
-            lists,
-            after,
-            after_blocks,
-        ),
-    }
+    )?;
+    Ok(decide_kept(
+        stock,
+        n,
+        cells,
+        targets,
+        kinds,
+        numbers,
+        parts,
+        lists,
+        after,
+        after_blocks,
+    ))
 }

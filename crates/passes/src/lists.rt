@@ -29,10 +29,8 @@ pub fn are_good(kinds: &[u32]) -> bool
         return false;
     }
     let mut ok = true;
-    let mut k: usize = 0;
-    while k < kinds.len() {
+    for k in 0..kinds.len() {
         ok = ok & !is_inside(kinds[k]);
-        k += 1;
     }
     ok
 }

@@ -11,7 +11,7 @@ ghost use Rattle.passes.specs.Propose.{aim_of, inset_of, pass_start, pass_end, l
 use crate::lists::PASS_LIMIT;
 use crate::targets;
 use refusals::Refusal;
-use stock::{Counted, TurnStockSpec};
+use stock::TurnStockSpec;
 
 // A level pass: the nose's radius, the radius of its centre, and from which z to which.
 #[derive(Clone, Copy)]
@@ -20,13 +20,6 @@ pub struct Level {
     pub r: f64,
     pub a: f64,
     pub b: f64,
-}
-
-// The passes that were written.
-#[derive(Clone, Copy)]
-pub enum Proposal {
-    Passes(usize),
-    Refused(Refusal),
 }
 
 // ---- one run of bins
@@ -214,15 +207,13 @@ fn write_passes(
     let mut first: usize = 0;
     let mut high = false;
     let mut k: usize = 0;
-    let mut i: usize = 0;
-    while i < n {
+    for i in 0..n {
         let over = high | stands_over(targets, cells, i);
         let ends = last_of_run(targets, n, i);
         let p = level_over(s, n, targets, rn, first, i);
         k = list_level(kinds, numbers, parts, k, p, over & ends);
         first = first_from(ends, i + 1, first);
         high = over & !ends;
-        i += 1;
     }
     k
 }
@@ -238,23 +229,18 @@ pub fn propose(
     kinds: &mut [u32],
     numbers: &mut [f64],
     parts: &mut [usize],
-) -> Proposal
+) -> Result<usize, Refusal>
     ensures { ProposesLent (propose_of spec cells.now targets.now rn
         (pass_room (length kinds.old) (length numbers.old) (length parts.old))) result kinds numbers parts }
 {
-    let counted = stock::cells_fit(spec, cells);
-    match counted {
-        Counted::Refused(r) => Proposal::Refused(r),
-        Counted::Cells(n) => {
-            if !targets::are_good(targets, n) {
-                return Proposal::Refused(Refusal::PassesOutside);
-            }
-            let nose = floats::clean(rn);
-            if !(floats::is_usable(nose) & (0.0 <= nose)) {
-                return Proposal::Refused(Refusal::ArgumentOutside);
-            }
-            let s = stock::clean_spec(spec);
-            Proposal::Passes(write_passes(s, n, cells, targets, nose, kinds, numbers, parts))
-        }
+    let n = stock::cells_fit(spec, cells)?;
+    if !targets::are_good(targets, n) {
+        return Err(Refusal::PassesOutside);
     }
+    let nose = floats::clean(rn);
+    if !(floats::is_usable(nose) & (0.0 <= nose)) {
+        return Err(Refusal::ArgumentOutside);
+    }
+    let s = stock::clean_spec(spec);
+    Ok(write_passes(s, n, cells, targets, nose, kinds, numbers, parts))
 }

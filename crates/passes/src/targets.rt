@@ -39,10 +39,8 @@ fn targets_to(targets: &[f64], n: usize) -> bool
     ensures { result ≡ targets_to targets.now n }
 {
     let mut ok = true;
-    let mut i: usize = 0;
-    while i < n {
+    for i in 0..n {
         ok = ok & target_good(targets, i);
-        i += 1;
     }
     ok
 }
@@ -75,13 +73,11 @@ pub fn first_miss(targets: &[f64], cells: &[f64], n: usize) -> usize
     requires { length targets.now ≡ 2 * n }
     ensures { MissedFirst targets.now cells.now n result }
 {
-    let mut i: usize = 0;
-    while i < n {
+    for i in 0..n {
         let c = stock::cell_at(cells, i);
         if !is_met(targets[2 * i], targets[2 * i + 1], c) {
             return i;
         }
-        i += 1;
     }
     n
 }

@@ -12,13 +12,12 @@ mod decimals;
 ghost use Rattle.std.specs.Prelude.{◌≡◌, not, min, ◌/◌, ◌≤◌, length};
 ghost use Rattle.floats.specs.Pick.{pick};
 ghost use Rattle.text.specs.Wrote.{Wrote};
-ghost use Rattle.queries.specs.Material.{sure_of, most_of};
 ghost use Rattle.picture.specs.Drawn.{common_of, band_of, metal_at, looks_so, looks_at};
 ghost use Rattle.picture.specs.Runs.{FirstSo, NextStretch, RunEnds};
 ghost use Rattle.picture.specs.Steps.{long_of, bin_on, edge_of, far_end, near_end, start_text, radius_text, turn_text, along_text, StepsOn};
 
 pub use decimals::put_length;
-use queries::{Band, Seen};
+use queries::{Band, most, sure};
 use stock::{TurnCell, TurnSide, TurnStockSpec, ZRange};
 use text::LINE_ROOM;
 
@@ -47,26 +46,6 @@ pub struct Stretch {
 pub struct Step {
     pub len: usize,
     pub next: usize,
-}
-
-// What certainly remains of a cell.
-fn sure(c: TurnCell) -> Band
-    ensures { result ≡ sure_of c }
-{
-    Band {
-        bore: c.inner.upper_mm,
-        outer: c.outer.lower_mm,
-    }
-}
-
-// What may remain of it.
-fn most(c: TurnCell) -> Band
-    ensures { result ≡ most_of c }
-{
-    Band {
-        bore: c.inner.lower_mm,
-        outer: c.outer.upper_mm,
-    }
 }
 
 // What two bands have in common.
@@ -133,15 +112,13 @@ fn first_so(
 ) -> usize
     ensures { FirstSo (looks_at look spec cells1.now cells2.now) wanted n i result }
 {
-    let mut j = i;
-    while j < n {
+    for j in i..n {
         let a = stock::cell_at(cells1, j);
         let b = stock::cell_at(cells2, j);
         let so = is_so(look, stock::bin_of(spec, j), a, b);
         if agree(so, wanted) {
             return j;
         }
-        j += 1;
     }
     n
 }
@@ -212,14 +189,12 @@ fn run_end(
         return k;
     }
     let r = edge(look, side, cells1, cells2, s, k);
-    let mut j = k + 1;
-    while j < n {
+    for j in k + 1..n {
         if !(edge(look, side, cells1, cells2, s, j) == r) {
             return j;
         }
-        j += 1;
     }
-    j
+    n
 }
 
 // Where bin k ends along the contour, from z_min on.

@@ -1,9 +1,9 @@
 -- In 01's domain every number that a polygon reaches is finite, at most 2 ^ 23 in size, and not -0.0. Assumes nothing.
+use Rattle.std.specs.Prelude.{Option, None, Some}
 use mathlib.Core.Path.{◌≡◌}
-use mathlib.Core.Bool.{Bool, true, false, ◌&&◌}
+use mathlib.Core.Bool.{true, ◌&&◌}
 use mathlib.Core.List.{List}
-use mathlib.Core.Option.{Option, none, some}
-use Prim.Native.Nat.{ℕ, ◌/◌, ◌%◌, ◌≤◌, ◌<◌}
+use Prim.Native.Nat.{ℕ, ◌/◌, ◌%◌}
 use lib.Dec.{T, eqb, leb, lit<, lit≤}
 use lib.ListN.{length}
 use lib.Ieee.{Float, binary64, fits, le}
@@ -18,11 +18,13 @@ use Rattle.stock.specs.declared.TurnSide.{TurnSide}
 use Rattle.stock.specs.declared.ZRange.{ZRange}
 use Rattle.stock.specs.Bin.{bin_of}
 use Rattle.reach.specs.Low.{lower_of, upper_of}
-use Rattle.reach.specs.Reach.{Reached, passed, reach_from}
+use Rattle.reach.specs.declared.Reach.TheVariants.{Passed}
+use Rattle.reach.specs.Reach.{reach_from}
 use Rattle.reach.specs.Kinds.{SomeOf, ReachOf}
 use Rattle.reach.proofs.Reaches.{lower-keeps, upper-keeps, some-pick, some-map, reach-pick, reach-sized}
 use Rattle.stock.proofs.Bins.{Sized, HeldList}
-use Rattle.polygon.specs.Polygon.{polygon_good, lowest_of, Span, extent_of, spans, lows_from, raised, high_from, low_in, high_in, skips, swept_reach, reach_over, polygon_reach, polygon_act}
+use Rattle.polygon.specs.declared.Span.{Span}
+use Rattle.polygon.specs.Polygon.{polygon_good, lowest_of, extent_of, spans, lows_from, raised, high_from, low_in, high_in, skips, swept_reach, reach_over, polygon_reach, polygon_act}
 use Rattle.polygon.proofs.First.{and_both}
 use Rattle.polygon.proofs.Sizes.{EndsOf, usable-within, clean-within, lowest-within, lows-within, extent-within}
 
@@ -55,8 +57,8 @@ wider x w = within-weaken (lit≤ tt) w
 -- the excess, of at most 2 ^ 20, makes a radius of at most 2 ^ 22 one of at most 2 ^ 23
 raised-within : (excess : Float) → Within binary64 20 excess → (a : Option Float) → SomeOf (Within binary64 22) a → SomeOf (Within binary64 23) (raised excess a)
 unfolding raised
-raised-within excess x none p = tt
-raised-within excess x (some y) p = within-add p x (lit< tt)
+raised-within excess x None p = tt
+raised-within excess x (Some y) p = within-add p x (lit< tt)
 
 module _ (ps : List Float) (excess : Float) (held : HeldList ps) (held-excess : T (fits binary64 excess)) (good : polygon_good ps excess ≡ true) (side : TurnSide) where
   ok : Accepted ps excess
@@ -75,8 +77,8 @@ module _ (ps : List Float) (excess : Float) (held : HeldList ps) (held-excess : 
       let x = clean-within (usable-within excess held-excess ok.excess-usable) in
       let high = raised (clean_of excess) (upper_of (lowest_of ps side b.za) (lowest_of ps side b.zb)) in
       let t = le e.lo b.za && le b.zb e.hi in
-      reach-pick (Sized 23) (skips b e.lo e.hi) passed (reach_from side (low_in ps side b e.lo e.hi) (high_in ps side (clean_of excess) b e.lo e.hi)) tt
-      (reach-sized side 23 (lows_from ps side b (lower_of start end)) (pick t high none) (some-map wider (lows_from ps side b (lower_of start end)) lows) (some-pick (Within binary64 23) t high none (raised-within (clean_of excess) x (upper_of (lowest_of ps side b.za) (lowest_of ps side b.zb)) ends) tt))
+      reach-pick (Sized 23) (skips b e.lo e.hi) Passed (reach_from side (low_in ps side b e.lo e.hi) (high_in ps side (clean_of excess) b e.lo e.hi)) tt
+      (reach-sized side 23 (lows_from ps side b (lower_of start end)) (pick t high None) (some-map wider (lows_from ps side b (lower_of start end)) lows) (some-pick (Within binary64 23) t high None (raised-within (clean_of excess) x (upper_of (lowest_of ps side b.za) (lowest_of ps side b.zb)) ends) tt))
 
   -- in a bin whose ends are finite, each number that the polygon reaches is at most 2 ^ 23 in size, and neither a NaN nor -0.0
   pub polygon-sized : (s : TurnStockSpec) (i : ℕ) → Finite binary64 (bin_of s i).za → Finite binary64 (bin_of s i).zb → ReachOf (Sized 23) ((polygon_act s side excess ps).at i)
@@ -84,5 +86,5 @@ module _ (ps : List Float) (excess : Float) (held : HeldList ps) (held-excess : 
   polygon-sized s i A B = go (extent_of ps) (extent-within ps held ok.points-usable)
     where
       go : (e : Option Span) → EndsOf (Within binary64 20) e → ReachOf (Sized 23) (reach_over s side (clean_of excess) ps i e)
-      go none p = tt
-      go (some e) p = reach-pick (Sized 23) (spans s e.lo e.hi i) (swept_reach side (clean_of excess) ps (bin_of s i) e) passed (swept-sized (bin_of s i) e A B (finite-within p.0) (finite-within p.1)) tt
+      go None p = tt
+      go (Some e) p = reach-pick (Sized 23) (spans s e.lo e.hi i) (swept_reach side (clean_of excess) ps (bin_of s i) e) Passed (swept-sized (bin_of s i) e A B (finite-within p.0) (finite-within p.1)) tt

@@ -1,8 +1,8 @@
 -- What a polygon reaches in a bin, by what a walk over the bins finds there. Assumes nothing.
+use Rattle.std.specs.Prelude.{Option, None, Some}
 use mathlib.Core.Path.{◌≡◌, refl, sym, ap, ap₂, ◌∙◌, subst}
 use mathlib.Core.Bool.{Bool, true, false, ◌&&◌, ◌||◌}
 use mathlib.Core.List.{List}
-use mathlib.Core.Option.{Option, none, some}
 use Prim.Native.Nat.{ℕ, ◌/◌}
 use lib.Dec.{T}
 use lib.ListN.{length}
@@ -16,11 +16,12 @@ use Rattle.stock.specs.declared.TurnStockSpec.{TurnStockSpec}
 use Rattle.stock.specs.declared.TurnSide.{TurnSide}
 use Rattle.stock.specs.declared.ZRange.{ZRange}
 use Rattle.stock.specs.Bin.{bin_of}
-use Rattle.reach.specs.declared.Low.{Low}
-use Rattle.reach.specs.Low.{low_paper, lower_of, upper_of}
-use Rattle.reach.specs.Reach.{passed, reach_from}
+use Rattle.reach.specs.Low.{lower_of, upper_of}
+use Rattle.reach.specs.declared.Reach.TheVariants.{Passed}
+use Rattle.reach.specs.Reach.{reach_from}
 use Rattle.reach.specs.declared.Swept.{Swept}
-use Rattle.polygon.specs.Polygon.{lowest_to, lowest_of, Span, extent_of, spans, lows_from, raised, high_from, Sweeps, low_in, high_in, skips, swept_reach, reach_over, polygon_reach, polygon_act}
+use Rattle.polygon.specs.declared.Span.{Span}
+use Rattle.polygon.specs.Polygon.{lowest_to, lowest_of, extent_of, spans, lows_from, raised, high_from, Sweeps, low_in, high_in, skips, swept_reach, reach_over, polygon_reach, polygon_act}
 use Rattle.polygon.proofs.First.{and_both, greatest-first, least_first}
 
 -- ---- samples
@@ -46,7 +47,7 @@ same-sample ps side z w hz hw e = ap (λ (x : Float). lowest_to ps side (length 
 
 -- where lo..hi covers the bin, the samples at the ends brought into lo..hi are those at the ends
 module _ (ps : List Float) (side : TurnSide) (b : ZRange) (lo hi : Float) where
-  covered : (excess : Float) (t : Bool) → (le lo b.za && le b.zb hi) ≡ t → pick t (raised excess (upper_of (lowest_of ps side (greatest_of b.za lo)) (lowest_of ps side (least_of b.zb hi)))) none ≡ pick t (raised excess (upper_of (lowest_of ps side b.za) (lowest_of ps side b.zb))) none
+  covered : (excess : Float) (t : Bool) → (le lo b.za && le b.zb hi) ≡ t → pick t (raised excess (upper_of (lowest_of ps side (greatest_of b.za lo)) (lowest_of ps side (least_of b.zb hi)))) None ≡ pick t (raised excess (upper_of (lowest_of ps side b.za) (lowest_of ps side b.zb))) None
   unfolding pick
   covered excess true e =
       let t = and_both (le lo b.za) (le b.zb hi) e in
@@ -61,13 +62,13 @@ module _ (ps : List Float) (side : TurnSide) (b : ZRange) (lo hi : Float) where
 -- ---- bin by bin
 module _ (s : TurnStockSpec) (side : TurnSide) (excess : Float) (ps : List Float) (i : ℕ) where
   -- no points
-  pub reach-nothing : extent_of ps ≡ none → polygon_reach s side excess ps i ≡ passed
+  pub reach-nothing : extent_of ps ≡ None → polygon_reach s side excess ps i ≡ Passed
   unfolding polygon_reach reach_over
   reach-nothing h = rw h
 
-  module _ (e : Span) (h : extent_of ps ≡ some e) where
+  module _ (e : Span) (h : extent_of ps ≡ Some e) where
     -- a bin that is not visited
-    pub reach-unspanned : spans s e.lo e.hi i ≡ false → polygon_reach s side excess ps i ≡ passed
+    pub reach-unspanned : spans s e.lo e.hi i ≡ false → polygon_reach s side excess ps i ≡ Passed
     unfolding polygon_reach reach_over
     reach-unspanned n = ap (reach_over s side excess ps i) h ∙ pick-false _ _ _ n
 
@@ -76,24 +77,24 @@ module _ (s : TurnStockSpec) (side : TurnSide) (excess : Float) (ps : List Float
     visited v = ap (reach_over s side excess ps i) h ∙ pick_true _ _ _ v
 
     -- a bin that is skipped
-    pub reach-skipped : skips (bin_of s i) e.lo e.hi ≡ true → polygon_reach s side excess ps i ≡ passed
+    pub reach-skipped : skips (bin_of s i) e.lo e.hi ≡ true → polygon_reach s side excess ps i ≡ Passed
     unfolding polygon_reach reach_over swept_reach pick
     reach-skipped k = ap (reach_over s side excess ps i) h ∙ go (spans s e.lo e.hi i)
       where
-        go : (t : Bool) → pick t (swept_reach side excess ps (bin_of s i) e) passed ≡ passed
+        go : (t : Bool) → pick t (swept_reach side excess ps (bin_of s i) e) Passed ≡ Passed
         go true = pick_true _ _ _ k
         go false = refl
 
     -- any other, by the samples at its ends and what `swept_in` answers of them
-    pub reach-swept : spans s e.lo e.hi i ≡ true → skips (bin_of s i) e.lo e.hi ≡ false → (start end : Low) (r : Swept)
-        → low_paper start ≡ lowest_of ps side (greatest_of (bin_of s i).za e.lo) → low_paper end ≡ lowest_of ps side (least_of (bin_of s i).zb e.hi)
+    pub reach-swept : spans s e.lo e.hi i ≡ true → skips (bin_of s i) e.lo e.hi ≡ false → (start end : Option Float) (r : Swept)
+        → start ≡ lowest_of ps side (greatest_of (bin_of s i).za e.lo) → end ≡ lowest_of ps side (least_of (bin_of s i).zb e.hi)
         → Sweeps ps side excess (bin_of s i) e.lo e.hi start end r
-        → reach_from side (low_paper r.low) (low_paper r.high) ≡ polygon_reach s side excess ps i
+        → reach_from side (r.low) (r.high) ≡ polygon_reach s side excess ps i
     unfolding swept_reach low_in
     reach-swept v k start end r a z w =
         let b = bin_of s i in
-        let low : low_paper r.low ≡ low_in ps side b e.lo e.hi = w.low ∙ ap₂ (λ (x y : Option Float). lows_from ps side b (lower_of x y)) a z in
-        let high : low_paper r.high ≡ high_in ps side excess b e.lo e.hi = w.high ∙ ap₂ (high_from excess b e.lo e.hi) a z ∙ high-samples ps side b e.lo e.hi excess in
+        let low : r.low ≡ low_in ps side b e.lo e.hi = w.low ∙ ap₂ (λ (x y : Option Float). lows_from ps side b (lower_of x y)) a z in
+        let high : r.high ≡ high_in ps side excess b e.lo e.hi = w.high ∙ ap₂ (high_from excess b e.lo e.hi) a z ∙ high-samples ps side b e.lo e.hi excess in
         ap₂ (reach_from side) low high ∙ sym (visited v ∙ pick-false _ _ _ k)
 
 -- ---- the cut

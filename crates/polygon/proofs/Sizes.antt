@@ -1,9 +1,9 @@
 -- How large the radii of a polygon's edges are, and that they are numbers: those of a polygon that is not refused are at most 2 ^ 20 in size, and what is read off its edges
 -- at most 2 ^ 22. Assumes nothing.
+use Rattle.std.specs.Prelude.{Option, None, Some}
 use mathlib.Core.Path.{◌≡◌, refl, sym, subst}
 use mathlib.Core.Bool.{Bool, true, false, not, ◌||◌}
 use mathlib.Core.List.{List}
-use mathlib.Core.Option.{Option, none, some}
 use Prim.Native.Nat.{ℕ, zero, suc, ◌+◌, ◌*◌, ◌/◌, ◌%◌, ◌≤◌, ◌<◌, zero-le}
 use native.Mathlib.Nat.{mod-lt}
 use native.Mathlib.Omega.{arith}
@@ -26,20 +26,21 @@ use Rattle.stock.specs.declared.TurnSide.TheVariants.{Outer, Inner}
 use Rattle.stock.specs.declared.ZRange.{ZRange}
 use Rattle.stock.specs.Cell.{number_at}
 use Rattle.stock.proofs.Bins.{HeldList}
-use Rattle.reach.specs.Low.{lower_of, upper_of}
+use Rattle.reach.specs.Low.{lower_of}
 use Rattle.reach.specs.Kinds.{SomeOf}
 use Rattle.reach.proofs.Reaches.{lower-keeps, some-pick}
 use Rattle.reach.specs.Reach.{flipped}
 use Rattle.polygon.specs.declared.Point.{Point}
-use Rattle.polygon.specs.Polygon.{height_at, point_at, along_of, edge_at, lowest_to, lowest_of, Span, widened, extent_to, extent_of, inside, lows_to, lows_from}
+use Rattle.polygon.specs.declared.Span.{Span}
+use Rattle.polygon.specs.Polygon.{height_at, point_at, along_of, edge_at, lowest_to, lowest_of, widened, extent_to, extent_of, inside, lows_to, lows_from}
 use Rattle.polygon.proofs.First.{and_both}
 
 -- ---- kinds of what may be missing
 
 -- P holds of both ends, where there are some
 abbrev pub EndsOf : (Float → Type 0) → Option Span → Type 0
-EndsOf P none = Unit {0}
-EndsOf P (some e) = P e.lo × P e.hi
+EndsOf P None = Unit {0}
+EndsOf P (Some e) = P e.lo × P e.hi
 
 -- ---- an edge
 
@@ -72,7 +73,7 @@ module _ {k : ℕ} (small : suc k < emax binary64) {p q : Point} (P : PointWithi
   unfolding edge_at pick
   edge-within z f = go (lt z (least_of p.z q.z)) (lt (greatest_of p.z q.z) z) (λ t. nlt→le (least-number (number-within P.z) (number-within Q.z)) (number-finite f) t) (λ t. nlt→le (number-finite f) (greatest-number (number-within P.z) (number-within Q.z)) t)
     where
-      go : (a b : Bool) → (T (not a) → T (le (least_of p.z q.z) z)) → (T (not b) → T (le z (greatest_of p.z q.z))) → SomeOf (Within binary64 (suc (suc k))) (pick (a || b) none (some (along_of p q z)))
+      go : (a b : Bool) → (T (not a) → T (le (least_of p.z q.z) z)) → (T (not b) → T (le z (greatest_of p.z q.z))) → SomeOf (Within binary64 (suc (suc k))) (pick (a || b) None (Some (along_of p q z)))
       go true b l h = tt
       go false true l h = tt
       go false false l h = along-within z f (l tt) (h tt)
@@ -109,10 +110,10 @@ flipped-within Outer w = w
 flipped-within Inner w = within-neg w
 
 -- one z more leaves the ends of an extent as small
-widen : (e : Option Span) (z : Float) → EndsOf (Within binary64 20) e → Within binary64 20 z → EndsOf (Within binary64 20) (some (widened e z))
+widen : (e : Option Span) (z : Float) → EndsOf (Within binary64 20) e → Within binary64 20 z → EndsOf (Within binary64 20) (Some (widened e z))
 unfolding widened
-widen none z p w = (w, w)
-widen (some e) z p w = (least-keeps (Within binary64 20) p.0 w, greatest-keeps (Within binary64 20) p.1 w)
+widen None z p w = (w, w)
+widen (Some e) z p w = (least-keeps (Within binary64 20) p.0 w, greatest-keeps (Within binary64 20) p.1 w)
 
 module _ (ps : List Float) (held : HeldList ps) (good : usable_to ps (length ps) ≡ true) where
   number-at : (k : ℕ) → k < length ps → Within binary64 20 (clean_of (number_at ps k))

@@ -1,9 +1,9 @@
 -- One turn of each loop over points. Assumes nothing.
+use Rattle.std.specs.Prelude.{Option, None, Some}
 use mathlib.Core.Path.{◌≡◌, refl, sym, ap, ◌∙◌}
 use mathlib.Core.Bool.{true, ◌&&◌}
 use mathlib.Core.List.{List}
-use mathlib.Core.Option.{Option, none, some}
-use Prim.Native.Nat.{ℕ, ◌+◌, ◌-◌, ◌%◌, ◌<◌}
+use Prim.Native.Nat.{ℕ, ◌+◌, ◌%◌, ◌<◌}
 use native.Mathlib.Nat.{mod-eq_of_lt, mod_self}
 use native.Mathlib.Numerals.{add-one}
 use lib.Ieee.{Float}
@@ -21,7 +21,7 @@ unfolding usable_to all_to
 usable-more ps i = ap (usable_to ps) (add-one i)
 
 -- one point more of the extent
-pub extent-more : (ps : List Float) (i : ℕ) → extent_to ps (i + 1) ≡ some (widened (extent_to ps i) (height_at ps i))
+pub extent-more : (ps : List Float) (i : ℕ) → extent_to ps (i + 1) ≡ Some (widened (extent_to ps i) (height_at ps i))
 unfolding extent_to
 extent-more ps i = ap (extent_to ps) (add-one i)
 
@@ -31,10 +31,10 @@ unfolding lows_to
 lows-more ps side b start i = ap (lows_to ps side b start) (add-one i)
 
 -- with nothing beside it a low stays
-lower-none : (a : Option Float) → lower_of a none ≡ a
+lower-none : (a : Option Float) → lower_of a None ≡ a
 unfolding lower_of
-lower-none none = refl
-lower-none (some x) = refl
+lower-none None = refl
+lower-none (Some x) = refl
 
 module _ (ps : List Float) (side : TurnSide) (n : ℕ) (z : Float) where
   -- the edge from point i to where it ends

@@ -1,6 +1,5 @@
 -- What a convex polygon in (z, r) reaches in a bin. Its points are z, r, z, r, .. in the order around it. Assumes nothing.
-use Rattle.std.specs.Prelude.{◌≡◌, Bool, true, not, ◌&&◌, ◌||◌, List, ℕ, zero, suc, ◌+◌, ◌*◌, ◌/◌, ◌%◌, min, leb, eqb, length, Float}
-use Rattle.std.proofs.Math.Option.{Option, none, some}
+use Rattle.std.specs.Prelude.{◌≡◌, Bool, not, ◌&&◌, ◌||◌, List, ℕ, zero, suc, ◌+◌, ◌*◌, ◌/◌, ◌%◌, min, leb, eqb, length, Float, Option, None, Some}
 use Rattle.std.specs.Float.Ieee.{lt, le, eq}
 use Rattle.refusals.specs.Limits.{point_limit}
 use Rattle.floats.specs.Pick.{pick}
@@ -11,13 +10,13 @@ use Rattle.stock.specs.declared.TurnSide.{TurnSide}
 use Rattle.stock.specs.declared.ZRange.{ZRange}
 use Rattle.stock.specs.Bin.{bin_of}
 use Rattle.stock.specs.Cell.{number_at}
-use Rattle.reach.specs.declared.Low.{Low}
 use Rattle.reach.specs.declared.Swept.{Swept}
-use Rattle.reach.specs.Low.{low_paper, lower_of, upper_of}
-use Rattle.reach.specs.Reach.{Reached, passed, flipped, reach_from, Act}
+use Rattle.reach.specs.Low.{lower_of, upper_of}
+use Rattle.reach.specs.declared.Reach.{Reach}
+use Rattle.reach.specs.declared.Reach.TheVariants.{Passed}
+use Rattle.reach.specs.Reach.{flipped, reach_from, Act}
 use Rattle.polygon.specs.declared.Point.{Point}
-use Rattle.polygon.specs.declared.Extent.{Extent}
-use Rattle.polygon.specs.declared.Extent.TheVariants.{Over, Nothing}
+use Rattle.polygon.specs.declared.Span.{Span}
 use Rattle.stock.specs.declared.BinRange.{BinRange}
 
 -- ---- refusal 5
@@ -46,11 +45,11 @@ beside_of a b z = lt z (least_of a b) || lt (greatest_of a b) z
 
 -- the radius of the edge from p to q at z; none beside it
 unfoldable pub edge_at : Point → Point → Float → Option Float
-edge_at p q z = pick (beside_of p.z q.z z) none (some (along_of p q z))
+edge_at p q z = pick (beside_of p.z q.z z) None (Some (along_of p q z))
 
 -- the lowest at z of the first k edges of n points: edge i goes from point i to the next, the last back to point 0
 unfoldable pub lowest_to : List Float → TurnSide → ℕ → Float → ℕ → Option Float
-lowest_to ps side n z zero = none
+lowest_to ps side n z zero = None
 lowest_to ps side n z (suc i) = lower_of (lowest_to ps side n z i) (edge_at (point_at ps side i) (point_at ps side ((i + 1) % n)) z)
 
 -- the lowest at z of all edges; -0.0 is read as +0.0
@@ -59,29 +58,19 @@ lowest_of ps side z = lowest_to ps side (length ps / 2) (clean_of z) (length ps 
 
 -- ---- the extent along z
 
--- the least and the greatest z
-pub record Span : Type 0 where
-  pub lo : Float
-  pub hi : Float
-
 -- the extent with one z more
 unfoldable pub widened : Option Span → Float → Span
-widened none z = record { lo = z; hi = z }
-widened (some e) z = record { lo = least_of e.lo z; hi = greatest_of e.hi z }
+widened None z = record { lo = z; hi = z }
+widened (Some e) z = record { lo = least_of e.lo z; hi = greatest_of e.hi z }
 
 -- the extent of the first k points
 unfoldable pub extent_to : List Float → ℕ → Option Span
-extent_to ps zero = none
-extent_to ps (suc i) = some (widened (extent_to ps i) (height_at ps i))
+extent_to ps zero = None
+extent_to ps (suc i) = Some (widened (extent_to ps i) (height_at ps i))
 
 -- the extent of all points; none where there are none
 unfoldable pub extent_of : List Float → Option Span
 extent_of ps = extent_to ps (length ps / 2)
-
--- what the answer of `extent_of` says, case by case
-unfoldable pub extent_paper : Extent → Option Span
-extent_paper (Over lo hi) = some (record { lo = lo; hi = hi })
-extent_paper Nothing = none
 
 -- ---- which bins are visited
 
@@ -130,17 +119,17 @@ lows_from ps side b start = lows_to ps side b start (length ps / 2)
 
 -- a radius with the excess
 unfoldable pub raised : Float → Option Float → Option Float
-raised excess none = none
-raised excess (some x) = some (x +₆₄ excess)
+raised excess None = None
+raised excess (Some x) = Some (x +₆₄ excess)
 
 -- the higher of two ends with the excess, where lo..hi covers the bin
 unfoldable pub high_from : Float → ZRange → Float → Float → Option Float → Option Float → Option Float
-high_from excess b lo hi start end = pick (le lo b.za && le b.zb hi) (raised excess (upper_of start end)) none
+high_from excess b lo hi start end = pick (le lo b.za && le b.zb hi) (raised excess (upper_of start end)) None
 
 -- what `swept_in` answers, of the lowest at the two ends
-pub record Sweeps (ps : List Float) (side : TurnSide) (excess : Float) (b : ZRange) (lo hi : Float) (start end : Low) (r : Swept) : Type 0 where
-  pub low : low_paper r.low ≡ lows_from ps side b (lower_of (low_paper start) (low_paper end))
-  pub high : low_paper r.high ≡ high_from excess b lo hi (low_paper start) (low_paper end)
+pub record Sweeps (ps : List Float) (side : TurnSide) (excess : Float) (b : ZRange) (lo hi : Float) (start end : Option Float) (r : Swept) : Type 0 where
+  pub low : r.low ≡ lows_from ps side b (lower_of start end)
+  pub high : r.high ≡ high_from excess b lo hi start end
 
 -- the lowest over a bin: at its ends, brought into lo..hi, and at each vertex between them
 unfoldable pub low_in : List Float → TurnSide → ZRange → Float → Float → Option Float
@@ -155,16 +144,16 @@ abbrev pub skips : ZRange → Float → Float → Bool
 skips b lo hi = le b.zb lo || le hi b.za
 
 -- what a polygon from lo to hi reaches in a bin that is visited
-unfoldable pub swept_reach : TurnSide → Float → List Float → ZRange → Span → Reached
-swept_reach side excess ps b e = pick (skips b e.lo e.hi) passed (reach_from side (low_in ps side b e.lo e.hi) (high_in ps side excess b e.lo e.hi))
+unfoldable pub swept_reach : TurnSide → Float → List Float → ZRange → Span → Reach
+swept_reach side excess ps b e = pick (skips b e.lo e.hi) Passed (reach_from side (low_in ps side b e.lo e.hi) (high_in ps side excess b e.lo e.hi))
 
 -- the same in bin i, where it is visited; no points reach nothing
-unfoldable pub reach_over : TurnStockSpec → TurnSide → Float → List Float → ℕ → Option Span → Reached
-reach_over s side excess ps i none = passed
-reach_over s side excess ps i (some e) = pick (spans s e.lo e.hi i) (swept_reach side excess ps (bin_of s i) e) passed
+unfoldable pub reach_over : TurnStockSpec → TurnSide → Float → List Float → ℕ → Option Span → Reach
+reach_over s side excess ps i None = Passed
+reach_over s side excess ps i (Some e) = pick (spans s e.lo e.hi i) (swept_reach side excess ps (bin_of s i) e) Passed
 
 -- what a polygon reaches in bin i
-unfoldable pub polygon_reach : TurnStockSpec → TurnSide → Float → List Float → ℕ → Reached
+unfoldable pub polygon_reach : TurnStockSpec → TurnSide → Float → List Float → ℕ → Reach
 polygon_reach s side excess ps i = reach_over s side excess ps i (extent_of ps)
 
 -- a polygon cut, in a spec whose numbers are checked

@@ -5,22 +5,22 @@
 // sides. Over a bin that boundary is convex: it is lowest at a vertex or at an end, and highest at
 // an end. What lies beyond the lowest may be gone; where the polygon spans the whole bin, what lies
 // beyond the highest and the excess is certainly gone.
-#![tactic(auto)]
+#![tactic(auto, using(floats::specs::Pick::picks), unfolding(crate::specs::Polygon::edge_at, crate::specs::Polygon::along_of, crate::specs::Polygon::height_at, crate::specs::Polygon::high_from, crate::specs::Polygon::raised, crate::specs::Polygon::point_at))]
 
 ghost use Rattle.std.specs.Prelude.{◌≡◌, ◌+◌, ◌*◌, ◌≤◌, length};
 ghost use Rattle.floats.specs.Numbers.{usable_to};
-ghost use Rattle.reach.specs.Low.{low_paper, lower_of};
-ghost use Rattle.polygon.specs.Polygon.{height_at, point_at, beside_of, edge_at, lowest_of, extent_of, extent_paper, lows_from, high_from, Sweeps, past_of, bins_of, polygon_good};
+ghost use Rattle.reach.specs.Low.{lower_of};
+ghost use Rattle.polygon.specs.Polygon.{height_at, point_at, beside_of, edge_at, lowest_of, extent_of, lows_from, high_from, Sweeps, past_of, bins_of, polygon_good};
 
-use reach::{Low, Swept};
+use reach::Swept;
 use refusals::POINT_LIMIT;
 use stock::{BinRange, TurnSide, TurnStockSpec, ZRange};
 
 // The least and the greatest z of the points.
 #[derive(Clone, Copy)]
-pub enum Extent {
-    Over(f64, f64),
-    Nothing,
+pub struct Span {
+    pub lo: f64,
+    pub hi: f64,
 }
 
 // A point, its radius negated for the inside.
@@ -58,23 +58,30 @@ fn is_beside(a: f64, b: f64, z: f64) -> bool
 }
 
 // The radius of the edge from p to q at z, if z is not beside it.
-fn edge_at(p: Point, q: Point, z: f64) -> Low
-    ensures { low_paper result ≡ edge_at p q z }
+fn edge_at(p: Point, q: Point, z: f64) -> Option<f64>
+    ensures { result ≡ edge_at p q z }
 {
     if is_beside(p.z, q.z, z) {
-        return Low::Nowhere;
+        return None;
     }
     if q.z == p.z {
-        return Low::At(floats::least(p.r, q.r));
+        return Some(floats::least(p.r, q.r));
     }
     let share = (z - p.z) / (q.z - p.z);
-    Low::At(p.r + share * (q.r - p.r))
+    Some(p.r + share * (q.r - p.r))
 }
 
 // The lower of a start and the edge from point i to point j at z.
-fn lower_at(points: &[f64], side: TurnSide, i: usize, j: usize, z: f64, start: Low) -> Low
+fn lower_at(
+    points: &[f64],
+    side: TurnSide,
+    i: usize,
+    j: usize,
+    z: f64,
+    start: Option<f64>,
+) -> Option<f64>
     requires { (2 * i + 2 ≤ length points.now) × (2 * j + 2 ≤ length points.now) }
-    ensures { low_paper result ≡ lower_of (low_paper start) (edge_at (point_at points.now side i) (point_at points.now side j) z) }
+    ensures { result ≡ lower_of start (edge_at (point_at points.now side i) (point_at points.now side j) z) }
 {
     let p = point_at(points, side, i);
     let q = point_at(points, side, j);
@@ -82,48 +89,44 @@ fn lower_at(points: &[f64], side: TurnSide, i: usize, j: usize, z: f64, start: L
 }
 
 // The lowest radius at z over all edges. Of an edge that z lies beside only the heights are read.
-pub fn lowest(points: &[f64], side: TurnSide, z: f64) -> Low
-    ensures { low_paper result ≡ lowest_of points.now side z }
+pub fn lowest(points: &[f64], side: TurnSide, z: f64) -> Option<f64>
+    ensures { result ≡ lowest_of points.now side z }
 {
     let n = points.len() / 2;
     if n == 0 {
-        return Low::Nowhere;
+        return None;
     }
     let at = floats::clean(z);
     let last = n - 1;
     let mut a = height_at(points, 0);
-    let mut low = Low::Nowhere;
-    let mut i: usize = 0;
-    while i < last {
+    let mut low = None;
+    for i in 0..last {
         let b = height_at(points, i + 1);
         if !is_beside(a, b, at) {
             low = lower_at(points, side, i, i + 1, at, low);
         }
         a = b;
-        i += 1;
     }
-    lower_at(points, side, i, 0, at, low)
+    lower_at(points, side, last, 0, at, low)
 }
 
 // The least and the greatest z.
-pub fn extent_of(points: &[f64]) -> Extent
-    ensures { extent_paper result ≡ extent_of points.now }
+pub fn extent_of(points: &[f64]) -> Option<Span>
+    ensures { result ≡ extent_of points.now }
 {
     let n = points.len() / 2;
     if n == 0 {
-        return Extent::Nothing;
+        return None;
     }
     let first = height_at(points, 0);
     let mut lo = first;
     let mut hi = first;
-    let mut i: usize = 1;
-    while i < n {
+    for i in 1..n {
         let z = height_at(points, i);
         lo = floats::least(lo, z);
         hi = floats::greatest(hi, z);
-        i += 1;
     }
-    Extent::Over(lo, hi)
+    Some(Span { lo, hi })
 }
 
 // One past the last bin, which is n - 1 at most.
@@ -154,36 +157,38 @@ pub fn index_range(s: TurnStockSpec, lo: f64, hi: f64, n: usize) -> BinRange
 }
 
 // The lower of a start and the lowest at each vertex that lies strictly between the ends of a bin.
-fn lows_from(points: &[f64], side: TurnSide, bin: ZRange, start: Low) -> Low
-    ensures { low_paper result ≡ lows_from points.now side bin (low_paper start) }
+fn lows_from(points: &[f64], side: TurnSide, bin: ZRange, start: Option<f64>) -> Option<f64>
+    ensures { result ≡ lows_from points.now side bin start }
 {
     let za = bin.za;
     let zb = bin.zb;
     let n = points.len() / 2;
     let mut low = start;
-    let mut i: usize = 0;
-    while i < n {
+    for i in 0..n {
         let z = height_at(points, i);
         if (za < z) & (z < zb) {
             low = reach::lower(low, lowest(points, side, z));
         }
-        i += 1;
     }
     low
 }
 
 // The higher of two ends with the excess, where lo..hi covers the bin.
-fn high_from(excess: f64, bin: ZRange, lo: f64, hi: f64, start: Low, end: Low) -> Low
-    ensures { low_paper result ≡ high_from excess bin lo hi (low_paper start) (low_paper end) }
+fn high_from(
+    excess: f64,
+    bin: ZRange,
+    lo: f64,
+    hi: f64,
+    start: Option<f64>,
+    end: Option<f64>,
+) -> Option<f64>
+    ensures { result ≡ high_from excess bin lo hi start end }
 {
     if (lo <= bin.za) & (bin.zb <= hi) {
-        let found = reach::upper(start, end);
-        let Low::At(x) = found else {
-            return Low::Nowhere;
-        };
-        return Low::At(x + excess);
+        let x = reach::upper(start, end)?;
+        return Some(x + excess);
     }
-    Low::Nowhere
+    None
 }
 
 // What a polygon from lo to hi reaches in a bin. `start` is its lowest at the greater of za and lo,
@@ -195,8 +200,8 @@ pub fn swept_in(
     bin: ZRange,
     lo: f64,
     hi: f64,
-    start: Low,
-    end: Low,
+    start: Option<f64>,
+    end: Option<f64>,
 ) -> Swept
     ensures { Sweeps points.now side excess bin lo hi start end result }
 {
@@ -210,10 +215,8 @@ fn all_usable(points: &[f64]) -> bool
     ensures { result ≡ usable_to points.now (length points.now) }
 {
     let mut ok = true;
-    let mut i: usize = 0;
-    while i < points.len() {
-        ok = ok & floats::is_usable(points[i]);
-        i += 1;
+    for x in points {
+        ok = ok & floats::is_usable(*x);
     }
     ok
 }

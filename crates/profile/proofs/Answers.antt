@@ -1,8 +1,8 @@
 -- What is written stands over the beginning of the lent numbers, and the promise of `segments`, return by return. Assumes nothing.
+use Rattle.std.specs.Prelude.{Option, None, Some, Err, Ok}
 use mathlib.Core.Path.{◌≡◌, refl, sym, ap, ◌∙◌, subst}
 use mathlib.Core.Bool.{Bool, true, false, ◌&&◌}
 use mathlib.Core.List.{List, [], ◌∷◌, ◌++◌}
-use mathlib.Core.Option.{Option, none, some}
 use Prim.Native.Nat.{ℕ, suc, ◌+◌, ◌-◌, ◌*◌, ◌/◌, ◌≤◌, ◌<◌}
 use native.Mathlib.Omega.{arith}
 use borrow.Author.Tests.{leb-false, le-leb, lt-leb}
@@ -15,13 +15,10 @@ use Rattle.refusals.specs.Limits.{profile_limit}
 use Rattle.refusals.specs.Lent.{over}
 use Rattle.floats.specs.Pick.{pick-false}
 use Rattle.floats.specs.Numbers.{zero64, clean_of, usable}
-use Rattle.profile.specs.declared.Placed.{Placed}
-use Rattle.profile.specs.declared.Placed.TheVariants.{To, Over}
-use Rattle.profile.specs.declared.Chopped.TheVariants.{Chords, Refused}
 use Rattle.refusals.specs.declared.Refusal.TheVariants.{ProfileOutside, ChordsOutgrow}
 use Rattle.refusals.specs.Paper.{Paper, answers, refuses, only, demand-true, demand-false}
 use Rattle.profile.specs.Profile.{point_count, good_to, apart_to, profile_good}
-use Rattle.profile.specs.Chords.{Chord, chords_to, profile_chords, flat_of, room_for, segments_of, written_of, count_of, Segmented, put_chord, put_all, placed_paper, placed, Chops}
+use Rattle.profile.specs.Chords.{Chord, chords_to, profile_chords, flat_of, room_for, segments_of, written_of, count_of, Segmented, put_chord, put_all, placed, Chops}
 use Rattle.profile.proofs.Halves.{placed-says, no_test}
 
 -- ---- what is written
@@ -96,7 +93,7 @@ module _ (xs : List Float) (tol : Float) (bs : List Float) where
   room = length bs / 5
 
   -- 17
-  pub says-profile : (t : Bool) → t ≡ profile_good xs tol → t ≡ false → Segmented xs tol (Refused ProfileOutside) bs bs
+  pub says-profile : (t : Bool) → t ≡ profile_good xs tol → t ≡ false → Segmented xs tol (Err ProfileOutside) bs bs
   unfolding count_of written_of flat_of over
   says-profile t e f =
       let s : segments_of xs tol room ≡ refuses (only 17) = unfold segments_of in demand-false _ _ _ (sym e ∙ f) in
@@ -111,30 +108,30 @@ module _ (xs : List Float) (tol : Float) (bs : List Float) where
         ∙ ap (λ (k : ℕ). room_for room (chords_to xs fine k)) (sym w)
         ∙ ap (room_for room) (sym h)
 
-    no_room : (p : Option (List Chord)) → placed room 0 p ≡ none → room_for room p ≡ refuses (only 18)
+    no_room : (p : Option (List Chord)) → placed room 0 p ≡ None → room_for room p ≡ refuses (only 18)
     unfolding placed room_for
-    no_room none h = refl
-    no_room (some l) h =
+    no_room None h = refl
+    no_room (Some l) h =
         let past = leb-false (0 + length l) room (no_test (leb (0 + length l) room) (0 + length l) h) in
         demand-false _ _ _ (lt-leb (length l) room (omega (arith, past)))
 
     -- 18
-    pub says-outgrow : {us vs : List Float} {r : Placed} → r ≡ Over → Chops (chords_to xs fine m) room 0 r us vs → Segmented xs tol (Refused ChordsOutgrow) bs bs
-    unfolding count_of written_of flat_of over placed_paper
+    pub says-outgrow : {us vs : List Float} {r : (Option ℕ)} → r ≡ None → Chops (chords_to xs fine m) room 0 r us vs → Segmented xs tol (Err ChordsOutgrow) bs bs
+    unfolding count_of written_of flat_of over
     says-outgrow {r = r} o c =
-        let s : segments_of xs tol room ≡ refuses (only 18) = is (chords_to xs fine m) refl ∙ no_room (chords_to xs fine m) (sym c.answer ∙ ap placed_paper o) in
+        let s : segments_of xs tol room ≡ refuses (only 18) = is (chords_to xs fine m) refl ∙ no_room (chords_to xs fine m) (sym c.answer ∙ o) in
         record { answer = ap count_of (sym s); out = ap (λ (a : Paper (List Chord)). over (flat_of (written_of a)) bs) (sym s) }
 
     -- the chords
-    pub says-chords : {us vs ws : List Float} {r q : Placed} (n : ℕ) → r ≡ To n → Chops (chords_to xs fine m) room 0 r us vs → Chops (chords_to xs fine m) room 0 q bs ws → Segmented xs tol (Chords n) bs ws
-    unfolding count_of written_of placed_paper room_for
+    pub says-chords : {us vs ws : List Float} {r q : (Option ℕ)} (n : ℕ) → r ≡ Some n → Chops (chords_to xs fine m) room 0 r us vs → Chops (chords_to xs fine m) room 0 q bs ws → Segmented xs tol (Ok n) bs ws
+    unfolding count_of written_of room_for
     says-chords {ws = ws} {r = r} {q = q} n o c d =
-        let to : placed room 0 (chords_to xs fine m) ≡ some n = sym c.answer ∙ ap placed_paper o in
+        let to : placed room 0 (chords_to xs fine m) ≡ Some n = sym c.answer ∙ o in
         let at = placed-says room 0 n (chords_to xs fine m) to in
         let l = at.chords in
         let long : length l ≤ room = let a = at.to in let b = at.fits in omega (arith, a, b) in
         let same : n ≡ length l = let a = at.to in omega (arith, a) in
-        let s : segments_of xs tol room ≡ answers l = is (some l) (sym at.are) ∙ demand-true _ _ _ (le-leb (length l) room long) in
+        let s : segments_of xs tol room ≡ answers l = is (Some l) (sym at.are) ∙ demand-true _ _ _ (le-leb (length l) room long) in
         record {
           answer = ap (λ (k : ℕ). answers k) same ∙ ap count_of (sym s);
           out = d.out n (d.answer ∙ to) l at.are ∙ put-over bs l long ∙ ap (λ (a : Paper (List Chord)). over (flat_of (written_of a)) bs) (sym s);

@@ -1,9 +1,9 @@
 -- The laws of an accepted profile, as its caller reads them off the lent numbers: chords that join by equal bits, begin and end where the profile does, are one to 1,024 a segment,
 -- finite, and stray by no more than the tolerance. And that the promise leaves one outcome. Assumes nothing.
+use Rattle.std.specs.Prelude.{Option, None, Some, Err, Ok, Result}
 use mathlib.Core.Path.{◌≡◌, refl, sym, ap, ◌∙◌, subst}
 use mathlib.Core.Bool.{Bool, true, false, ◌&&◌}
 use mathlib.Core.List.{List, [], ◌∷◌, ◌++◌}
-use mathlib.Core.Option.{Option, none, some}
 use Prim.Native.Nat.{ℕ, zero, suc, ◌+◌, ◌-◌, ◌*◌, ◌/◌, ◌≤◌, ◌<◌}
 use native.Mathlib.Numerals.{add-one}
 use native.Mathlib.Omega.{arith}
@@ -20,14 +20,12 @@ use Rattle.floats.specs.Each.{Each}
 use Rattle.floats.specs.Numbers.{zero64, clean_of, usable}
 use Rattle.floats.specs.Kinds.{Within}
 use Rattle.profile.specs.declared.Point.{Point}
-use Rattle.profile.specs.declared.Chopped.{Chopped}
-use Rattle.profile.specs.declared.Chopped.TheVariants.{Chords, Refused}
 use Rattle.refusals.specs.declared.Refusal.{Refusal}
-use Rattle.refusals.specs.Number.{reason_of}
+use Rattle.refusals.specs.Number.{reason_of, paper_of}
 use Rattle.refusals.specs.Paper.{Paper, Reason, answers, refuses, only, demand}
 use Rattle.refusals.proofs.OneToOne.{one-reason}
 use Rattle.profile.specs.Profile.{clean_at, point_at, point_count, good_to, apart_to, profile_good}
-use Rattle.profile.specs.Chords.{Chord, chords_to, profile_chords, flat_of, room_for, segments_of, written_of, count_of, chopped_paper, Segmented}
+use Rattle.profile.specs.Chords.{Chord, chords_to, profile_chords, flat_of, room_for, segments_of, written_of, count_of, Segmented}
 use Rattle.profile.proofs.Answers.{flat-length}
 use Rattle.profile.proofs.Chains.{Runs, segments-run, segments-counted}
 use Rattle.profile.proofs.Sizes.{NotNegative, PointWithin, Sound, HeldList, segments-sound}
@@ -107,7 +105,7 @@ numbers-at l bs k h =
 pub record Accepted (xs : List Float) (tol : Float) (n : ℕ) (before after : List Float) : Type 0 where
   pub chords : List Chord
   pub good : profile_good xs tol ≡ true
-  pub are : profile_chords xs tol ≡ some chords
+  pub are : profile_chords xs tol ≡ Some chords
   pub many : n ≡ length chords
   pub fit : length chords ≤ length before / 5
   pub out : after ≡ over (flat_of chords) before
@@ -124,17 +122,17 @@ same-many n m e = cc
 same_number : (n m : Reason) → ◌≡◌ {A = Paper ℕ} (refuses n) (refuses m) → n ≡ m
 same_number n m e = cc
 
-pub accepted : (xs : List Float) (tol : Float) (n : ℕ) (before after : List Float) → Segmented xs tol (Chords n) before after → Accepted xs tol n before after
+pub accepted : (xs : List Float) (tol : Float) (n : ℕ) (before after : List Float) → Segmented xs tol (Ok n) before after → Accepted xs tol n before after
 unfolding segments_of room_for demand count_of written_of
 accepted xs tol n bs ws s = go (profile_good xs tol) (profile_chords xs tol) refl refl s.answer s.out
   where
-    fits : (l : List Chord) (t : Bool) → profile_good xs tol ≡ true → profile_chords xs tol ≡ some l → leb (length l) (length bs / 5) ≡ t → told n ≡ count_of (demand t 18 (answers l)) → ws ≡ over (flat_of (written_of (demand t 18 (answers l)))) bs → Accepted xs tol n bs ws
+    fits : (l : List Chord) (t : Bool) → profile_good xs tol ≡ true → profile_chords xs tol ≡ Some l → leb (length l) (length bs / 5) ≡ t → told n ≡ count_of (demand t 18 (answers l)) → ws ≡ over (flat_of (written_of (demand t 18 (answers l)))) bs → Accepted xs tol n bs ws
     fits l true g p e a o = record { chords = l; good = g; are = p; many = same-many n (length l) a; fit = leb-true (length l) (length bs / 5) e; out = o }
     fits l false g p e a o = not-many n (only 18) a
 
     go : (t : Bool) (p : Option (List Chord)) → profile_good xs tol ≡ t → profile_chords xs tol ≡ p → told n ≡ count_of (demand t 17 (room_for (length bs / 5) p)) → ws ≡ over (flat_of (written_of (demand t 17 (room_for (length bs / 5) p)))) bs → Accepted xs tol n bs ws
-    go true none g p a o = not-many n (only 18) a
-    go true (some l) g p a o = fits l (leb (length l) (length bs / 5)) g p refl a o
+    go true None g p a o = not-many n (only 18) a
+    go true (Some l) g p a o = fits l (leb (length l) (length bs / 5)) g p refl a o
     go false p g q a o = not-many n (only 17) a
 
 -- the profile has a segment, and its points are good
@@ -158,7 +156,7 @@ pub record Ends (xs : List Float) (n : ℕ) (out : List Float) : Type 0 where
   pub last-r : get_or out (5 * (n - 1) + 2) nan ≡ clean_at xs (3 * (point_count xs - 1))
   pub last-z : get_or out (5 * (n - 1) + 3) nan ≡ clean_at xs (3 * (point_count xs - 1) + 1)
 
-module _ {xs : List Float} {tol : Float} {n : ℕ} {before after : List Float} (s : Segmented xs tol (Chords n) before after) where
+module _ {xs : List Float} {tol : Float} {n : ℕ} {before after : List Float} (s : Segmented xs tol (Ok n) before after) where
   A : Accepted xs tol n before after
   A = accepted xs tol n before after s
 
@@ -246,11 +244,11 @@ module _ {xs : List Float} {tol : Float} {n : ℕ} {before after : List Float} (
         (subst (Within binary64 40) (sym p.a_r) c.a.r, subst (Within binary64 40) (sym p.a_z) c.a.z, subst (Within binary64 40) (sym p.b-r) c.b.r, subst (Within binary64 40) (sym p.b-z) c.b.z)
 
 -- ---- one outcome
-chopped-same : (p q : Chopped) → chopped_paper p ≡ chopped_paper q → p ≡ q
-chopped-same (Chords m) (Chords n) e = cc
-chopped-same (Chords m) (Refused c) e = not-many m (reason_of c) e
-chopped-same (Refused c) (Chords n) e = not-many n (reason_of c) (sym e)
-chopped-same (Refused c) (Refused d) e = ap (λ (r : Refusal). Refused r) (one-reason c d (same_number (reason_of c) (reason_of d) e))
+chopped-same : (p q : Result ℕ Refusal) → paper_of p ≡ paper_of q → p ≡ q
+chopped-same (Ok m) (Ok n) e = cc
+chopped-same (Ok m) (Err c) e = not-many m (reason_of c) e
+chopped-same (Err c) (Ok n) e = not-many n (reason_of c) (sym e)
+chopped-same (Err c) (Err d) e = ap (λ (r : Refusal). Err r) (one-reason c d (same_number (reason_of c) (reason_of d) e))
 
-pub segments-once : {xs : List Float} {tol : Float} {p q : Chopped} {before after after' : List Float} → Segmented xs tol p before after → Segmented xs tol q before after' → (p ≡ q) × (after ≡ after')
+pub segments-once : {xs : List Float} {tol : Float} {p q : (Result ℕ Refusal)} {before after after' : List Float} → Segmented xs tol p before after → Segmented xs tol q before after' → (p ≡ q) × (after ≡ after')
 segments-once {p = p} {q = q} s t = (chopped-same p q (s.answer ∙ sym t.answer), s.out ∙ sym t.out)

@@ -1,9 +1,9 @@
 -- Of a profile that is not refused every number of every chord is finite, so that each length and each root has an answer; and each sag is from 0 to the tolerance, and not -0.0.
 -- A halving makes a point's numbers at most 4 times as large: at most 2 ^ 20 becomes at most 2 ^ 40 in ten. A half's bulge stays at most 1 in size. Assumes nothing.
+use Rattle.std.specs.Prelude.{Option, None, Some}
 use mathlib.Core.Path.{◌≡◌, refl, sym, ap, ◌∙◌, subst}
 use mathlib.Core.Bool.{Bool, true, false, not, ◌&&◌}
 use mathlib.Core.List.{List, [], ◌∷◌, ◌++◌}
-use mathlib.Core.Option.{Option, none, some}
 use Prim.Native.Nat.{ℕ, zero, suc, ◌+◌, ◌*◌, ◌-◌, ◌^◌, ◌≤◌, ◌<◌, zero-le}
 use native.Mathlib.Nat.{le_refl, le_of_lt, lt_irrefl, add-zero, mul-one}
 use native.Mathlib.Omega.{arith}
@@ -272,7 +272,7 @@ each_append P (x ∷ l) k h g = (h.0, each_append P l k h.1 g)
 abbrev Arc : Float → ℕ → Point → Point → Float → List Chord → Type 0
 Arc tol n a b bu l = (j : ℕ) → j + 2 * n ≤ 40 → PointWithin j a → PointWithin j b → W 0 bu → Each (Sound tol) l
 
-pub arc-sound : (tol : Float) (n : ℕ) (a b : Point) (bu : Float) (l : List Chord) → chords_of a b bu tol n ≡ some l → Arc tol n a b bu l
+pub arc-sound : (tol : Float) (n : ℕ) (a b : Point) (bu : Float) (l : List Chord) → chords_of a b bu tol n ≡ Some l → Arc tol n a b bu l
 arc-sound tol = by-halves tol (Arc tol) single double
   where
     single : (n : ℕ) (a b : Point) (bu : Float) → le (sag_of a b bu) tol ≡ true → Arc tol n a b bu (one a b bu)
@@ -341,7 +341,7 @@ module _ (xs : List Float) (held : HeldList xs) where
       go (no l) f = let e : m ≡ k = omega arith in subst (λ (j : ℕ). T (point_good (point_at xs j) (bulge_at xs j))) e (and_r (good_to xs m) (point_good (point_at xs m) (bulge_at xs m)) t)
 
   -- the chords of the first k segments
-  pub segments-sound : (tol : Float) (m : ℕ) → T (good_to xs m) → (k : ℕ) (l : List Chord) → chords_to xs tol k ≡ some l → k + 1 ≤ m → Each (Sound tol) l
+  pub segments-sound : (tol : Float) (m : ℕ) → T (good_to xs m) → (k : ℕ) (l : List Chord) → chords_to xs tol k ≡ Some l → k + 1 ≤ m → Each (Sound tol) l
   segments-sound tol m t =
       by-segments xs tol (λ k l. k + 1 ≤ m → Each (Sound tol) l) (λ h. tt)
       (λ k l n r e h.

@@ -1,20 +1,16 @@
 -- The chords of arcs, by halving. Each operation of f64 stands in its order. Assumes nothing.
-use Rattle.std.specs.Prelude.{◌≡◌, List, [], ◌∷◌, ◌++◌, ℕ, zero, suc, ◌+◌, ◌-◌, ◌*◌, ◌/◌, leb, length, set, Float}
-use Rattle.std.proofs.Math.Option.{Option, none, some}
+use Rattle.std.specs.Prelude.{◌≡◌, List, [], ◌∷◌, ◌++◌, ℕ, zero, suc, ◌+◌, ◌-◌, ◌*◌, ◌/◌, leb, length, set, Float, Option, None, Some, Err, Ok, Result}
 use Rattle.std.specs.Float.{nan, binary64}
 use Rattle.std.specs.Float.Ieee.{of_bits, neg, le}
+use Rattle.refusals.specs.declared.Refusal.{Refusal}
 use Rattle.refusals.specs.Paper.{Paper, answers, refuses, only, demand}
-use Rattle.refusals.specs.Number.{reason_of}
+use Rattle.refusals.specs.Number.{reason_of, paper_of}
 use Rattle.refusals.specs.Lent.{Lent, over}
 use Rattle.floats.specs.Pick.{pick}
 use Rattle.floats.specs.Numbers.{◌+₆₄◌, ◌-₆₄◌, ◌*₆₄◌, ◌/₆₄◌, one64, size_of, clean_of}
 use Rattle.numbers.specs.Root.{root_of}
 use Rattle.numbers.specs.Length.{length_of}
 use Rattle.profile.specs.declared.Point.{Point}
-use Rattle.profile.specs.declared.Placed.{Placed}
-use Rattle.profile.specs.declared.Placed.TheVariants.{To, Over}
-use Rattle.profile.specs.declared.Chopped.{Chopped}
-use Rattle.profile.specs.declared.Chopped.TheVariants.{Chords, Refused}
 use Rattle.profile.specs.Profile.{point_at, bulge_at, point_count, profile_good}
 
 -- 2
@@ -61,20 +57,20 @@ one a b bulge = record { a = a; b = b; sag = sag_of a b bulge } ∷ []
 
 -- the chords of two arcs, none if either has none
 unfoldable pub joined : Option (List Chord) → Option (List Chord) → Option (List Chord)
-joined none ys = none
-joined (some xs) none = none
-joined (some xs) (some ys) = some (xs ++ ys)
+joined None ys = None
+joined (Some xs) None = None
+joined (Some xs) (Some ys) = Some (xs ++ ys)
 
 -- the chord where its sag is at most the tolerance; else those of both halves, while there are levels left
 unfoldable pub chords_of : Point → Point → Float → Float → ℕ → Option (List Chord)
-chords_of a b bulge tol zero = pick (le (sag_of a b bulge) tol) (some (one a b bulge)) none
+chords_of a b bulge tol zero = pick (le (sag_of a b bulge) tol) (Some (one a b bulge)) None
 chords_of a b bulge tol (suc l) =
-    pick (le (sag_of a b bulge) tol) (some (one a b bulge))
+    pick (le (sag_of a b bulge) tol) (Some (one a b bulge))
     (joined (chords_of a (middle_of a b bulge) (half_of bulge) tol l) (chords_of (middle_of a b bulge) b (half_of bulge) tol l))
 
 -- those of the first k segments of a profile, ten halvings each
 unfoldable pub chords_to : List Float → Float → ℕ → Option (List Chord)
-chords_to xs tol zero = some []
+chords_to xs tol zero = Some []
 chords_to xs tol (suc k) = joined (chords_to xs tol k) (chords_of (point_at xs k) (point_at xs (k + 1)) (bulge_at xs k) tol 10)
 
 -- those of a profile
@@ -89,8 +85,8 @@ flat_of (c ∷ l) = c.a.r ∷ c.a.z ∷ c.b.r ∷ c.b.z ∷ c.sag ∷ flat_of l
 -- ---- what is answered
 -- the chords, if there is room for them; else 18
 unfoldable pub room_for : ℕ → Option (List Chord) → Paper (List Chord)
-room_for room none = refuses (only 18)
-room_for room (some l) = demand (leb (length l) room) 18 (answers l)
+room_for room None = refuses (only 18)
+room_for room (Some l) = demand (leb (length l) room) 18 (answers l)
 
 -- 17, else 18, else the chords
 unfoldable pub segments_of : List Float → Float → ℕ → Paper (List Chord)
@@ -106,17 +102,13 @@ unfoldable pub count_of : Paper (List Chord) → Paper ℕ
 count_of (answers l) = answers (length l)
 count_of (refuses n) = refuses n
 
-abbrev pub chopped_paper : Chopped → Paper ℕ
-chopped_paper (Chords n) = answers n
-chopped_paper (Refused c) = refuses (reason_of c)
-
 -- the answer, and the lent numbers with the chords over their beginning
-pub record Segmented (xs : List Float) (tol : Float) (r : Chopped) (before after : List Float) : Type 0 where
-  pub answer : chopped_paper r ≡ count_of (segments_of xs tol (length before / 5))
+pub record Segmented (xs : List Float) (tol : Float) (r : Result ℕ Refusal) (before after : List Float) : Type 0 where
+  pub answer : paper_of r ≡ count_of (segments_of xs tol (length before / 5))
   pub out : after ≡ over (flat_of (written_of (segments_of xs tol (length before / 5)))) before
 
 -- the same of the numbers that are lent to the call
-abbrev pub Segments : List Float → Float → Chopped → Lent Float → Type 0
+abbrev pub Segments : List Float → Float → (Result ℕ Refusal) → Lent Float → Type 0
 Segments xs tol r out = Segmented xs tol r out.entry.now out.exit.now
 
 -- ---- what one pass does. No reader has to believe the rest: `Segmented` follows from it.
@@ -129,19 +121,15 @@ unfoldable pub put_all : List Float → ℕ → List Chord → List Float
 put_all xs k [] = xs
 put_all xs k (c ∷ l) = put_all (put_chord xs k c.a c.b c.sag) (k + 1) l
 
-unfoldable pub placed_paper : Placed → Option ℕ
-placed_paper (To n) = some n
-placed_paper Over = none
-
 -- the place behind the chords, if there is room for them
 unfoldable pub placed : ℕ → ℕ → Option (List Chord) → Option ℕ
-placed room k none = none
-placed room k (some l) = pick (leb (k + length l) room) (some (k + length l)) none
+placed room k None = None
+placed room k (Some l) = pick (leb (k + length l) room) (Some (k + length l)) None
 
 -- where there is room, the chords from the place on
-pub record Chops (p : Option (List Chord)) (room k : ℕ) (r : Placed) (xs ys : List Float) : Type 0 where
-  pub answer : placed_paper r ≡ placed room k p
-  pub out : (n : ℕ) → placed_paper r ≡ some n → (l : List Chord) → p ≡ some l → ys ≡ put_all xs k l
+pub record Chops (p : Option (List Chord)) (room k : ℕ) (r : Option ℕ) (xs ys : List Float) : Type 0 where
+  pub answer : r ≡ placed room k p
+  pub out : (n : ℕ) → r ≡ Some n → (l : List Chord) → p ≡ Some l → ys ≡ put_all xs k l
 
-abbrev pub ChopsInto : Option (List Chord) → ℕ → ℕ → Placed → Lent Float → Type 0
+abbrev pub ChopsInto : Option (List Chord) → ℕ → ℕ → (Option ℕ) → Lent Float → Type 0
 ChopsInto p room k r out = Chops p room k r out.entry.now out.exit.now

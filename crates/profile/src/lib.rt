@@ -16,7 +16,6 @@ ghost use Rattle.std.specs.Prelude.{◌≡◌, ◌+◌, ◌*◌, ◌≤◌, leng
 ghost use Rattle.profile.specs.Profile.{clean_at, point_at, bulge_at, point_good, good_to, apart, apart_to, profile_good};
 ghost use Rattle.profile.specs.Chords.{sag_of, middle_of, half_of, chords_of, chords_to, put_chord, ChopsInto, Segments};
 
-use numbers::Rooted;
 use refusals::{PROFILE_LIMIT, Refusal};
 
 // Three numbers a point are lent, and five a chord.
@@ -34,20 +33,6 @@ const APART: f64 = 1e-9;
 pub struct Point {
     pub r: f64,
     pub z: f64,
-}
-
-// The place behind the chords that were put, or there is no room or no end of halving.
-#[derive(Clone, Copy)]
-pub enum Placed {
-    To(usize),
-    Over,
-}
-
-// How many chords, or the refusal.
-#[derive(Clone, Copy)]
-pub enum Chopped {
-    Chords(usize),
-    Refused(Refusal),
 }
 
 // ---- the points
@@ -100,10 +85,8 @@ fn good_to(points: &[f64], m: usize) -> bool
     ensures { result ≡ good_to points.now m }
 {
     let mut ok = true;
-    let mut k: usize = 0;
-    while k < m {
+    for k in 0..m {
         ok = ok & point_good(point_at(points, k), bulge_at(points, k));
-        k += 1;
     }
     ok
 }
@@ -114,8 +97,7 @@ fn is_apart(a: Point, b: Point) -> bool
 {
     let dz = b.z - a.z;
     let dr = b.r - a.r;
-    let found = numbers::length(dz, dr);
-    let Rooted::Root(l) = found else {
+    let Ok(l) = numbers::length(dz, dr) else {
         return false;
     };
     APART < l
@@ -127,10 +109,8 @@ fn apart_to(points: &[f64], m: usize) -> bool
     ensures { result ≡ apart_to points.now m }
 {
     let mut ok = true;
-    let mut k: usize = 0;
-    while k < m {
+    for k in 0..m {
         ok = ok & is_apart(point_at(points, k), point_at(points, k + 1));
-        k += 1;
     }
     ok
 }
@@ -161,8 +141,7 @@ fn sag_of(a: Point, b: Point, bulge: f64) -> f64
 {
     let dz = b.z - a.z;
     let dr = b.r - a.r;
-    let found = numbers::length(dz, dr);
-    let Rooted::Root(l) = found else {
+    let Ok(l) = numbers::length(dz, dr) else {
         return 0.0 / 0.0;
     };
     floats::abs(floats::clean(bulge)) * (l / 2.0)
@@ -185,8 +164,7 @@ fn middle(a: Point, b: Point, bulge: f64) -> Point
 fn half_bulge(bulge: f64) -> f64
     ensures { result ≡ half_of bulge }
 {
-    let found = numbers::root(1.0 + bulge * bulge);
-    let Rooted::Root(x) = found else {
+    let Ok(x) = numbers::root(1.0 + bulge * bulge) else {
         return 0.0 / 0.0;
     };
     bulge / (1.0 + x)
@@ -218,67 +196,55 @@ fn chop(
     at: usize,
     room: usize,
     out: &mut [f64],
-) -> Placed
+) -> Option<usize>
     ensures { ChopsInto (chords_of a b bulge tolerance levels) room at result out }
 {
     let sag = sag_of(a, b, bulge);
     if sag <= tolerance {
         if room <= at {
-            return Placed::Over;
+            return None;
         }
         put_chord(out, at, a, b, sag);
-        return Placed::To(at + 1);
+        return Some(at + 1);
     }
     if levels == 0 {
-        return Placed::Over;
+        return None;
     }
     let m = middle(a, b, bulge);
     let half = half_bulge(bulge);
-    let first = chop(a, m, half, tolerance, levels - 1, at, room, out);
-    let Placed::To(next) = first else {
-        return Placed::Over;
-    };
+    let next = chop(a, m, half, tolerance, levels - 1, at, room, out)?;
     chop(m, b, half, tolerance, levels - 1, next, room, out)
 }
 
 // ---- a profile
 
 // The chords of m segments from place 0 on, as `chop`.
-fn chop_all(points: &[f64], m: usize, tolerance: f64, room: usize, out: &mut [f64]) -> Placed
+fn chop_all(points: &[f64], m: usize, tolerance: f64, room: usize, out: &mut [f64]) -> Option<usize>
     requires { 3 * m + 3 ≤ length points.now }
     ensures { ChopsInto (chords_to points.now tolerance m) room 0 result out }
 {
     let mut at: usize = 0;
-    let mut k: usize = 0;
-    while k < m {
+    for k in 0..m {
         let a = point_at(points, k);
         let b = point_at(points, k + 1);
         let bulge = bulge_at(points, k);
-        let placed = chop(a, b, bulge, tolerance, HALVINGS, at, room, out);
-        let Placed::To(next) = placed else {
-            return Placed::Over;
-        };
-        at = next;
-        k += 1;
+        at = chop(a, b, bulge, tolerance, HALVINGS, at, room, out)?;
     }
-    Placed::To(at)
+    Some(at)
 }
 
 // The chords of a profile: the first numbers of `out`, five each. A refusal writes nothing.
-pub fn segments(points: &[f64], tolerance: f64, out: &mut [f64]) -> Chopped
+pub fn segments(points: &[f64], tolerance: f64, out: &mut [f64]) -> Result<usize, Refusal>
     ensures { Segments points.now tolerance result out }
 {
-    if profile_good(points, tolerance) {
-        let m = points.len() / POINT_NUMBERS - 1;
-        let fine = floats::clean(tolerance);
-        let room = out.len() / CHORD_NUMBERS;
-        let mut nothing: [f64; 1] = [0.0; 1];
-        let counted = chop_all(points, m, fine, room, &mut nothing);
-        let Placed::To(n) = counted else {
-            return Chopped::Refused(Refusal::ChordsOutgrow);
-        };
-        let _written = chop_all(points, m, fine, room, out);
-        return Chopped::Chords(n);
+    if !profile_good(points, tolerance) {
+        return Err(Refusal::ProfileOutside);
     }
-    Chopped::Refused(Refusal::ProfileOutside)
+    let m = points.len() / POINT_NUMBERS - 1;
+    let fine = floats::clean(tolerance);
+    let room = out.len() / CHORD_NUMBERS;
+    let counted = chop_all(points, m, fine, room, &mut []);
+    let n = counted.ok_or(Refusal::ChordsOutgrow)?;
+    let _written = chop_all(points, m, fine, room, out);
+    Ok(n)
 }

@@ -1,14 +1,14 @@
 -- What is seen of a stock at a height. Assumes nothing.
+use Rattle.std.specs.Prelude.{None, Some}
 use mathlib.Core.Path.{◌≡◌, refl, sym, ap, ◌∙◌}
 use mathlib.Core.Bool.{true, false}
 use mathlib.Core.List.{List}
-use mathlib.Core.Option.{Option, none, some}
-use Prim.Native.Nat.{ℕ, ◌+◌, ◌-◌, ◌<◌, min}
+use Prim.Native.Nat.{ℕ, ◌+◌, ◌-◌, ◌<◌}
 use native.Mathlib.Omega.{arith}
 use lib.Ieee.{Float, nan, inf, fin, le, lt, eq}
-use Rattle.refusals.specs.Paper.{Paper, Reason, answers, refuses, onward-answers, onward-refuses}
+use Rattle.refusals.specs.Paper.{Reason, answers, refuses, onward-answers, onward-refuses}
 use Rattle.floats.specs.Pick.{pick, pick_true, pick-false}
-use Rattle.floats.specs.Numbers.{zero64, clean_of}
+use Rattle.floats.specs.Numbers.{clean_of}
 use Rattle.stock.specs.declared.TurnStockSpec.{TurnStockSpec}
 use Rattle.stock.specs.Spec.{clean_spec}
 use Rattle.stock.specs.Cell.{stock_of}
@@ -20,7 +20,7 @@ use Rattle.queries.specs.Envelope.{in_range, bin_at, first_at, last_at, bins_at,
 -- ---- of n cells
 module _ (s : TurnStockSpec) (n : ℕ) (cs : List Float) (z : Float) where
   -- outside the z range nothing
-  pub outside : in_range s z ≡ false → none ≡ seen_at s n cs z
+  pub outside : in_range s z ≡ false → None ≡ seen_at s n cs z
   unfolding seen_at
   outside e = sym (pick-false _ _ _ e)
 
@@ -47,7 +47,7 @@ module _ (spec : TurnStockSpec) (cs : List Float) (z : Float) where
     at-clean = rw e (onward-answers n (λ m. answers (seen_at (clean_spec spec) m cs (clean_of z))))
 
     -- nothing outside the z range
-    pub envelope-outside : in_range (clean_spec spec) (clean_of z) ≡ false → envelope_at spec cs z ≡ answers none
+    pub envelope-outside : in_range (clean_spec spec) (clean_of z) ≡ false → envelope_at spec cs z ≡ answers None
     envelope-outside t = at-clean ∙ ap answers (sym (outside (clean_spec spec) n cs (clean_of z) t))
 
     -- within it the most over the bins that are looked at
@@ -59,11 +59,11 @@ module _ (spec : TurnStockSpec) (cs : List Float) (z : Float) where
     envelope-bin = bin-below (clean_spec spec) n cs (clean_of z) (checked spec n (stocked spec cs n e).count).some-cells
 
 -- a band is shown if its outer radius is above its bore
-pub shown-band : (b : Band) → lt b.bore b.outer ≡ true → shown_of b ≡ some b
+pub shown-band : (b : Band) → lt b.bore b.outer ≡ true → shown_of b ≡ Some b
 unfolding shown_of
 shown-band b e = pick_true _ _ _ e
 
-pub shown-none : (b : Band) → lt b.bore b.outer ≡ false → shown_of b ≡ none
+pub shown-none : (b : Band) → lt b.bore b.outer ≡ false → shown_of b ≡ None
 unfolding shown_of
 shown-none b e = pick-false _ _ _ e
 
@@ -78,5 +78,5 @@ nan-stays : clean_of nan ≡ nan
 unfolding clean_of pick eq
 nan-stays = refl
 
-pub envelope-nan : (spec : TurnStockSpec) (cs : List Float) (n : ℕ) → stock_of spec cs ≡ answers n → envelope_at spec cs nan ≡ answers none
+pub envelope-nan : (spec : TurnStockSpec) (cs : List Float) (n : ℕ) → stock_of spec cs ≡ answers n → envelope_at spec cs nan ≡ answers None
 envelope-nan spec cs n e = envelope-outside spec cs nan n e (rw (nan-stays, not-under-nan (clean_spec spec).z_min_mm) refl)

@@ -1,10 +1,10 @@
 -- What a walk over some bins shows: the most of those that hold material, and nothing where none does. Assumes nothing.
+use Rattle.std.specs.Prelude.{Option, None, Some}
 use mathlib.Core.Path.{◌≡◌, refl, sym, ap, ◌∙◌, subst}
 use mathlib.Core.Bool.{Bool, true, false}
 use mathlib.Core.List.{List}
 use mathlib.Core.Logic.{◌⊎◌, inl, inr}
-use mathlib.Core.Option.{Option, none, some}
-use Prim.Native.Nat.{ℕ, zero, suc, ◌+◌, ◌-◌}
+use Prim.Native.Nat.{ℕ, zero, suc, ◌+◌}
 use native.Mathlib.Omega.{arith}
 use lib.Dec.{T, ltb}
 use lib.Ieee.{Float, lt, le, is_nan}
@@ -23,24 +23,24 @@ use Rattle.queries.specs.Looked.{Holds, Nested, Most}
 -- ---- a band that is shown
 
 -- it is the band, whose outer radius is above its bore
-pub shown-is : (b c : Band) → shown_of b ≡ some c → T (lt b.bore b.outer) × (b ≡ c)
+pub shown-is : (b c : Band) → shown_of b ≡ Some c → T (lt b.bore b.outer) × (b ≡ c)
 unfolding shown_of pick
 shown-is b c e = go (lt b.bore b.outer) refl e
   where
-    go : (t : Bool) → lt b.bore b.outer ≡ t → pick t (some b) none ≡ some c → T (lt b.bore b.outer) × (b ≡ c)
+    go : (t : Bool) → lt b.bore b.outer ≡ t → pick t (Some b) None ≡ Some c → T (lt b.bore b.outer) × (b ≡ c)
     go true f e = (so f, (cc))
-    go false f e = let z : ◌≡◌ {A = Option Band} none (some c) = e in absurd-none z
+    go false f e = let z : ◌≡◌ {A = Option Band} None (Some c) = e in absurd-none z
       where
-        absurd-none : ◌≡◌ {A = Option Band} none (some c) → T (lt b.bore b.outer) × (b ≡ c)
+        absurd-none : ◌≡◌ {A = Option Band} None (Some c) → T (lt b.bore b.outer) × (b ≡ c)
         absurd-none z = let y : ◌≡◌ {A = ℕ} 0 1 = cc in absurd (omega arith)
 
-pub shown-thick : (b c : Band) → shown_of b ≡ some c → T (lt c.bore c.outer)
+pub shown-thick : (b c : Band) → shown_of b ≡ Some c → T (lt c.bore c.outer)
 shown-thick b c e = subst (λ (x : Band). T (lt x.bore x.outer)) (shown-is b c e).1 (shown-is b c e).0
 
-pub bore-number : (b c : Band) → shown_of b ≡ some c → is_nan c.bore ≡ false
+pub bore-number : (b c : Band) → shown_of b ≡ Some c → is_nan c.bore ≡ false
 bore-number b c e = lt-number-l c.bore c.outer (shown-thick b c e)
 
-pub outer-number : (b c : Band) → shown_of b ≡ some c → is_nan c.outer ≡ false
+pub outer-number : (b c : Band) → shown_of b ≡ Some c → is_nan c.outer ≡ false
 outer-number b c e = lt-number-r c.bore c.outer (shown-thick b c e)
 
 -- ---- bands within bands
@@ -55,7 +55,7 @@ record Thick (b : Band) : Type 0 where
   bore : is_nan b.bore ≡ false
   outer : is_nan b.outer ≡ false
 
-thick : (b c : Band) → shown_of b ≡ some c → Thick c
+thick : (b c : Band) → shown_of b ≡ Some c → Thick c
 thick b c e = record { bore = bore-number b c e; outer = outer-number b c e }
 
 module _ {a b : Band} (ta : Thick a) (tb : Thick b) where
@@ -92,11 +92,11 @@ module _ (cs : List Float) (a k : ℕ) where
   one_more : {i : ℕ} {c : Band} → Holds cs a k i c → Holds cs a (suc k) i c
   one_more h = record { from = h.from; to = omega (arith, h.to); shown = h.shown }
 
-  last_one : {c : Band} → shown_of (most_of (cell_at cs (a + k))) ≡ some c → Holds cs a (suc k) (a + k) c
+  last_one : {c : Band} → shown_of (most_of (cell_at cs (a + k))) ≡ Some c → Holds cs a (suc k) (a + k) c
   last_one e = record { from = omega arith; to = omega arith; shown = e }
 
   -- a bin of the walk is one of those before, or the last
-  among : {A : Type 0} {i : ℕ} {c : Band} → Holds cs a (suc k) i c → (Holds cs a k i c → A) → (shown_of (most_of (cell_at cs (a + k))) ≡ some c → A) → A
+  among : {A : Type 0} {i : ℕ} {c : Band} → Holds cs a (suc k) i c → (Holds cs a k i c → A) → (shown_of (most_of (cell_at cs (a + k))) ≡ Some c → A) → A
   among {A} {i} {c} h f g = go (ltb i (a + k)) refl
     where
       go : (t : Bool) → ltb i (a + k) ≡ t → A
@@ -112,40 +112,40 @@ module _ (cs : List Float) (a k : ℕ) where
   }
 
 -- ---- a walk
-some_is : {x y : Band} → ◌≡◌ {A = Option Band} (some x) (some y) → x ≡ y
+some_is : {x y : Band} → ◌≡◌ {A = Option Band} (Some x) (Some y) → x ≡ y
 some_is e = cc
 
-none-not : {A : Type 0} {x : Band} → ◌≡◌ {A = Option Band} none (some x) → A
+none-not : {A : Type 0} {x : Band} → ◌≡◌ {A = Option Band} None (Some x) → A
 none-not e = let y : ◌≡◌ {A = ℕ} 0 1 = cc in absurd (omega arith)
 
 -- two together show nothing where neither shows anything
-together-none : (x y : Option Band) → together x y ≡ none → (x ≡ none) × (y ≡ none)
+together-none : (x y : Option Band) → together x y ≡ None → (x ≡ None) × (y ≡ None)
 unfolding together
-together-none none y e = (refl, e)
-together-none (some u) none e = none-not (sym e)
-together-none (some u) (some v) e = none-not (sym e)
+together-none None y e = (refl, e)
+together-none (Some u) None e = none-not (sym e)
+together-none (Some u) (Some v) e = none-not (sym e)
 
 -- it shows nothing where none of the bins holds material
-pub walk_none : (cs : List Float) (a k : ℕ) → most_over cs a k ≡ none → (i : ℕ) (c : Band) → Holds cs a k i c → ⊥
+pub walk_none : (cs : List Float) (a k : ℕ) → most_over cs a k ≡ None → (i : ℕ) (c : Band) → Holds cs a k i c → ⊥
 unfolding most_over
 walk_none cs a zero e i c h = omega (arith, h.from, h.to)
 walk_none cs a (suc k) e i c h =
     let n = together-none (most_over cs a k) (shown_of (most_of (cell_at cs (a + k)))) e in
     among cs a k h (λ m. walk_none cs a k n.0 i c m) (λ s. none-not (sym n.1 ∙ s))
 
-pub none_walk : (cs : List Float) (a k : ℕ) → ((i : ℕ) (c : Band) → Holds cs a k i c → ⊥) → most_over cs a k ≡ none
+pub none_walk : (cs : List Float) (a k : ℕ) → ((i : ℕ) (c : Band) → Holds cs a k i c → ⊥) → most_over cs a k ≡ None
 unfolding most_over together
 none_walk cs a zero f = refl
 none_walk cs a (suc k) f = go (none_walk cs a k (λ i c h. f i c (one_more cs a k h))) (shown_of (most_of (cell_at cs (a + k)))) refl
   where
-    go : most_over cs a k ≡ none → (y : Option Band) → shown_of (most_of (cell_at cs (a + k))) ≡ y → together (most_over cs a k) (shown_of (most_of (cell_at cs (a + k)))) ≡ none
-    go p none e = rw (p, e) refl
-    go p (some v) e = absurd (f (a + k) v (last_one cs a k e))
+    go : most_over cs a k ≡ None → (y : Option Band) → shown_of (most_of (cell_at cs (a + k))) ≡ y → together (most_over cs a k) (shown_of (most_of (cell_at cs (a + k)))) ≡ None
+    go p None e = rw (p, e) refl
+    go p (Some v) e = absurd (f (a + k) v (last_one cs a k e))
 
 -- one bin more, by what was shown before it and what it shows
 module _ (cs : List Float) (a k : ℕ) where
   -- nothing was shown before it
-  only-last : (v : Band) → most_over cs a k ≡ none → shown_of (most_of (cell_at cs (a + k))) ≡ some v → Most cs a (suc k) v
+  only-last : (v : Band) → most_over cs a k ≡ None → shown_of (most_of (cell_at cs (a + k))) ≡ Some v → Most cs a (suc k) v
   only-last v p q = record {
     bore_bin = a + k;
     bore_band = v;
@@ -161,7 +161,7 @@ module _ (cs : List Float) (a k : ℕ) where
   }
 
   -- it shows nothing
-  not_last : (u : Band) → Most cs a k u → shown_of (most_of (cell_at cs (a + k))) ≡ none → Most cs a (suc k) u
+  not_last : (u : Band) → Most cs a k u → shown_of (most_of (cell_at cs (a + k))) ≡ None → Most cs a (suc k) u
   not_last u m q = record {
     bore_bin = m.bore_bin;
     bore_band = m.bore_band;
@@ -181,7 +181,7 @@ module _ (cs : List Float) (a k : ℕ) where
     there : Holds cs a (suc k) bin of
     same : f of ≡ x
 
-  both-shown : (u v : Band) → Most cs a k u → shown_of (most_of (cell_at cs (a + k))) ≡ some v → Most cs a (suc k) (join_of u v)
+  both-shown : (u v : Band) → Most cs a k u → shown_of (most_of (cell_at cs (a + k))) ≡ Some v → Most cs a (suc k) (join_of u v)
   both-shown u v m q = record {
     bore_bin = low.bin;
     bore_band = low.of;
@@ -215,28 +215,28 @@ module _ (cs : List Float) (a k : ℕ) where
       ]
 
 -- what it shows is the most of the bins that hold material
-pub walk-most : (cs : List Float) (a k : ℕ) (b : Band) → most_over cs a k ≡ some b → Most cs a k b
+pub walk-most : (cs : List Float) (a k : ℕ) (b : Band) → most_over cs a k ≡ Some b → Most cs a k b
 unfolding most_over together
 walk-most cs a zero b e = none-not e
 walk-most cs a (suc k) b e = go (walk-most cs a k) (most_over cs a k) refl (shown_of (most_of (cell_at cs (a + k)))) refl e
   where
-    go : ((u : Band) → most_over cs a k ≡ some u → Most cs a k u) → (x : Option Band) → most_over cs a k ≡ x → (y : Option Band) → shown_of (most_of (cell_at cs (a + k))) ≡ y → together x y ≡ some b → Most cs a (suc k) b
-    go w none p none q f = none-not f
-    go w none p (some v) q f = subst (λ (z : Band). Most cs a (suc k) z) (some_is f) (only-last cs a k v p q)
-    go w (some u) p none q f = subst (λ (z : Band). Most cs a (suc k) z) (some_is f) (not_last cs a k u (w u p) q)
-    go w (some u) p (some v) q f = subst (λ (z : Band). Most cs a (suc k) z) (some_is f) (both-shown cs a k u v (w u p) q)
+    go : ((u : Band) → most_over cs a k ≡ Some u → Most cs a k u) → (x : Option Band) → most_over cs a k ≡ x → (y : Option Band) → shown_of (most_of (cell_at cs (a + k))) ≡ y → together x y ≡ Some b → Most cs a (suc k) b
+    go w None p None q f = none-not f
+    go w None p (Some v) q f = subst (λ (z : Band). Most cs a (suc k) z) (some_is f) (only-last cs a k v p q)
+    go w (Some u) p None q f = subst (λ (z : Band). Most cs a (suc k) z) (some_is f) (not_last cs a k u (w u p) q)
+    go w (Some u) p (Some v) q f = subst (λ (z : Band). Most cs a (suc k) z) (some_is f) (both-shown cs a k u v (w u p) q)
 
 -- an answer, or none
 pub data Case (x : Option Band) : Type 0 where
-  nothing : x ≡ none → Case x
-  found : (b : Band) → x ≡ some b → Case x
+  nothing : x ≡ None → Case x
+  found : (b : Band) → x ≡ Some b → Case x
 
 pub case : (x : Option Band) → Case x
-case none = nothing refl
-case (some b) = found b refl
+case None = nothing refl
+case (Some b) = found b refl
 
 -- where each bin with material of one walk has one of another about it, what the one shows lies within what the other shows
-pub walk-within : (cs cs' : List Float) (a k a' k' : ℕ) → ((i : ℕ) (c : Band) → Holds cs a k i c → (d : Band) × Holds cs' a' k' i d × Nested c d) → (b : Band) → most_over cs a k ≡ some b → (b' : Band) × (most_over cs' a' k' ≡ some b') × Nested b b'
+pub walk-within : (cs cs' : List Float) (a k a' k' : ℕ) → ((i : ℕ) (c : Band) → Holds cs a k i c → (d : Band) × Holds cs' a' k' i d × Nested c d) → (b : Band) → most_over cs a k ≡ Some b → (b' : Band) × (most_over cs' a' k' ≡ Some b') × Nested b b'
 walk-within cs cs' a k a' k' about b e = elim (case (most_over cs' a' k')) [
   | nothing p ↦ let h = about m.bore_bin m.bore_band m.bore_there in absurd (walk_none cs' a' k' p m.bore_bin h.0 h.1)
   | found b' p ↦
@@ -258,23 +258,23 @@ walk-within cs cs' a k a' k' about b e = elim (case (most_over cs' a' k')) [
 -- ---- a walk that is asked where a test holds
 module _ (t : Bool) (cs : List Float) (a k : ℕ) where
   -- an answer is the most of its bins
-  pub asked-most : (b : Band) → pick t (most_over cs a k) none ≡ some b → (t ≡ true) × Most cs a k b
+  pub asked-most : (b : Band) → pick t (most_over cs a k) None ≡ Some b → (t ≡ true) × Most cs a k b
   unfolding pick
   asked-most b e = go t refl e
     where
-      go : (u : Bool) → t ≡ u → pick u (most_over cs a k) none ≡ some b → (t ≡ true) × Most cs a k b
+      go : (u : Bool) → t ≡ u → pick u (most_over cs a k) None ≡ Some b → (t ≡ true) × Most cs a k b
       go true p q = (p, walk-most cs a k b q)
       go false p q = none-not q
 
   -- it shows nothing where none of its bins holds material
-  pub asked-none : pick t (most_over cs a k) none ≡ none → t ≡ true → (i : ℕ) (c : Band) → Holds cs a k i c → ⊥
+  pub asked-none : pick t (most_over cs a k) None ≡ None → t ≡ true → (i : ℕ) (c : Band) → Holds cs a k i c → ⊥
   asked-none e p = walk_none cs a k (sym (pick_true _ _ _ p) ∙ e)
 
   -- and where none does, and where it is not asked
-  pub none-asked : (t ≡ true → (i : ℕ) (c : Band) → Holds cs a k i c → ⊥) → pick t (most_over cs a k) none ≡ none
+  pub none-asked : (t ≡ true → (i : ℕ) (c : Band) → Holds cs a k i c → ⊥) → pick t (most_over cs a k) None ≡ None
   unfolding pick
   none-asked f = go t refl
     where
-      go : (u : Bool) → t ≡ u → pick u (most_over cs a k) none ≡ none
+      go : (u : Bool) → t ≡ u → pick u (most_over cs a k) None ≡ None
       go true p = none_walk cs a k (f p)
       go false p = refl

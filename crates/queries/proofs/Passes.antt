@@ -1,5 +1,5 @@
 -- Both bounds of the volume, one bin, one ring or one sum further, as the loops go. Assumes nothing.
-use mathlib.Core.Path.{◌≡◌, refl, sym, ap, ap₂, ◌∙◌}
+use mathlib.Core.Path.{◌≡◌, sym, ap, ap₂, ◌∙◌}
 use mathlib.Core.Bool.{true, false}
 use mathlib.Core.List.{List}
 use Prim.Native.Nat.{ℕ, ◌+◌}
@@ -19,7 +19,7 @@ use Rattle.rings.specs.Store.{bar_ring, ring_at, count_fits}
 use Rattle.queries.specs.declared.Band.{Band}
 use Rattle.queries.specs.declared.Volumes.{Volumes}
 use Rattle.queries.specs.Material.{sure_of, most_of}
-use Rattle.queries.specs.Volume.{held_in, height_of, less_band, less_in, sum_of, less_ring, less_rings, remains, volume_in, volume_of}
+use Rattle.queries.specs.Volume.{held_in, height_of, less_band, less_in, sum_of, less_ring, less_rings, remains, volume_of}
 use Rattle.queries.specs.Pass.{sums_of, less_bin, less_bins, less_all}
 
 abbrev both : Float → Float → Volumes

@@ -1,10 +1,10 @@
 -- What is seen at a height: never less than in the bin of z alone, the most of the bins that are looked at and no more, and less after material is removed.
 -- Assumes nothing.
+use Rattle.std.specs.Prelude.{Option, None, Some}
 use mathlib.Core.Path.{◌≡◌, refl, sym, ap, ◌∙◌, subst}
 use mathlib.Core.Bool.{Bool, true, false, not, ◌&&◌}
 use mathlib.Core.List.{List}
 use mathlib.Core.Logic.{◌⊎◌, inl, inr}
-use mathlib.Core.Option.{Option, none, some}
 use Prim.Native.Nat.{ℕ, ◌+◌, ◌-◌, ◌≤◌, ◌<◌}
 use native.Mathlib.Omega.{arith}
 use lib.Dec.{T, ltb}
@@ -37,39 +37,39 @@ use Rattle.queries.proofs.Looks.{shown-is, shown-thick, nothing, found, case, wa
 abbrev pub looked : TurnStockSpec → ℕ → Float → ℕ
 looked s n z = last_at s n z - first_at s n z + 1
 
-none-not : {A : Type 0} {x : Band} → ◌≡◌ {A = Option Band} none (some x) → A
+none-not : {A : Type 0} {x : Band} → ◌≡◌ {A = Option Band} None (Some x) → A
 none-not e = let y : ◌≡◌ {A = ℕ} 0 1 = cc in absurd (omega arith)
 
 module _ (s : TurnStockSpec) (n : ℕ) (cs : List Float) (z : Float) where
   -- ---- exactly what the bins that are looked at show
 
   -- an answer is the most of them, at a height within the stock
-  pub seen_most : (b : Band) → seen_at s n cs z ≡ some b → (in_range s z ≡ true) × Most cs (first_at s n z) (looked s n z) b
+  pub seen_most : (b : Band) → seen_at s n cs z ≡ Some b → (in_range s z ≡ true) × Most cs (first_at s n z) (looked s n z) b
   unfolding seen_at
   seen_most = asked-most (in_range s z) cs (first_at s n z) (looked s n z)
 
   -- nothing is seen within the stock where none of them holds material
-  pub seen_none : seen_at s n cs z ≡ none → in_range s z ≡ true → (i : ℕ) (c : Band) → Holds cs (first_at s n z) (looked s n z) i c → ⊥
+  pub seen_none : seen_at s n cs z ≡ None → in_range s z ≡ true → (i : ℕ) (c : Band) → Holds cs (first_at s n z) (looked s n z) i c → ⊥
   unfolding seen_at
   seen_none = asked-none (in_range s z) cs (first_at s n z) (looked s n z)
 
   -- and where none does, and outside, nothing is seen
-  pub none_seen : (in_range s z ≡ true → (i : ℕ) (c : Band) → Holds cs (first_at s n z) (looked s n z) i c → ⊥) → seen_at s n cs z ≡ none
+  pub none_seen : (in_range s z ≡ true → (i : ℕ) (c : Band) → Holds cs (first_at s n z) (looked s n z) i c → ⊥) → seen_at s n cs z ≡ None
   unfolding seen_at
   none_seen = none-asked (in_range s z) cs (first_at s n z) (looked s n z)
 
   -- ---- beside the bin of z alone
 
-  own-bin : (c : Band) → seen_once s n cs z ≡ some c → (in_range s z ≡ true) × Holds cs (first_at s n z) (looked s n z) (bin_at s n z) c
+  own-bin : (c : Band) → seen_once s n cs z ≡ Some c → (in_range s z ≡ true) × Holds cs (first_at s n z) (looked s n z) (bin_at s n z) c
   unfolding seen_once pick
   own-bin c e = go (in_range s z) refl e
     where
-      go : (t : Bool) → in_range s z ≡ t → pick t (shown_of (most_of (cell_at cs (bin_at s n z)))) none ≡ some c → (in_range s z ≡ true) × Holds cs (first_at s n z) (looked s n z) (bin_at s n z) c
+      go : (t : Bool) → in_range s z ≡ t → pick t (shown_of (most_of (cell_at cs (bin_at s n z)))) None ≡ Some c → (in_range s z ≡ true) × Holds cs (first_at s n z) (looked s n z) (bin_at s n z) c
       go true p q = (p, record { from = (first-near s n z).0; to = omega (arith, (first-near s n z).0, last-over s n z); shown = q })
       go false p q = none-not q
 
   -- what its own bin shows lies within what is seen
-  pub seen_more : (c : Band) → seen_once s n cs z ≡ some c → (b : Band) × (seen_at s n cs z ≡ some b) × Nested c b
+  pub seen_more : (c : Band) → seen_once s n cs z ≡ Some c → (b : Band) × (seen_at s n cs z ≡ Some b) × Nested c b
   seen_more c e =
       let h = own-bin c e in
       elim (case (seen_at s n cs z)) [
@@ -78,7 +78,7 @@ module _ (s : TurnStockSpec) (n : ℕ) (cs : List Float) (z : Float) where
       ]
 
   -- where nothing is seen its own bin shows nothing
-  pub seen-none-once : seen_at s n cs z ≡ none → seen_once s n cs z ≡ none
+  pub seen-none-once : seen_at s n cs z ≡ None → seen_once s n cs z ≡ None
   seen-none-once e = elim (case (seen_once s n cs z)) [
     | nothing p ↦ p
     | found c p ↦ let h = own-bin c p in absurd (seen_none e h.0 (bin_at s n z) c h.1)
@@ -87,7 +87,7 @@ module _ (s : TurnStockSpec) (n : ℕ) (cs : List Float) (z : Float) where
   -- where neither neighbour holds z, the answer is that of its own bin
   pub seen_same : (0 < bin_at s n z → holds_z s (bin_at s n z - 1) z ≡ false) → (bin_at s n z + 1 < n → holds_z s (bin_at s n z + 1) z ≡ false) → seen_at s n cs z ≡ seen_once s n cs z
   unfolding seen_at seen_once most_over together
-  seen_same p q = rw (sym first, sym last) (ap (λ (k : ℕ). pick (in_range s z) (most_over cs (bin_at s n z) k) none) one ∙ ap (λ (i : ℕ). pick (in_range s z) (shown_of (most_of (cell_at cs i))) none) plus)
+  seen_same p q = rw (sym first, sym last) (ap (λ (k : ℕ). pick (in_range s z) (most_over cs (bin_at s n z) k) None) one ∙ ap (λ (i : ℕ). pick (in_range s z) (shown_of (most_of (cell_at cs i))) None) plus)
     where
       first : bin_at s n z ≡ first_at s n z
       first = go (ltb 0 (bin_at s n z)) refl
@@ -176,7 +176,7 @@ module _ (spec : TurnStockSpec) (n : ℕ) (cs : List Float) (e : stock_of spec c
       let some-cells = (checked spec n (stocked spec cs n e).count).some-cells in
       stock-fits spec cs n e i (omega (arith, h.to, (first-near (clean_spec spec) n z).0, last-over (clean_spec spec) n z, last-near (clean_spec spec) n z some-cells))
 
-  pub seen-band : (b : Band) → seen_at (clean_spec spec) n cs z ≡ some b → BandFits (clean_spec spec) b
+  pub seen-band : (b : Band) → seen_at (clean_spec spec) n cs z ≡ Some b → BandFits (clean_spec spec) b
   unfolding cell_fits
   seen-band b f =
       let s = clean_spec spec in
@@ -202,23 +202,23 @@ pub record Less (c c' : TurnCell) : Type 0 where
 
 module _ (cs cs' : List Float) where
   -- a bin that holds material held it before, in a band about it
-  held-before : (i : ℕ) (c : Band) → Less (cell_at cs i) (cell_at cs' i) → shown_of (most_of (cell_at cs' i)) ≡ some c → (shown_of (most_of (cell_at cs i)) ≡ some (most_of (cell_at cs i))) × Nested c (most_of (cell_at cs i))
+  held-before : (i : ℕ) (c : Band) → Less (cell_at cs i) (cell_at cs' i) → shown_of (most_of (cell_at cs' i)) ≡ Some c → (shown_of (most_of (cell_at cs i)) ≡ Some (most_of (cell_at cs i))) × Nested c (most_of (cell_at cs i))
   held-before i c l e =
       let q = shown-is (most_of (cell_at cs' i)) c e in
       let thick = le-lt-chain _ _ _ l.inner (lt-le-chain _ _ _ q.0 l.outer) in
       (shown-band _ (is_true _ thick), subst (λ (x : Band). Nested x (most_of (cell_at cs i))) q.1 (record { bore = l.inner; outer = l.outer }))
 
   -- so a walk over the same bins shows nothing, or a band within the one before
-  pub walk-less : (a k : ℕ) → ((i : ℕ) → a ≤ i → i < a + k → Less (cell_at cs i) (cell_at cs' i)) → (b' : Band) → most_over cs' a k ≡ some b' → (b : Band) × (most_over cs a k ≡ some b) × Nested b' b
+  pub walk-less : (a k : ℕ) → ((i : ℕ) → a ≤ i → i < a + k → Less (cell_at cs i) (cell_at cs' i)) → (b' : Band) → most_over cs' a k ≡ Some b' → (b : Band) × (most_over cs a k ≡ Some b) × Nested b' b
   walk-less a k f = walk-within cs' cs a k a k (λ i c h.
       let q = held-before i c (f i h.from h.to) h.shown in
       (most_of (cell_at cs i), record { from = h.from; to = h.to; shown = q.0 }, q.1))
 
   -- and at a height nothing is seen, or a band within the one before
-  pub seen-less : (s : TurnStockSpec) (n : ℕ) (z : Float) → 0 < n → ((i : ℕ) → i < n → Less (cell_at cs i) (cell_at cs' i)) → (b' : Band) → seen_at s n cs' z ≡ some b' → (b : Band) × (seen_at s n cs z ≡ some b) × Nested b' b
+  pub seen-less : (s : TurnStockSpec) (n : ℕ) (z : Float) → 0 < n → ((i : ℕ) → i < n → Less (cell_at cs i) (cell_at cs' i)) → (b' : Band) → seen_at s n cs' z ≡ Some b' → (b : Band) × (seen_at s n cs z ≡ Some b) × Nested b' b
   unfolding seen_at
   seen-less s n z h f b' e =
       let p : in_range s z ≡ true = (seen_most s n cs' z b' e).0 in
-      let shown : most_over cs' (first_at s n z) (looked s n z) ≡ some b' = sym (pick_true _ _ _ p) ∙ e in
+      let shown : most_over cs' (first_at s n z) (looked s n z) ≡ Some b' = sym (pick_true _ _ _ p) ∙ e in
       let r = walk-less (first_at s n z) (looked s n z) (λ i u v. f i (omega (arith, u, v, (first-near s n z).0, last-over s n z, last-near s n z h))) b' shown in
       (r.0, pick_true _ _ _ p ∙ r.1, r.2)

@@ -1,26 +1,22 @@
 -- The bins that are looked at for a height, and the walk over them. Assumes nothing.
-use mathlib.Core.Path.{◌≡◌, refl, sym, ap, ◌∙◌}
+use Rattle.std.specs.Prelude.{Option}
+use mathlib.Core.Path.{◌≡◌, refl, sym, ap, ap₂, ◌∙◌}
 use mathlib.Core.Bool.{Bool, true, false, ◌&&◌}
 use mathlib.Core.List.{List}
-use mathlib.Core.Option.{Option, none, some}
-use Prim.Native.Nat.{ℕ, suc, ◌+◌, ◌-◌, ◌≤◌, ◌<◌}
+use Prim.Native.Nat.{ℕ, ◌+◌, ◌-◌, ◌≤◌, ◌<◌}
 use native.Mathlib.Numerals.{add-one}
 use native.Mathlib.Omega.{arith}
 use lib.Dec.{ltb}
 use lib.Ieee.{Float}
 use borrow.Author.Tests.{lt-ltb, le-ltb, ltb-true}
-use Rattle.refusals.specs.Paper.{Paper, answers}
 use Rattle.floats.specs.Pick.{pick, pick_true, pick-false}
-use Rattle.floats.specs.Numbers.{least_of, greatest_of}
 use Rattle.stock.specs.declared.TurnStockSpec.{TurnStockSpec}
 use Rattle.stock.specs.declared.TurnCell.{TurnCell}
 use Rattle.stock.specs.Cell.{cell_at}
 use Rattle.queries.specs.declared.Band.{Band}
 use Rattle.queries.specs.declared.BinSpan.{BinSpan}
-use Rattle.queries.specs.declared.Seen.{Seen}
-use Rattle.queries.specs.declared.Seen.TheVariants.{Radii, Nothing, Refused}
 use Rattle.queries.specs.Material.{most_of}
-use Rattle.queries.specs.Envelope.{bin_at, holds_z, first_at, last_at, bins_at, shown_of, together, most_over, seen_paper, shown_in}
+use Rattle.queries.specs.Envelope.{bin_at, holds_z, first_at, last_at, bins_at, shown_of, together, most_over}
 
 -- ---- which bins
 not-both : (a b : Bool) → b ≡ false → (a && b) ≡ false
@@ -99,34 +95,10 @@ span-room s n z {r} h e =
     (omega (arith, (first-near s n z).0, last-over s n z), omega (arith, last-near s n z h))
 
 -- ---- what they show
-module _ (a b : Seen) where
-  pub join-both : {x y u v l g : Float} → a ≡ Radii x y → b ≡ Radii u v → l ≡ least_of x u → g ≡ greatest_of y v → seen_paper (Radii l g) ≡ answers (together (shown_in a) (shown_in b))
-  unfolding together
-  join-both p q e f = rw (p, q, e, f) refl
-
-  pub join_first : {x y : Float} → a ≡ Radii x y → shown_in b ≡ none → seen_paper (Radii x y) ≡ answers (together (shown_in a) (shown_in b))
-  unfolding together
-  join_first p q = rw (p, q) refl
-
-  pub join-second : (r : Seen) → shown_in a ≡ none → seen_paper r ≡ answers (shown_in b) → seen_paper r ≡ answers (together (shown_in a) (shown_in b))
-  unfolding together
-  join-second r p q = rw p q
-
--- an answer shows what it says
-pub shows : (r : Seen) (x : Option Band) → seen_paper r ≡ answers x → shown_in r ≡ x
-shows (Radii b o) x e = cc
-shows Nothing x e = cc
-shows (Refused c) x e = cc
-
 pub most-more : (cs : List Float) (a k : ℕ) → most_over cs a (k + 1) ≡ together (most_over cs a k) (shown_of (most_of (cell_at cs (a + k))))
 unfolding most_over
 most-more cs a k = ap (most_over cs a) (add-one k)
 
 -- one bin on
-pub walk-on : (cs : List Float) (a k : ℕ) (seen one next : Seen) {c : TurnCell} {b : Band} → seen_paper seen ≡ answers (most_over cs a k) → c ≡ cell_at cs (a + k) → b ≡ most_of c → seen_paper one ≡ answers (shown_of b)
-    → seen_paper next ≡ answers (together (shown_in seen) (shown_in one)) → seen_paper next ≡ answers (most_over cs a (k + 1))
-walk-on cs a k seen one next p ec eb q e =
-    e
-    ∙ ap (λ x. answers (together x (shown_in one))) (shows seen _ p)
-    ∙ ap (λ x. answers (together (most_over cs a k) x)) (shows one _ q ∙ ap shown_of (eb ∙ ap most_of ec))
-    ∙ ap answers (sym (most-more cs a k))
+pub walk-on : (cs : List Float) (a k : ℕ) (seen one next : Option Band) {c : TurnCell} {b : Band} → seen ≡ most_over cs a k → c ≡ cell_at cs (a + k) → b ≡ most_of c → one ≡ shown_of b → next ≡ together seen one → next ≡ most_over cs a (k + 1)
+walk-on cs a k seen one next p ec eb q e = e ∙ ap₂ together p (q ∙ ap shown_of (eb ∙ ap most_of ec)) ∙ sym (most-more cs a k)

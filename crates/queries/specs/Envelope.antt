@@ -1,9 +1,7 @@
 -- The most material that may remain at a height z: over the bin of z, and a neighbour on either side whose closed range holds z. Assumes nothing.
-use Rattle.std.specs.Prelude.{ℕ, zero, suc, ◌+◌, ◌-◌, min, Bool, ◌&&◌, List, ltb, Float}
-use Rattle.std.proofs.Math.Option.{Option, none, some}
+use Rattle.std.specs.Prelude.{ℕ, zero, suc, ◌+◌, ◌-◌, min, Bool, ◌&&◌, List, ltb, Float, Option, None, Some}
 use Rattle.std.specs.Float.Ieee.{le, lt}
-use Rattle.refusals.specs.Number.{reason_of}
-use Rattle.refusals.specs.Paper.{Paper, answers, refuses, onward}
+use Rattle.refusals.specs.Paper.{Paper, answers, onward}
 use Rattle.floats.specs.Pick.{pick}
 use Rattle.floats.specs.Numbers.{◌-₆₄◌, ◌/₆₄◌, least_of, greatest_of, clean_of}
 use Rattle.numbers.specs.Whole.{whole_part}
@@ -13,8 +11,6 @@ use Rattle.stock.specs.Bin.{bin_of}
 use Rattle.stock.specs.Cell.{cell_at, stock_of}
 use Rattle.queries.specs.declared.Band.{Band}
 use Rattle.queries.specs.declared.BinSpan.{BinSpan}
-use Rattle.queries.specs.declared.Seen.{Seen}
-use Rattle.queries.specs.declared.Seen.TheVariants.{Radii, Nothing, Refused}
 use Rattle.queries.specs.Material.{band, most_of}
 
 -- within z_min..z_max, both ends too; a NaN is not
@@ -51,7 +47,7 @@ bins_at s n z = record { first = first_at s n z; last = last_at s n z }
 
 -- a band, and nothing unless its outer radius is above its bore
 unfoldable pub shown_of : Band → Option Band
-shown_of b = pick (lt b.bore b.outer) (some b) none
+shown_of b = pick (lt b.bore b.outer) (Some b) None
 
 -- of two bands the least bore and the greatest outer radius
 abbrev pub join_of : Band → Band → Band
@@ -59,35 +55,23 @@ join_of a b = band (least_of a.bore b.bore) (greatest_of a.outer b.outer)
 
 -- of two, each there or not, the same of what is there
 unfoldable pub together : Option Band → Option Band → Option Band
-together none b = b
-together (some a) none = some a
-together (some a) (some b) = some (join_of a b)
+together None b = b
+together (Some a) None = Some a
+together (Some a) (Some b) = Some (join_of a b)
 
 -- the most over k bins, from bin a on
 unfoldable pub most_over : List Float → ℕ → ℕ → Option Band
-most_over cs a zero = none
+most_over cs a zero = None
 most_over cs a (suc k) = together (most_over cs a k) (shown_of (most_of (cell_at cs (a + k))))
 
 -- what is seen of n cells at z: nothing outside the z range
 unfoldable pub seen_at : TurnStockSpec → ℕ → List Float → Float → Option Band
-seen_at s n cs z = pick (in_range s z) (most_over cs (first_at s n z) (last_at s n z - first_at s n z + 1)) none
+seen_at s n cs z = pick (in_range s z) (most_over cs (first_at s n z) (last_at s n z - first_at s n z + 1)) None
 
 -- the same in the bin of z alone: 01's rule, in whose place the one above has come
 unfoldable pub seen_once : TurnStockSpec → ℕ → List Float → Float → Option Band
-seen_once s n cs z = pick (in_range s z) (shown_of (most_of (cell_at cs (bin_at s n z)))) none
+seen_once s n cs z = pick (in_range s z) (shown_of (most_of (cell_at cs (bin_at s n z)))) None
 
 -- the same of a stock; 1, 2, 3
 unfoldable pub envelope_at : TurnStockSpec → List Float → Float → Paper (Option Band)
 envelope_at spec cs z = onward (stock_of spec cs) (λ n. answers (seen_at (clean_spec spec) n cs (clean_of z)))
-
--- what the answer of `envelope_at` says, case by case
-abbrev pub seen_paper : Seen → Paper (Option Band)
-seen_paper (Radii b o) = answers (some (band b o))
-seen_paper Nothing = answers none
-seen_paper (Refused c) = refuses (reason_of c)
-
--- what an answer shows; a refusal nothing
-abbrev pub shown_in : Seen → Option Band
-shown_in (Radii b o) = some (band b o)
-shown_in Nothing = none
-shown_in (Refused c) = none

@@ -1,6 +1,5 @@
 -- What an answer over some bins says, bin by bin: in whose words the laws of the query are stated. Assumes nothing.
-use Rattle.std.specs.Prelude.{◌≡◌, List, ℕ, ◌+◌, ◌≤◌, ◌<◌, T, Float}
-use Rattle.std.proofs.Math.Option.{some}
+use Rattle.std.specs.Prelude.{◌≡◌, List, ℕ, ◌+◌, ◌≤◌, ◌<◌, T, Float, Some}
 use Rattle.std.specs.Float.Ieee.{le}
 use Rattle.stock.specs.Cell.{cell_at}
 use Rattle.queries.specs.declared.Band.{Band}
@@ -11,7 +10,7 @@ use Rattle.queries.specs.Envelope.{shown_of}
 pub record Holds (cs : List Float) (a k i : ℕ) (c : Band) : Type 0 where
   pub from : a ≤ i
   pub to : i < a + k
-  pub shown : shown_of (most_of (cell_at cs i)) ≡ some c
+  pub shown : shown_of (most_of (cell_at cs i)) ≡ Some c
 
 -- the band c lies within the band b
 pub record Nested (c b : Band) : Type 0 where

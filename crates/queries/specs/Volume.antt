@@ -2,8 +2,7 @@
 use Rattle.std.specs.Prelude.{ℕ, zero, suc, List, Float}
 use Rattle.std.specs.Float.{binary64}
 use Rattle.std.specs.Float.Ieee.{of_bits, le, lt}
-use Rattle.refusals.specs.Number.{reason_of}
-use Rattle.refusals.specs.Paper.{Paper, answers, refuses, demand, onward}
+use Rattle.refusals.specs.Paper.{Paper, answers, demand, onward}
 use Rattle.floats.specs.Pick.{pick}
 use Rattle.floats.specs.Numbers.{◌+₆₄◌, ◌-₆₄◌, ◌*₆₄◌, zero64, least_of, greatest_of}
 use Rattle.stock.specs.declared.TurnStockSpec.{TurnStockSpec}
@@ -16,8 +15,6 @@ use Rattle.rings.specs.declared.Ring.{Ring}
 use Rattle.rings.specs.Store.{bar_ring, ring_at, count_fits}
 use Rattle.queries.specs.declared.Band.{Band}
 use Rattle.queries.specs.declared.Volumes.{Volumes}
-use Rattle.queries.specs.declared.Measured.{Measured}
-use Rattle.queries.specs.declared.Measured.TheVariants.{Between, Refused}
 use Rattle.queries.specs.Material.{band, sure_of, most_of}
 
 -- pi's bits
@@ -79,8 +76,3 @@ volume_of spec cs xs k =
     onward (stock_of spec cs) (λ n.
     demand (count_fits (bar_ring (clean_spec spec)) xs k) 4
     (answers (volume_in (clean_spec spec) cs n xs k)))
-
--- what the answer of `volume` says, case by case
-abbrev pub measured_paper : Measured → Paper Volumes
-measured_paper (Between a b) = answers (record { least = a; greatest = b })
-measured_paper (Refused c) = refuses (reason_of c)

@@ -8,19 +8,19 @@
 //
 // At a height the most over the bins that touch it is asked: the bin of z, and a neighbour on either
 // side whose closed range holds z too.
-#![tactic(auto)]
+#![tactic(auto, using(floats::specs::Pick::picks), unfolding(crate::specs::Volume::held_in, crate::specs::Volume::less_band, crate::specs::Envelope::shown_of, crate::specs::Envelope::together, crate::specs::Volume::tube_of))]
 
 ghost use Rattle.std.specs.Prelude.{◌≡◌, ◌+◌, ◌*◌, ◌≤◌, ◌<◌, length};
-ghost use Rattle.refusals.specs.Paper.{answers};
+ghost use Rattle.refusals.specs.Number.{paper_of};
 ghost use Rattle.rings.specs.Store.{ring_at};
 ghost use Rattle.queries.specs.Material.{sure_of, most_of};
-ghost use Rattle.queries.specs.Envelope.{bin_at, holds_z, first_at, last_at, bins_at, shown_of, together, most_over, shown_in, seen_at, envelope_at, seen_paper};
-ghost use Rattle.queries.specs.Volume.{tube_of, held_in, less_band, volume_of, measured_paper};
+ghost use Rattle.queries.specs.Envelope.{bin_at, holds_z, first_at, last_at, bins_at, shown_of, join_of, together, most_over, seen_at, envelope_at};
+ghost use Rattle.queries.specs.Volume.{tube_of, held_in, less_band, volume_of};
 ghost use Rattle.queries.specs.Pass.{sums_of, less_bin, less_bins, less_all};
 
 use refusals::Refusal;
 use rings::Ring;
-use stock::{Counted, TurnCell, TurnStockSpec, ZRange};
+use stock::{TurnCell, TurnStockSpec, ZRange};
 
 const PI: f64 = 3.141592653589793;
 
@@ -45,22 +45,8 @@ pub struct Volumes {
     pub greatest: f64,
 }
 
-// What may remain at a height: from the bore to the outer radius.
-#[derive(Clone, Copy)]
-pub enum Seen {
-    Radii(f64, f64),
-    Nothing,
-    Refused(Refusal),
-}
-
-// The least and the greatest volume.
-#[derive(Clone, Copy)]
-pub enum Measured {
-    Between(f64, f64),
-    Refused(Refusal),
-}
-
-fn sure(c: TurnCell) -> Band
+// The least that remains of a cell.
+pub fn sure(c: TurnCell) -> Band
     ensures { result ≡ sure_of c }
 {
     Band {
@@ -69,7 +55,8 @@ fn sure(c: TurnCell) -> Band
     }
 }
 
-fn most(c: TurnCell) -> Band
+// The most that may remain of it.
+pub fn most(c: TurnCell) -> Band
     ensures { result ≡ most_of c }
 {
     Band {
@@ -143,63 +130,55 @@ pub fn bins_at(s: TurnStockSpec, n: usize, z: f64) -> BinSpan
 }
 
 // A band, if it has material.
-pub fn shown(b: Band) -> Seen
-    ensures { seen_paper result ≡ answers (shown_of b) }
+pub fn shown(b: Band) -> Option<Band>
+    ensures { result ≡ shown_of b }
 {
-    if b.bore < b.outer {
-        return Seen::Radii(b.bore, b.outer);
-    }
-    Seen::Nothing
+    if b.bore < b.outer { Some(b) } else { None }
 }
 
-// The least bore and the greatest outer radius of what is seen in two places.
-fn join(a: Seen, b: Seen) -> Seen
-    ensures { seen_paper result ≡ answers (together (shown_in a) (shown_in b)) }
+// Of two bands the least bore and the greatest outer radius.
+pub fn join(a: Band, b: Band) -> Band
+    ensures { result ≡ join_of a b }
 {
-    match a {
-        Seen::Radii(x, y) => match b {
-            Seen::Radii(u, v) => Seen::Radii(floats::least(x, u), floats::greatest(y, v)),
-            Seen::Nothing => Seen::Radii(x, y),
-            Seen::Refused(_) => Seen::Radii(x, y),
-        },
-        Seen::Nothing => alone(b),
-        Seen::Refused(_) => alone(b),
+    Band {
+        bore: floats::least(a.bore, b.bore),
+        outer: floats::greatest(a.outer, b.outer),
     }
 }
 
-// What is seen in one place.
-fn alone(b: Seen) -> Seen
-    ensures { seen_paper result ≡ answers (shown_in b) }
+// The same of what is seen in two places.
+fn together(a: Option<Band>, b: Option<Band>) -> Option<Band>
+    ensures { result ≡ together a b }
 {
-    match b {
-        Seen::Radii(u, v) => Seen::Radii(u, v),
-        Seen::Nothing => Seen::Nothing,
-        Seen::Refused(_) => Seen::Nothing,
-    }
+    let Some(x) = a else {
+        return b;
+    };
+    let Some(y) = b else {
+        return a;
+    };
+    Some(join(x, y))
 }
 
 // The most over so many of n bins, from the first on.
-fn most_over(cells: &[f64], n: usize, first: usize, count: usize) -> Seen
+fn most_over(cells: &[f64], n: usize, first: usize, count: usize) -> Option<Band>
     requires { first + count ≤ n }
-    ensures { seen_paper result ≡ answers (most_over cells.now first count) }
+    ensures { result ≡ most_over cells.now first count }
 {
-    let mut seen = Seen::Nothing;
-    let mut k: usize = 0;
-    while k < count {
+    let mut seen = None;
+    for k in 0..count {
         let one = shown(most(stock::cell_at(cells, first + k)));
-        seen = join(seen, one);
-        k += 1;
+        seen = together(seen, one);
     }
     seen
 }
 
 // What may remain at z, in a stock whose cells are checked.
-fn seen_at(s: TurnStockSpec, n: usize, cells: &[f64], z: f64) -> Seen
+fn seen_at(s: TurnStockSpec, n: usize, cells: &[f64], z: f64) -> Option<Band>
     requires { 0 < n }
-    ensures { seen_paper result ≡ answers (seen_at s n cells.now z) }
+    ensures { result ≡ seen_at s n cells.now z }
 {
     if !((s.z_min_mm <= z) & (z <= s.z_max_mm)) {
-        return Seen::Nothing;
+        return None;
     }
     let bins = bins_at(s, n, z);
     let first = bins.first;
@@ -208,14 +187,11 @@ fn seen_at(s: TurnStockSpec, n: usize, cells: &[f64], z: f64) -> Seen
 
 // The most material that may remain at z, from bore to outer radius: over the bin of z, and a neighbour
 // whose closed range holds z; 1, 2, 3.
-pub fn envelope_at(spec: TurnStockSpec, cells: &[f64], z: f64) -> Seen
-    ensures { seen_paper result ≡ envelope_at spec cells.now z }
+pub fn envelope_at(spec: TurnStockSpec, cells: &[f64], z: f64) -> Result<Option<Band>, Refusal>
+    ensures { paper_of result ≡ envelope_at spec cells.now z }
 {
-    let counted = stock::cells_fit(spec, cells);
-    match counted {
-        Counted::Refused(r) => Seen::Refused(r),
-        Counted::Cells(n) => seen_at(stock::clean_spec(spec), n, cells, floats::clean(z)),
-    }
+    let n = stock::cells_fit(spec, cells)?;
+    Ok(seen_at(stock::clean_spec(spec), n, cells, floats::clean(z)))
 }
 
 // What a band holds over the height h.
@@ -245,13 +221,11 @@ fn sums(s: TurnStockSpec, cells: &[f64], n: usize) -> Volumes
     let bins = numbers::lesser(n, cells.len() / 4);
     let mut least = 0.0;
     let mut greatest = 0.0;
-    let mut i: usize = 0;
-    while i < bins {
+    for i in 0..bins {
         let c = stock::cell_at(cells, i);
         let z = stock::bin_of(s, i);
         least = least + held(sure(c), z);
         greatest = greatest + held(most(c), z);
-        i += 1;
     }
     Volumes { least, greatest }
 }
@@ -291,10 +265,8 @@ fn less_ring(s: TurnStockSpec, cells: &[f64], n: usize, q: Ring, v: Volumes) -> 
     ensures { result ≡ less_bins s cells.now q v n }
 {
     let mut left = v;
-    let mut i: usize = 0;
-    while i < n {
+    for i in 0..n {
         left = less_bin(s, cells, q, i, left);
-        i += 1;
     }
     left
 }
@@ -325,32 +297,30 @@ fn less_rings(
     ensures { result ≡ less_all s cells.now n rings.now v count }
 {
     let mut left = v;
-    let mut k: usize = 0;
-    while k < count {
+    for k in 0..count {
         left = less_ring(s, cells, n, ring_at(rings, k), left);
-        k += 1;
     }
     left
 }
 
 // The least and the greatest volume that remains; 1, 2, 3, 4.
-pub fn volume(spec: TurnStockSpec, cells: &[f64], rings: &[f64], count: usize) -> Measured
-    ensures { measured_paper result ≡ volume_of spec cells.now rings.now count }
+pub fn volume(
+    spec: TurnStockSpec,
+    cells: &[f64],
+    rings: &[f64],
+    count: usize,
+) -> Result<Volumes, Refusal>
+    ensures { paper_of result ≡ volume_of spec cells.now rings.now count }
 {
-    let counted = stock::cells_fit(spec, cells);
-    match counted {
-        Counted::Refused(r) => Measured::Refused(r),
-        Counted::Cells(n) => {
-            if !rings::rings_fit(spec, rings, count) {
-                return Measured::Refused(Refusal::StoredRings);
-            }
-            let s = stock::clean_spec(spec);
-            let all = sums(s, cells, n);
-            let left = less_rings(s, cells, n, rings, count, all);
-            Measured::Between(
-                floats::greatest(left.least, 0.0),
-                floats::greatest(left.greatest, 0.0),
-            )
-        }
+    let n = stock::cells_fit(spec, cells)?;
+    if !rings::rings_fit(spec, rings, count) {
+        return Err(Refusal::StoredRings);
     }
+    let s = stock::clean_spec(spec);
+    let all = sums(s, cells, n);
+    let left = less_rings(s, cells, n, rings, count, all);
+    Ok(Volumes {
+        least: floats::greatest(left.least, 0.0),
+        greatest: floats::greatest(left.greatest, 0.0),
+    })
 }

@@ -10,7 +10,9 @@ use Rattle.floats.proofs.Folds.{fold-keeps, fold-slide}
 use Rattle.stock.specs.declared.TurnCell.{TurnCell}
 use Rattle.stock.specs.declared.TurnSide.{TurnSide}
 use Rattle.stock.specs.declared.TurnSide.TheVariants.{Outer, Inner}
-use Rattle.reach.specs.Reach.{Reached, passed, low, both, deeper, shallower, deep_of, sure_of, limit_of, with_pair, own_of, cut_by, cut_cell, Act, act_cell}
+use Rattle.reach.specs.declared.Reach.{Reach}
+use Rattle.reach.specs.declared.Reach.TheVariants.{Passed, Low, Both}
+use Rattle.reach.specs.Reach.{deeper, shallower, deep_of, sure_of, limit_of, with_pair, own_of, cut_by, cut_cell, Act, act_cell}
 use Rattle.reach.specs.Closed.{gather, lows_of, highs_of, closed, owns_at}
 use Rattle.reach.specs.Kinds.{PlainReach, PlainAct, OnlyAt}
 use Rattle.reach.proofs.Sides.{deeper-lattice, deeper-gathers, shallower-plain, deep-with, sure-with, limit-with, with-with, with-own, Ordered}
@@ -41,18 +43,18 @@ module _ (σ : TurnSide) where
       ∙ ap (λ (z : Float). deeper σ (foldl (deeper σ) a l) z) (met l' qs q)
 
 -- the lows of plain reaches are plain
-pub plain-lows : (l : List Reached) → Each PlainReach l → Each P (gather lows_of l)
+pub plain-lows : (l : List Reach) → Each PlainReach l → Each P (gather lows_of l)
 plain-lows [] ps = tt
-plain-lows (passed ∷ l) ps = plain-lows l ps.1
-plain-lows (low x ∷ l) ps = (ps.0, plain-lows l ps.1)
-plain-lows (both x y ∷ l) ps = (ps.0.0, plain-lows l ps.1)
+plain-lows (Passed ∷ l) ps = plain-lows l ps.1
+plain-lows (Low x ∷ l) ps = (ps.0, plain-lows l ps.1)
+plain-lows (Both x y ∷ l) ps = (ps.0.0, plain-lows l ps.1)
 
 -- and so are the highs
-pub plain-highs : (l : List Reached) → Each PlainReach l → Each P (gather highs_of l)
+pub plain-highs : (l : List Reach) → Each PlainReach l → Each P (gather highs_of l)
 plain-highs [] ps = tt
-plain-highs (passed ∷ l) ps = plain-highs l ps.1
-plain-highs (low x ∷ l) ps = plain-highs l ps.1
-plain-highs (both x y ∷ l) ps = (ps.0.1, plain-highs l ps.1)
+plain-highs (Passed ∷ l) ps = plain-highs l ps.1
+plain-highs (Low x ∷ l) ps = plain-highs l ps.1
+plain-highs (Both x y ∷ l) ps = (ps.0.1, plain-highs l ps.1)
 
 -- ---- one cut is a step of the closed form
 
@@ -60,7 +62,7 @@ plain-highs (both x y ∷ l) ps = (ps.0.1, plain-highs l ps.1)
 abbrev formed : TurnSide → Float → Float → List Float → List Float → TurnCell → TurnCell
 formed σ d u ls hs c = with_pair σ (deeper σ (foldl (deeper σ) d ls) (foldl (deeper σ) u hs)) (foldl (deeper σ) u hs) c
 
-closed-with : (σ : TurnSide) (d u : Float) (c : TurnCell) (l : List Reached) → closed σ (with_pair σ d u c) l ≡ formed σ d u (gather lows_of l) (gather highs_of l) c
+closed-with : (σ : TurnSide) (d u : Float) (c : TurnCell) (l : List Reach) → closed σ (with_pair σ d u c) l ≡ formed σ d u (gather lows_of l) (gather highs_of l) c
 unfolding closed
 closed-with σ d u c l =
     ap₂ (λ (x y : Float). formed σ x y (gather lows_of l) (gather highs_of l) (with_pair σ d u c)) (deep-with d u c σ) (sure-with d u c σ)
@@ -70,11 +72,11 @@ closed-nil : (σ : TurnSide) (c : TurnCell) → Ordered σ c → closed σ c [] 
 unfolding closed
 closed-nil σ c o = ap (λ (z : Float). with_pair σ z (sure_of σ c) c) o.order ∙ with-own σ c
 
-closed-step : (σ : TurnSide) (c : TurnCell) (r : Reached) (l : List Reached) → Ordered σ c → PlainReach r → Each PlainReach l → closed σ (cut_by σ c r) l ≡ closed σ c (r ∷ l)
+closed-step : (σ : TurnSide) (c : TurnCell) (r : Reach) (l : List Reach) → Ordered σ c → PlainReach r → Each PlainReach l → closed σ (cut_by σ c r) l ≡ closed σ c (r ∷ l)
 unfolding closed cut_by
-closed-step σ c passed l o p ps = refl
-closed-step σ c (low x) l o p ps = closed-with σ (deeper σ (deep_of σ c) x) (sure_of σ c) c l
-closed-step σ c (both x y) l o p ps =
+closed-step σ c Passed l o p ps = refl
+closed-step σ c (Low x) l o p ps = closed-with σ (deeper σ (deep_of σ c) x) (sure_of σ c) c l
+closed-step σ c (Both x y) l o p ps =
     let ls = gather lows_of l in
     let hs = gather highs_of l in
     let u = deeper σ (sure_of σ c) y in
@@ -87,13 +89,13 @@ unfolding deep_of sure_of limit_of with_pair
 ordered-with Outer d u c p q r e = record { deep = p; sure = q; limit = r; order = e }
 ordered-with Inner d u c p q r e = record { deep = p; sure = q; limit = r; order = e }
 
-pub ordered-cut : (σ : TurnSide) (c : TurnCell) (r : Reached) → Ordered σ c → PlainReach r → Ordered σ (cut_by σ c r)
+pub ordered-cut : (σ : TurnSide) (c : TurnCell) (r : Reach) → Ordered σ c → PlainReach r → Ordered σ (cut_by σ c r)
 unfolding cut_by
-ordered-cut σ c passed o p = o
-ordered-cut σ c (low x) o p =
+ordered-cut σ c Passed o p = o
+ordered-cut σ c (Low x) o p =
     let K = deeper-lattice σ in
     ordered-with σ (deeper σ (deep_of σ c) x) (sure_of σ c) c (K.keeps o.deep p) o.sure o.limit ((deeper-gathers σ).turn o.deep p o.sure ∙ ap (λ (z : Float). deeper σ z x) o.order)
-ordered-cut σ c (both x y) o p =
+ordered-cut σ c (Both x y) o p =
     let K = deeper-lattice σ in
     let u = deeper σ (sure_of σ c) y in
     let d = deeper σ (deep_of σ c) x in
@@ -102,48 +104,48 @@ ordered-cut σ c (both x y) o p =
     ordered-with σ (deeper σ d u) u c (K.keeps D U) U o.limit ((deeper-gathers σ).again D U)
 
 -- ---- cuts by own bounds that are given leave the closed form
-by-owns : (σ : TurnSide) (c : TurnCell) (l : List Reached) → Ordered σ c → Each PlainReach l → foldl (cut_by σ) c l ≡ closed σ c l
+by-owns : (σ : TurnSide) (c : TurnCell) (l : List Reach) → Ordered σ c → Each PlainReach l → foldl (cut_by σ) c l ≡ closed σ c l
 by-owns σ c [] o ps = sym (closed-nil σ c o)
 by-owns σ c (r ∷ l) o ps = by-owns σ (cut_by σ c r) l (ordered-cut σ c r o ps.0) ps.1 ∙ closed-step σ c r l o ps.0 ps.1
 
 -- ---- a cut does not move the limit of its side, so each cut has the own bounds that it has over the start
-limit-cut : (σ : TurnSide) (c : TurnCell) (r : Reached) → limit_of σ (cut_by σ c r) ≡ limit_of σ c
+limit-cut : (σ : TurnSide) (c : TurnCell) (r : Reach) → limit_of σ (cut_by σ c r) ≡ limit_of σ c
 unfolding cut_by
-limit-cut σ c passed = refl
-limit-cut σ c (low x) = limit-with (deeper σ (deep_of σ c) x) (sure_of σ c) c σ
-limit-cut σ c (both x y) = let u = deeper σ (sure_of σ c) y in limit-with (deeper σ (deeper σ (deep_of σ c) x) u) u c σ
+limit-cut σ c Passed = refl
+limit-cut σ c (Low x) = limit-with (deeper σ (deep_of σ c) x) (sure_of σ c) c σ
+limit-cut σ c (Both x y) = let u = deeper σ (sure_of σ c) y in limit-with (deeper σ (deeper σ (deep_of σ c) x) u) u c σ
 
-own-limit : (σ : TurnSide) (c c' : TurnCell) (r : Reached) → limit_of σ c ≡ limit_of σ c' → own_of σ c r ≡ own_of σ c' r
+own-limit : (σ : TurnSide) (c c' : TurnCell) (r : Reach) → limit_of σ c ≡ limit_of σ c' → own_of σ c r ≡ own_of σ c' r
 unfolding own_of
-own-limit σ c c' passed e = refl
-own-limit σ c c' (low x) e = ap (λ (z : Float). low (shallower σ x z)) e
-own-limit σ c c' (both x y) e = ap (λ (z : Float). both (shallower σ x z) (shallower σ y z)) e
+own-limit σ c c' Passed e = refl
+own-limit σ c c' (Low x) e = ap (λ (z : Float). Low (shallower σ x z)) e
+own-limit σ c c' (Both x y) e = ap (λ (z : Float). Both (shallower σ x z) (shallower σ y z)) e
 
 -- own bounds of plain reaches are plain
-pub own-plain : (σ : TurnSide) (c : TurnCell) (r : Reached) → P (limit_of σ c) → PlainReach r → PlainReach (own_of σ c r)
+pub own-plain : (σ : TurnSide) (c : TurnCell) (r : Reach) → P (limit_of σ c) → PlainReach r → PlainReach (own_of σ c r)
 unfolding own_of
-own-plain σ c passed q p = tt
-own-plain σ c (low x) q p = shallower-plain σ p q
-own-plain σ c (both x y) q p = (shallower-plain σ p.0 q, shallower-plain σ p.1 q)
+own-plain σ c Passed q p = tt
+own-plain σ c (Low x) q p = shallower-plain σ p q
+own-plain σ c (Both x y) q p = (shallower-plain σ p.0 q, shallower-plain σ p.1 q)
 
-owns-limit : (σ : TurnSide) (c c' : TurnCell) (l : List Reached) → limit_of σ c ≡ limit_of σ c' → map (own_of σ c) l ≡ map (own_of σ c') l
+owns-limit : (σ : TurnSide) (c c' : TurnCell) (l : List Reach) → limit_of σ c ≡ limit_of σ c' → map (own_of σ c) l ≡ map (own_of σ c') l
 owns-limit σ c c' [] e = refl
-owns-limit σ c c' (r ∷ l) e = ap₂ (λ (x : Reached) (t : List Reached). x ∷ t) (own-limit σ c c' r e) (owns-limit σ c c' l e)
+owns-limit σ c c' (r ∷ l) e = ap₂ (λ (x : Reach) (t : List Reach). x ∷ t) (own-limit σ c c' r e) (owns-limit σ c c' l e)
 
 -- so are those of a list
-pub owns-plain : (σ : TurnSide) (c : TurnCell) (l : List Reached) → P (limit_of σ c) → Each PlainReach l → Each PlainReach (map (own_of σ c) l)
+pub owns-plain : (σ : TurnSide) (c : TurnCell) (l : List Reach) → P (limit_of σ c) → Each PlainReach l → Each PlainReach (map (own_of σ c) l)
 owns-plain σ c [] q ps = tt
 owns-plain σ c (r ∷ l) q ps = (own-plain σ c r q ps.0, owns-plain σ c l q ps.1)
 
-by-start : (σ : TurnSide) (c : TurnCell) (l : List Reached) → foldl (cut_cell σ) c l ≡ foldl (cut_by σ) c (map (own_of σ c) l)
+by-start : (σ : TurnSide) (c : TurnCell) (l : List Reach) → foldl (cut_cell σ) c l ≡ foldl (cut_by σ) c (map (own_of σ c) l)
 unfolding cut_cell
 by-start σ c [] = refl
 by-start σ c (r ∷ l) =
     by-start σ (cut_by σ c (own_of σ c r)) l
-    ∙ ap (λ (t : List Reached). foldl (cut_by σ) (cut_by σ c (own_of σ c r)) t) (owns-limit σ (cut_by σ c (own_of σ c r)) c l (limit-cut σ c (own_of σ c r)))
+    ∙ ap (λ (t : List Reach). foldl (cut_by σ) (cut_by σ c (own_of σ c r)) t) (owns-limit σ (cut_by σ c (own_of σ c r)) c l (limit-cut σ c (own_of σ c r)))
 
 -- THE CELL: cuts of one side, one after another, leave the closed form; the own bounds are those over the cell as it was at the start
-pub cuts-of-cell : (σ : TurnSide) (c : TurnCell) (l : List Reached) → Ordered σ c → Each PlainReach l → foldl (cut_cell σ) c l ≡ closed σ c (map (own_of σ c) l)
+pub cuts-of-cell : (σ : TurnSide) (c : TurnCell) (l : List Reach) → Ordered σ c → Each PlainReach l → foldl (cut_cell σ) c l ≡ closed σ c (map (own_of σ c) l)
 cuts-of-cell σ c l o ps = by-start σ c l ∙ by-owns σ c (map (own_of σ c) l) o (owns-plain σ c l o.limit ps)
 
 -- ---- several cuts in one bin
@@ -155,9 +157,9 @@ cell_after i c l = foldl (λ (x : TurnCell) (a : Act). act_cell a i x) c l
 act-is : (σ : TurnSide) (i : ℕ) (a : Act) (c : TurnCell) → OnlyAt σ i a → act_cell a i c ≡ cut_cell σ c (a.at i)
 unfolding cut_cell cut_by own_of
 act-is σ i a c (inl e) = ap (λ (t : TurnSide). cut_cell t c (a.at i)) e
-act-is σ i a c (inr e) = ap (λ (r : Reached). cut_cell a.side c r) e ∙ sym (ap (λ (r : Reached). cut_cell σ c r) e)
+act-is σ i a c (inr e) = ap (λ (r : Reach). cut_cell a.side c r) e ∙ sym (ap (λ (r : Reach). cut_cell σ c r) e)
 
-abbrev reaches_at : ℕ → List Act → List Reached
+abbrev reaches_at : ℕ → List Act → List Reach
 reaches_at i l = map (λ (a : Act). a.at i) l
 
 acts-are : (σ : TurnSide) (i : ℕ) (l : List Act) (c : TurnCell) → Each (OnlyAt σ i) l → cell_after i c l ≡ foldl (cut_cell σ) c (reaches_at i l)
@@ -166,7 +168,7 @@ acts-are σ i (a ∷ l) c os = acts-are σ i l (act_cell a i c) os.1 ∙ ap (λ 
 
 owns-are : (σ : TurnSide) (c : TurnCell) (i : ℕ) (l : List Act) → map (own_of σ c) (reaches_at i l) ≡ owns_at σ c i l
 owns-are σ c i [] = refl
-owns-are σ c i (a ∷ l) = ap (λ (t : List Reached). own_of σ c (a.at i) ∷ t) (owns-are σ c i l)
+owns-are σ c i (a ∷ l) = ap (λ (t : List Reach). own_of σ c (a.at i) ∷ t) (owns-are σ c i l)
 
 plain_at : (n i : ℕ) → i < n → (l : List Act) → Each (PlainAct n) l → Each PlainReach (reaches_at i l)
 plain_at n i h [] ps = tt

@@ -7,7 +7,9 @@ use Rattle.stock.specs.declared.TurnStockSpec.{TurnStockSpec}
 use Rattle.stock.specs.declared.TurnCell.{TurnCell}
 use Rattle.stock.specs.declared.TurnSide.{TurnSide}
 use Rattle.stock.specs.declared.TurnSide.TheVariants.{Outer, Inner}
-use Rattle.reach.specs.Reach.{Reached, passed, low, both, deeper, shallower, deep_of, sure_of, limit_of, with_pair, own_of, cut_by, cut_cell}
+use Rattle.reach.specs.declared.Reach.{Reach}
+use Rattle.reach.specs.declared.Reach.TheVariants.{Passed, Low, Both}
+use Rattle.reach.specs.Reach.{deeper, shallower, deep_of, sure_of, limit_of, with_pair, own_of, cut_by, cut_cell}
 use Rattle.reach.specs.Kinds.{PlainReach, AsDeep}
 use Rattle.reach.proofs.Sides.{deep-self, deep-trans, deeper-l, deeper-r, deeper-over, deeper-plain, deeper-is, shallower-r, shallower-plain, Ordered}
 use Rattle.reach.proofs.Fit.{CellFit}
@@ -138,13 +140,13 @@ cut-with s Inner c d u f t = record {
 }
 
 -- THE CUT: over a cell that fits, and whatever plain numbers it reaches, it leaves a cell that fits and adds nothing
-pub cut-cuts : (s : TurnStockSpec) (σ : TurnSide) (c : TurnCell) (r : Reached) → CellFit s c → PlainReach r → Cuts s c (cut_cell σ c r)
+pub cut-cuts : (s : TurnStockSpec) (σ : TurnSide) (c : TurnCell) (r : Reach) → CellFit s c → PlainReach r → Cuts s c (cut_cell σ c r)
 unfolding cut_cell cut_by own_of
-cut-cuts s σ c passed f p = record {
+cut-cuts s σ c Passed f p = record {
   fit = f;
   removes = record { outer-upper = le-self (number-of f.outer.upper); outer-lower = le-self (number-of f.outer.lower); inner-lower = le-self (number-of f.inner.lower); inner-upper = le-self (number-of f.inner.upper) };
 }
-cut-cuts s σ c (low x) f p =
+cut-cuts s σ c (Low x) f p =
     cut-with s σ c _ _ f (taken-low s σ (core-number s σ c f) (skin-number s σ c f) (side-fit s σ c f) (limit-plain s σ c f) (core-limit s σ c f) p)
-cut-cuts s σ c (both x y) f p =
+cut-cuts s σ c (Both x y) f p =
     cut-with s σ c _ _ f (taken-both s σ (core-number s σ c f) (skin-number s σ c f) (side-fit s σ c f) (limit-plain s σ c f) (core-limit s σ c f) p.0 p.1)

@@ -1,6 +1,5 @@
 -- What a cut reaches in a bin, and what it makes of a cell. Assumes nothing.
-use Rattle.std.specs.Prelude.{ℕ, Float}
-use Rattle.std.proofs.Math.Option.{Option, none, some}
+use Rattle.std.specs.Prelude.{ℕ, Float, Option, None, Some}
 use Rattle.std.specs.Float.Ieee.{neg}
 use Rattle.floats.specs.Numbers.{least_of, greatest_of, clean_of}
 use Rattle.stock.specs.declared.TurnCell.{TurnCell}
@@ -9,23 +8,11 @@ use Rattle.stock.specs.declared.TurnSide.TheVariants.{Outer, Inner}
 use Rattle.reach.specs.declared.Reach.{Reach}
 use Rattle.reach.specs.declared.Reach.TheVariants.{Passed, Low, Both}
 
--- The bin is passed over; a low only; a low and a high. The low is for the deep bound and the high for the sure one, inside too, where the low is the greater radius.
-pub data Reached : Type 0 where
-  passed : Reached
-  low : Float → Reached
-  both : Float → Float → Reached
-
--- what a reach says, case by case
-unfoldable pub reach_paper : Reach → Reached
-reach_paper Passed = passed
-reach_paper (Low x) = low x
-reach_paper (Both x y) = both x y
-
 -- the low of a reach, if the bin is not passed over
-unfoldable pub low_of : Reached → Option Float
-low_of passed = none
-low_of (low x) = some x
-low_of (both x y) = some x
+unfoldable pub low_of : Reach → Option Float
+low_of Passed = None
+low_of (Low x) = Some x
+low_of (Both x y) = Some x
 
 -- ---- the two sides as one
 -- A cut takes the surface deeper: outside towards the axis, inside away from it. Of the bounds of a surface the deep one is how deep it may lie
@@ -62,26 +49,26 @@ with_pair Inner deep sure c = record { outer = c.outer; inner = record { lower_m
 -- ---- what a cut makes of a cell
 
 -- a cut's own bounds in a cell: what it reaches, after floor or ceiling
-unfoldable pub own_of : TurnSide → TurnCell → Reached → Reached
-own_of σ c passed = passed
-own_of σ c (low x) = low (shallower σ x (limit_of σ c))
-own_of σ c (both x y) = both (shallower σ x (limit_of σ c)) (shallower σ y (limit_of σ c))
+unfoldable pub own_of : TurnSide → TurnCell → Reach → Reach
+own_of σ c Passed = Passed
+own_of σ c (Low x) = Low (shallower σ x (limit_of σ c))
+own_of σ c (Both x y) = Both (shallower σ x (limit_of σ c)) (shallower σ y (limit_of σ c))
 
 -- the cell after own bounds: each bound as deep as the own one, and the deep bound then at least as deep as the sure one
-unfoldable pub cut_by : TurnSide → TurnCell → Reached → TurnCell
-cut_by σ c passed = c
-cut_by σ c (low x) = with_pair σ (deeper σ (deep_of σ c) x) (sure_of σ c) c
-cut_by σ c (both x y) =
+unfoldable pub cut_by : TurnSide → TurnCell → Reach → TurnCell
+cut_by σ c Passed = c
+cut_by σ c (Low x) = with_pair σ (deeper σ (deep_of σ c) x) (sure_of σ c) c
+cut_by σ c (Both x y) =
     let sure = deeper σ (sure_of σ c) y in
     with_pair σ (deeper σ (deeper σ (deep_of σ c) x) sure) sure c
 
-unfoldable pub cut_cell : TurnSide → TurnCell → Reached → TurnCell
+unfoldable pub cut_cell : TurnSide → TurnCell → Reach → TurnCell
 cut_cell σ c r = cut_by σ c (own_of σ c r)
 
 -- A cut, as far as cells go: its side, and what it reaches in each bin.
 pub record Act : Type 0 where
   pub side : TurnSide
-  pub at : ℕ → Reached
+  pub at : ℕ → Reach
 
 -- what it makes of the cell of bin i
 abbrev pub act_cell : Act → ℕ → TurnCell → TurnCell
@@ -100,7 +87,7 @@ stored_of Outer x = clean_of x
 stored_of Inner x = clean_of (neg x)
 
 -- no low, no reach
-unfoldable pub reach_from : TurnSide → Option Float → Option Float → Reached
-reach_from σ none high = passed
-reach_from σ (some x) none = low (stored_of σ x)
-reach_from σ (some x) (some y) = both (stored_of σ x) (stored_of σ y)
+unfoldable pub reach_from : TurnSide → Option Float → Option Float → Reach
+reach_from σ None high = Passed
+reach_from σ (Some x) None = Low (stored_of σ x)
+reach_from σ (Some x) (Some y) = Both (stored_of σ x) (stored_of σ y)

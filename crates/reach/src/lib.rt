@@ -5,29 +5,24 @@
 // deep it lies at least (outer.upper, inner.lower). What a cut reaches in a bin is worked out
 // without looking at the cell. Floor and ceiling belong to the update, which is one for every kind
 // of cut and for both sides.
-#![tactic(auto)]
+#![tactic(auto, unfolding(crate::specs::Low::lower_of, crate::specs::Low::upper_of, crate::specs::Reach::low_of, crate::specs::Reach::deeper, crate::specs::Reach::shallower, crate::specs::Reach::deep_of, crate::specs::Reach::sure_of, crate::specs::Reach::limit_of, crate::specs::Reach::with_pair, crate::specs::Reach::own_of, crate::specs::Reach::cut_by, crate::specs::Reach::cut_cell, crate::specs::Reach::flipped, crate::specs::Reach::stored_of, crate::specs::Reach::reach_from))]
 
 ghost use Rattle.std.specs.Prelude.{◌≡◌};
-ghost use Rattle.reach.specs.Low.{lower_of, upper_of, low_paper};
-ghost use Rattle.reach.specs.Reach.{deeper, shallower, deep_of, sure_of, limit_of, with_pair, cut_cell, flipped, stored_of, reach_from, reach_paper, low_of};
+ghost use Rattle.reach.specs.Low.{lower_of, upper_of};
+ghost use Rattle.reach.specs.Reach.{deeper, shallower, deep_of, sure_of, limit_of, with_pair, cut_cell, flipped, stored_of, reach_from, low_of};
 
 use stock::{RadiusBounds, TurnCell, TurnSide};
-
-// A radius, or none.
-#[derive(Clone, Copy)]
-pub enum Low {
-    At(f64),
-    Nowhere,
-}
 
 // The lowest radius over a bin and the highest, where there is one.
 #[derive(Clone, Copy)]
 pub struct Swept {
-    pub low: Low,
-    pub high: Low,
+    pub low: Option<f64>,
+    pub high: Option<f64>,
 }
 
-// What a cut reaches in a bin, before floor or ceiling: nothing, a low, or a low and a high.
+// What a cut reaches in a bin, before floor or ceiling: the bin is passed over; a low only; a low and a
+// high. The low is for the deep bound and the high for the sure one, inside too, where the low is the
+// greater radius.
 #[derive(Clone, Copy)]
 pub enum Reach {
     Passed,
@@ -36,29 +31,25 @@ pub enum Reach {
 }
 
 // The lesser of two radii, where there is one.
-pub fn lower(a: Low, b: Low) -> Low
-    ensures { low_paper result ≡ lower_of (low_paper a) (low_paper b) }
+pub fn lower(a: Option<f64>, b: Option<f64>) -> Option<f64>
+    ensures { result ≡ lower_of a b }
 {
-    let Low::At(x) = a else {
+    let Some(x) = a else {
         return b;
     };
-    let Low::At(y) = b else {
+    let Some(y) = b else {
         return a;
     };
-    Low::At(floats::least(x, y))
+    Some(floats::least(x, y))
 }
 
 // The greater of two radii, where both are there.
-pub fn upper(a: Low, b: Low) -> Low
-    ensures { low_paper result ≡ upper_of (low_paper a) (low_paper b) }
+pub fn upper(a: Option<f64>, b: Option<f64>) -> Option<f64>
+    ensures { result ≡ upper_of a b }
 {
-    let Low::At(x) = a else {
-        return Low::Nowhere;
-    };
-    let Low::At(y) = b else {
-        return Low::Nowhere;
-    };
-    Low::At(floats::greatest(x, y))
+    let x = a?;
+    let y = b?;
+    Some(floats::greatest(x, y))
 }
 
 // Radii are negated for the inside, so that one rule serves both sides.
@@ -82,26 +73,26 @@ fn stored(side: TurnSide, x: f64) -> f64
 }
 
 // The reach of a low and a high that were worked out for the outside.
-pub fn reach_from(side: TurnSide, low: Low, high: Low) -> Reach
-    ensures { reach_paper result ≡ reach_from side (low_paper low) (low_paper high) }
+pub fn reach_from(side: TurnSide, low: Option<f64>, high: Option<f64>) -> Reach
+    ensures { result ≡ reach_from side low high }
 {
-    let Low::At(x) = low else {
+    let Some(x) = low else {
         return Reach::Passed;
     };
-    let Low::At(y) = high else {
+    let Some(y) = high else {
         return Reach::Low(stored(side, x));
     };
     Reach::Both(stored(side, x), stored(side, y))
 }
 
 // The low of a reach, if the bin is not passed over.
-pub fn low_of(reach: Reach) -> Low
-    ensures { low_paper result ≡ low_of (reach_paper reach) }
+pub fn low_of(reach: Reach) -> Option<f64>
+    ensures { result ≡ low_of reach }
 {
     match reach {
-        Reach::Passed => Low::Nowhere,
-        Reach::Low(x) => Low::At(x),
-        Reach::Both(x, _) => Low::At(x),
+        Reach::Passed => None,
+        Reach::Low(x) => Some(x),
+        Reach::Both(x, _) => Some(x),
     }
 }
 
@@ -185,7 +176,7 @@ fn with_pair(side: TurnSide, deep: f64, sure: f64, c: TurnCell) -> TurnCell
 
 // The cell after a cut that reaches so far in its bin.
 pub fn cut_cell(side: TurnSide, c: TurnCell, reach: Reach) -> TurnCell
-    ensures { result ≡ cut_cell side c (reach_paper reach) }
+    ensures { result ≡ cut_cell side c reach }
 {
     let limit = limit_of(side, c);
     let d0 = deep_of(side, c);

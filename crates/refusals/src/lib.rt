@@ -7,7 +7,7 @@
 #![tactic(auto)]
 
 ghost use Rattle.std.specs.Prelude.{◌≡◌};
-ghost use Rattle.refusals.specs.Number.{number_of};
+ghost use Rattle.refusals.specs.Number.{number_of, refused_of, refused_at};
 
 #[derive(Clone, Copy)]
 pub enum Refusal {
@@ -59,6 +59,34 @@ pub enum Refusal {
     SpecsDiffer,
     // 25: an inside cut among passes, over 128 of them, or targets outside the domain
     PassesOutside,
+}
+
+// Why a call is refused: the case, and the place of what offends in its list, where the number has one.
+#[derive(Clone, Copy)]
+pub struct Refused {
+    pub why: Refusal,
+    pub place: Option<usize>,
+}
+
+impl Refused {
+    // A case at a place of its list.
+    pub fn at(why: Refusal, place: usize) -> Refused
+        ensures { result ≡ refused_at why place }
+    {
+        Refused {
+            why,
+            place: Some(place),
+        }
+    }
+}
+
+// A case of no place.
+impl From<Refusal> for Refused {
+    ghost from_gives = { λ r e. e ≡ refused_of r };
+
+    fn from(why: Refusal) -> Refused {
+        Refused { why, place: None }
+    }
 }
 
 // 01's number of a refusal.

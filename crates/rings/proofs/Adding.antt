@@ -1,5 +1,9 @@
 -- A clipped ring added to the store, and a list of rings one after the other: what the code answers and writes is what the rules say. Assumes nothing.
+use Rattle.std.specs.Prelude.{Err, Ok, Result}
+use Rattle.std.proofs.Common.{IsErrAnd}
+use Rattle.std.proofs.lemmas.Result.{err_from_is_err_and}
 use Prim.Native.Nat.{ℕ, zero, suc, ◌+◌, ◌*◌, ◌≤◌, ◌<◌}
+use Rattle.refusals.specs.declared.Refused.{Refused}
 use native.Mathlib.Nat.{eq-or-lt_of_le}
 use native.Mathlib.Omega.{arith}
 use mathlib.Core.Path.{◌≡◌, refl, sym, ◌∙◌, ap, ap₂, subst}
@@ -12,32 +16,29 @@ use lib.Ieee.{Float}
 use borrow.Author.Tests.{le-leb, lt-leb, leb-true}
 use Rattle.refusals.specs.declared.Refusal.{Refusal}
 use Rattle.refusals.specs.declared.Refusal.TheVariants.{RingsOverRoom}
-use Rattle.refusals.specs.Number.{reason_of}
+use Rattle.refusals.specs.Number.{reason_of, reason_in, refused_of, placed_of}
 use Rattle.refusals.specs.Paper.{Paper, Reason, answers, refuses, only, demand, onward, demand-true, demand-false}
 use Rattle.floats.specs.Pick.{pick, pick_true, pick-false}
 use Rattle.rings.specs.declared.Ring.{Ring}
 use Rattle.rings.specs.declared.Added.{Added}
-use Rattle.rings.specs.declared.StoredAs.{StoredAs}
-use Rattle.rings.specs.declared.StoredAs.TheVariants.{Rings, Refused}
-use Rattle.rings.specs.declared.Left.TheVariants as pieces
 use Rattle.rings.specs.Ring.{filled, apart, kept, subtract, subtract_all, in_hand, clip, left}
 use Rattle.rings.specs.Store.{ring_at, rings_of, store_as, write, apart_all}
 use Rattle.rings.specs.Hand.{Subtracted}
-use Rattle.rings.specs.Remove.{room_for, added, added_all, count_of, stored_paper, store_after, StoresAs, leaves, LeavesOf}
+use Rattle.rings.specs.Remove.{room_for, added, added_all, count_of, store_after, StoresAs, leaves, LeavesOf}
 use Rattle.rings.specs.Counted.{stored_by, Adds}
 use Rattle.rings.proofs.Flat.{rings-next, length-rings, rings-stored, stored_same, length-stored, write-behind, rings-copied}
 use Rattle.rings.proofs.Prefix.{apart-turns}
 use Rattle.rings.proofs.InHand.{kept-few, subtract-apart, in-hand-few, in-hand-more}
 
 -- ---- from a rule's answer to the promise, and back
-pub stores-none : (xs : List Float) (p : Paper (List Ring)) (r : StoredAs) (x : Reason) → stored_paper r ≡ refuses x → p ≡ refuses x → StoresAs xs p r xs
+pub stores-none : (xs : List Float) (p : Paper (List Ring)) (r : Result ℕ Refused) (x : Reason) → placed_of r ≡ refuses x → p ≡ refuses x → StoresAs xs p r xs
 unfolding count_of onward
 stores-none xs p r x a e = record { answer = a ∙ sym (ap count_of e); store = sym (ap (store_after xs) e) }
 
-pub stores-refused : (xs : List Float) (p : Paper (List Ring)) (x : Refusal) → p ≡ refuses (reason_of x) → StoresAs xs p (Refused x) xs
-stores-refused xs p x e = stores-none xs p (Refused x) (reason_of x) refl e
+pub stores-refused : (xs : List Float) (p : Paper (List Ring)) (r : Refused) (x : Refusal) → r ≡ refused_of x → p ≡ refuses (reason_of x) → StoresAs xs p (Err r) xs
+stores-refused xs p r x h e = stores-none xs p (Err r) (reason_of x) (ap (λ (c : Refused). refuses (reason_in c)) h) e
 
-pub stores-rings : (xs : List Float) (p : Paper (List Ring)) (l : List Ring) (n : ℕ) (ys : List Float) → p ≡ answers l → n ≡ length l → ys ≡ store_as xs l → StoresAs xs p (Rings n) ys
+pub stores-rings : (xs : List Float) (p : Paper (List Ring)) (l : List Ring) (n : ℕ) (ys : List Float) → p ≡ answers l → n ≡ length l → ys ≡ store_as xs l → StoresAs xs p (Ok n) ys
 unfolding count_of onward
 stores-rings xs p l n ys e f g = record { answer = ap answers f ∙ sym (ap count_of e); store = g ∙ sym (ap (store_after xs) e) }
 
@@ -48,33 +49,33 @@ pub record Accepted (xs : List Float) (p : Paper (List Ring)) (n : ℕ) (ys : Li
   pub count : n ≡ length rings
   pub store : ys ≡ store_as xs rings
 
-pub accepted : (xs : List Float) (p : Paper (List Ring)) (r : StoredAs) (ys : List Float) (n : ℕ) → StoresAs xs p r ys → r ≡ Rings n → Accepted xs p n ys
+pub accepted : (xs : List Float) (p : Paper (List Ring)) (r : Result ℕ Refused) (ys : List Float) (n : ℕ) → StoresAs xs p r ys → r ≡ Ok n → Accepted xs p n ys
 unfolding count_of onward
 accepted xs p r ys n s e = go p refl
   where
     go : (v : Paper (List Ring)) → p ≡ v → Accepted xs p n ys
     go (answers l) f =
-        let a : stored_paper r ≡ answers (length l) = s.answer ∙ ap count_of f in
-        let b : stored_paper r ≡ answers n = ap stored_paper e in
+        let a : placed_of r ≡ answers (length l) = s.answer ∙ ap count_of f in
+        let b : placed_of r ≡ answers n = ap placed_of e in
         let c : n ≡ length l = cc in
         record { rings = l; rule = f; count = c; store = s.store ∙ ap (store_after xs) f }
     go (refuses k) f =
-        let a : stored_paper r ≡ refuses k = s.answer ∙ ap count_of f in
-        let b : stored_paper r ≡ answers n = ap stored_paper e in
+        let a : placed_of r ≡ refuses k = s.answer ∙ ap count_of f in
+        let b : placed_of r ≡ answers n = ap placed_of e in
         let z : ◌≡◌ {A = ℕ} 0 1 = cc in
         absurd (omega arith)
 
-pub refused : (xs : List Float) (p : Paper (List Ring)) (r : StoredAs) (ys : List Float) (x : Reason) → StoresAs xs p r ys → stored_paper r ≡ refuses x → (p ≡ refuses x) × (ys ≡ xs)
+pub refused : (xs : List Float) (p : Paper (List Ring)) (r : Result ℕ Refused) (ys : List Float) (x : Reason) → StoresAs xs p r ys → placed_of r ≡ refuses x → (p ≡ refuses x) × (ys ≡ xs)
 unfolding count_of onward
 refused xs p r ys x s b = go p refl
   where
     go : (v : Paper (List Ring)) → p ≡ v → (p ≡ refuses x) × (ys ≡ xs)
     go (answers l) f =
-        let a : stored_paper r ≡ answers (length l) = s.answer ∙ ap count_of f in
+        let a : placed_of r ≡ answers (length l) = s.answer ∙ ap count_of f in
         let z : ◌≡◌ {A = ℕ} 0 1 = cc in
         absurd (omega arith)
     go (refuses k) f =
-        let a : stored_paper r ≡ refuses k = s.answer ∙ ap count_of f in
+        let a : placed_of r ≡ refuses k = s.answer ∙ ap count_of f in
         let q : k ≡ x = cc in
         (f ∙ ap refuses q, s.store ∙ ap (store_after xs) f)
 
@@ -155,7 +156,7 @@ added_none room ks c h e =
     added-yes room ks c f ∙ ap answers (ap (λ (l : List Ring). ks ++ l) s ∙ append-nil ks)
 
 module _ (xs : List Float) (room count : ℕ) (c : Ring) (h : count ≤ room) (b : 4 * room ≤ length xs) where
-  pub adds_none : filled c ≡ false → StoresAs xs (added room (rings_of count xs) c) (Rings count) xs
+  pub adds_none : filled c ≡ false → StoresAs xs (added room (rings_of count xs) c) (Ok count) xs
   adds_none e =
       let n = length-rings count xs in
       stores-rings xs (added room (rings_of count xs) c) (rings_of count xs) count xs (added_none room (rings_of count xs) c (omega arith) e) (sym n) (sym (stored_same xs count (omega arith)))
@@ -166,7 +167,7 @@ module _ (xs : List Float) (room count : ℕ) (c : Ring) (h : count ≤ room) (b
     left-whole = ap (λ (l : List Ring). subtract_all l (rings_of count xs)) (kept-yes c e) ∙ (all_left (rings_of count xs) c a).0
 
     -- a ring that overlaps none, and no room for it
-    pub adds-full : room ≤ count → StoresAs xs (added room (rings_of count xs) c) (Refused RingsOverRoom) xs
+    pub adds-full : room ≤ count → StoresAs xs (added room (rings_of count xs) c) (Err (refused_of RingsOverRoom)) xs
     unfolding room_for
     adds-full k =
         let ks = rings_of count xs in
@@ -174,14 +175,14 @@ module _ (xs : List Float) (room count : ℕ) (c : Ring) (h : count ≤ room) (b
         let few = ap length left-whole in
         let f : room_for room ks c ≡ false =
         and_no (in_hand 256 (kept c) ks) (leb (length ks + length (left ks c)) room) (lt-leb (length ks + length (left ks c)) room (omega arith)) in
-        stores-refused xs (added room ks c) RingsOverRoom (added-no room ks c f)
+        stores-refused xs (added room ks c) (refused_of RingsOverRoom) RingsOverRoom refl (added-no room ks c f)
       where
         and_no : (a b : Bool) → b ≡ false → (a && b) ≡ false
         and_no true b e = e
         and_no false b e = refl
 
     -- and with room
-    pub adds-whole : count < room → StoresAs xs (added room (rings_of count xs) c) (Rings (count + 1)) (write xs count c)
+    pub adds-whole : count < room → StoresAs xs (added room (rings_of count xs) c) (Ok (count + 1)) (write xs count c)
     unfolding room_for
     adds-whole k =
         let ks = rings_of count xs in
@@ -231,10 +232,10 @@ module _ (room count few : ℕ) (c : Ring) (xs hand : List Float) (r : ℕ) (cut
           absurd (omega arith)
 
   -- of a ring that is taken as it stands: the pieces in hand, copied to the front of others
-  pub leaves-pieces : (m : ℕ) → count ≡ m → few ≡ 256 → r ≤ few → (ys zs : List Float) → zs ≡ store_as ys (rings_of 0 ys ++ rings_of r hand) → LeavesOf ys (leaves (rings_of m xs) c) (pieces.Pieces r) zs
+  pub leaves-pieces : (m : ℕ) → count ≡ m → few ≡ 256 → r ≤ few → (ys zs : List Float) → zs ≡ store_as ys (rings_of 0 ys ++ rings_of r hand) → LeavesOf ys (leaves (rings_of m xs) c) (Ok r) zs
   unfolding leaves left count_of onward rings_of pick
   leaves-pieces m k h l ys zs e =
-      subst (λ (n : ℕ). LeavesOf ys (leaves (rings_of n xs) c) (pieces.Pieces r) zs) k
+      subst (λ (n : ℕ). LeavesOf ys (leaves (rings_of n xs) c) (Ok r) zs) k
       (let g = in-hand l in
       let ks = rings_of count xs in
       let g' : in_hand 256 (kept c) ks ≡ true = ap (λ (m : ℕ). in_hand m (kept c) ks) (sym h) ∙ g in
@@ -242,11 +243,11 @@ module _ (room count few : ℕ) (c : Ring) (xs hand : List Float) (r : ℕ) (cut
       record { answer = ap answers (counted true g) ∙ sym (ap count_of p); store = e ∙ ap (store_as ys) (cut.same g) ∙ sym (ap (store_after ys) p) })
 
   -- and more than 256
-  pub leaves-over : (m : ℕ) → count ≡ m → few ≡ 256 → few < r → (ys : List Float) → LeavesOf ys (leaves (rings_of m xs) c) (pieces.Refused RingsOverRoom) ys
+  pub leaves-over : (m : ℕ) → count ≡ m → few ≡ 256 → few < r → (ys : List Float) → LeavesOf ys (leaves (rings_of m xs) c) (Err RingsOverRoom) ys
   unfolding leaves left count_of onward pick
-  leaves-over m k h l ys = subst (λ (n : ℕ). LeavesOf ys (leaves (rings_of n xs) c) (pieces.Refused RingsOverRoom) ys) k (go (in_hand 256 (kept c) (rings_of count xs)) refl)
+  leaves-over m k h l ys = subst (λ (n : ℕ). LeavesOf ys (leaves (rings_of n xs) c) (Err RingsOverRoom) ys) k (go (in_hand 256 (kept c) (rings_of count xs)) refl)
     where
-      go : (t : Bool) → in_hand 256 (kept c) (rings_of count xs) ≡ t → LeavesOf ys (leaves (rings_of count xs) c) (pieces.Refused RingsOverRoom) ys
+      go : (t : Bool) → in_hand 256 (kept c) (rings_of count xs) ≡ t → LeavesOf ys (leaves (rings_of count xs) c) (Err RingsOverRoom) ys
       go false g =
           let p : leaves (rings_of count xs) c ≡ refuses (only 11) = demand-false (in_hand 256 (kept c) (rings_of count xs)) 11 (answers (left (rings_of count xs) c)) g in
           record { answer = sym (ap count_of p); store = sym (ap (store_after ys) p) }
@@ -256,27 +257,33 @@ module _ (room count few : ℕ) (c : Ring) (xs hand : List Float) (r : ℕ) (cut
           absurd (omega arith)
 
 -- pieces stored, or refused
-pub stores-past : (xs hand : List Float) (room count n : ℕ) → room < count + n → StoresAs xs (demand (leb (count + n) room) 11 (answers (rings_of count xs ++ rings_of n hand))) (Refused RingsOverRoom) xs
+pub stores-past : (xs hand : List Float) (room count n : ℕ) → room < count + n → StoresAs xs (demand (leb (count + n) room) 11 (answers (rings_of count xs ++ rings_of n hand))) (Err (refused_of RingsOverRoom)) xs
 stores-past xs hand room count n h =
-    stores-refused xs (demand (leb (count + n) room) 11 (answers (rings_of count xs ++ rings_of n hand))) RingsOverRoom (demand-false (leb (count + n) room) 11 (answers (rings_of count xs ++ rings_of n hand)) (lt-leb (count + n) room h))
+    stores-refused xs (demand (leb (count + n) room) 11 (answers (rings_of count xs ++ rings_of n hand))) (refused_of RingsOverRoom) RingsOverRoom refl (demand-false (leb (count + n) room) 11 (answers (rings_of count xs ++ rings_of n hand)) (lt-leb (count + n) room h))
 
 pub stores-pieces : (xs hand ys : List Float) (room count n : ℕ) → count + n ≤ room → ys ≡ store_as xs (rings_of count xs ++ rings_of n hand)
-    → StoresAs xs (demand (leb (count + n) room) 11 (answers (rings_of count xs ++ rings_of n hand))) (Rings (count + n)) ys
+    → StoresAs xs (demand (leb (count + n) room) 11 (answers (rings_of count xs ++ rings_of n hand))) (Ok (count + n)) ys
 stores-pieces xs hand ys room count n h y =
     let l = rings_of count xs ++ rings_of n hand in
     stores-rings xs (demand (leb (count + n) room) 11 (answers l)) l (count + n) ys (demand-true (leb (count + n) room) 11 (answers l) (le-leb (count + n) room h))
     (sym (length-append (rings_of count xs) (rings_of n hand) ∙ ap₂ ◌+◌ (length-rings count xs) (length-rings n hand))) y
 
 -- the same promise of the same rule, said otherwise
-pub stores_as : {xs ys : List Float} {r : StoredAs} {p q : Paper (List Ring)} → p ≡ q → StoresAs xs p r ys → StoresAs xs q r ys
+pub stores_as : {xs ys : List Float} {r : (Result ℕ Refused)} {p q : Paper (List Ring)} → p ≡ q → StoresAs xs p r ys → StoresAs xs q r ys
 stores_as {xs} {ys} {r} e s = subst (λ (v : Paper (List Ring)). StoresAs xs v r ys) e s
 
-pub adds-as : {xs ys : List Float} {r : Added} {p q : Paper (List Ring)} {m k : ℕ} → p ≡ q → m ≡ k → Adds xs p m r ys → Adds xs q k r ys
+pub adds-as : {xs ys : List Float} {r : Result Added Refusal} {p q : Paper (List Ring)} {m k : ℕ} → p ≡ q → m ≡ k → Adds xs p m r ys → Adds xs q k r ys
 adds-as {xs} {ys} {r} {p} {q} {m} {k} e f s = subst (λ (v : Paper (List Ring)). Adds xs v k r ys) e (subst (λ (j : ℕ). Adds xs p j r ys) f s)
 
--- the answer without the tests
-pub stores-by : {xs ys : List Float} {a : Added} {p : Paper (List Ring)} {m : ℕ} (r : StoredAs) → r ≡ stored_by a → Adds xs p m a ys → StoresAs xs p r ys
-stores-by {xs} {ys} {a} {p} r e s = subst (λ (v : StoredAs). StoresAs xs p v ys) (sym e) s.stores
+-- the answer without the tests: a count, or a refusal of no place that is handed on
+pub stores-counted : {xs ys : List Float} {a : Result Added Refusal} {p : Paper (List Ring)} {m : ℕ} (t : Added) → a ≡ Ok t → Adds xs p m a ys → StoresAs xs p (Ok t.rings) ys
+stores-counted {xs} {ys} {a} {p} t e s = subst (λ (v : Result Added Refusal). StoresAs xs p (stored_by v) ys) e s.stores
+
+pub stores-on : {xs ys : List Float} {a : Result Added Refusal} {p : Paper (List Ring)} {m : ℕ} (r : Result ℕ Refused) (x : Refusal) → a ≡ Err x → IsErrAnd r (λ c. c ≡ refused_of x) → Adds xs p m a ys → StoresAs xs p r ys
+stores-on {xs} {ys} {a} {p} r x e h s =
+    let c = err_from_is_err_and r h in
+    let v : r ≡ stored_by a = c.1 ∙ ap Err c.2 ∙ sym (ap stored_by e) in
+    subst (λ (v : Result ℕ Refused). StoresAs xs p v ys) (sym v) s.stores
 
 -- ---- a list of rings
 added_all-append : (e : Ring) (room : ℕ) (ks s t : List Ring) → added_all e room ks (s ++ t) ≡ onward (added_all e room ks s) (λ l. added_all e room l t)
@@ -338,11 +345,11 @@ adding-start e room xs news work work' n s h k f =
     }
 
 module _ (e : Ring) (room : ℕ) (ks : List Ring) (news : List Float) (i : ℕ) (work : List Float) (n : ℕ) (g : Adding e room ks news i work n)
-    (c : Ring) (f : c ≡ clip e (ring_at news i)) (work' : List Float) (r : StoredAs) (a : StoresAs work (added room (rings_of n work) c) r work') where
+    (c : Ring) (f : c ≡ clip e (ring_at news i)) (work' : List Float) (r : Result ℕ Refused) (a : StoresAs work (added room (rings_of n work) c) r work') where
   next-rule : added_all e room ks (rings_of (i + 1) news) ≡ added room (rings_of n work) c
   next-rule = added_next e room ks news i (rings_of n work) g.rule ∙ ap (added room (rings_of n work)) (sym f)
 
-  pub adding-step : (m : ℕ) → r ≡ Rings m → length work' ≡ length work → Adding e room ks news (i + 1) work' m
+  pub adding-step : (m : ℕ) → r ≡ Ok m → length work' ≡ length work → Adding e room ks news (i + 1) work' m
   adding-step m h l =
       let y = accepted work (added room (rings_of n work) c) r work' m a h in
       let z = added-room room (rings_of n work) c y.rings y.rule in
@@ -352,6 +359,6 @@ module _ (e : Ring) (room : ℕ) (ks : List Ring) (news : List Float) (i : ℕ) 
         rule = next-rule ∙ y.rule ∙ ap answers (sym (ap₂ rings_of y.count y.store ∙ rings-stored work y.rings));
       }
 
-  pub adding-refused : (x : Reason) (k : ℕ) → stored_paper r ≡ refuses x → i < k → added_all e room ks (rings_of k news) ≡ refuses x
+  pub adding-refused : (x : Reason) (k : ℕ) → placed_of r ≡ refuses x → i < k → added_all e room ks (rings_of k news) ≡ refuses x
   adding-refused x k h l =
       refused-more e room ks news x (i + 1) k (omega arith) (next-rule ∙ (refused work (added room (rings_of n work) c) r work' x a h).0)

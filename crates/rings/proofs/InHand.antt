@@ -18,7 +18,7 @@ use Rattle.rings.proofs.Flat.{rings-next, length-snoc, length-rings, rings-writt
 use Rattle.rings.proofs.Prefix.{stays-false}
 
 -- ---- one piece more
-pub holds-none : (room : ℕ) (xs : List Float) → length xs ≡ 4 * room → Holds room xs 0 []
+pub holds-none : (room : ℕ) (xs : List Float) → length xs / 4 ≡ room → Holds room xs 0 []
 unfolding rings_of
 holds-none room xs h = record { size = h; count = omega arith; same = λ _. refl }
 
@@ -108,7 +108,7 @@ subtract-apart (p ∷ ps) k e = go (apart p k) refl e (subtract-apart ps k)
     go true f g h = ap (λ (l : List Ring). l ++ subtract ps k) (pick_true (apart p k) (p ∷ []) (around p (common p k)) f) ∙ ap (λ (l : List Ring). p ∷ l) (h g)
     go false f g h = absurd (true≢false (sym g))
 
-pub cut_apart : (room : ℕ) (hand : List Float) (n : ℕ) (k : Ring) → length hand ≡ 4 * room → n ≤ room → apart_all (rings_of n hand) k ≡ true → Holds room hand n (subtract (rings_of n hand) k)
+pub cut_apart : (room : ℕ) (hand : List Float) (n : ℕ) (k : Ring) → length hand / 4 ≡ room → n ≤ room → apart_all (rings_of n hand) k ≡ true → Holds room hand n (subtract (rings_of n hand) k)
 cut_apart room hand n k s h e =
     let f = subtract-apart (rings_of n hand) k e in
     record {
@@ -118,18 +118,18 @@ cut_apart room hand n k s h e =
     }
 
 -- what was made in the other buffer, copied back
-pub cut-copied : (room : ℕ) (hand hand' next : List Float) (m : ℕ) (l : List Ring) → length hand ≡ 4 * room → Holds room next m l → m ≤ room → hand' ≡ store_as hand (rings_of 0 hand ++ rings_of m next)
+pub cut-copied : (room : ℕ) (hand hand' next : List Float) (m : ℕ) (l : List Ring) → length hand / 4 ≡ room → Holds room next m l → m ≤ room → hand' ≡ store_as hand (rings_of 0 hand ++ rings_of m next)
     → Holds room hand' m l
 unfolding rings_of
 cut-copied room hand hand' next m l s h k y =
     record {
-      size = ap length y ∙ length-stored hand (rings_of m next) (let e = length-rings m next in omega arith) ∙ s;
+      size = ap (λ (w : List Float). length w / 4) y ∙ ap (λ (w : ℕ). w / 4) (length-stored hand (rings_of m next) (let e = length-rings m next in let f = h.size in omega arith)) ∙ s;
       count = h.count;
       same = λ _. ap (rings_of m) y ∙ rings-copied hand next m ∙ h.same k;
     }
 
 -- where there are too many, nothing is said of the buffer
-pub cut-over : (room : ℕ) (hand next : List Float) (m : ℕ) (l : List Ring) → length hand ≡ 4 * room → Holds room next m l → room < m → Holds room hand m l
+pub cut-over : (room : ℕ) (hand next : List Float) (m : ℕ) (l : List Ring) → length hand / 4 ≡ room → Holds room next m l → room < m → Holds room hand m l
 cut-over room hand next m l s h k = record { size = s; count = h.count; same = λ b. absurd (omega arith) }
 
 -- ---- all pieces less all rings
@@ -162,12 +162,12 @@ subtract_all-snoc ps ks k = subtract_all-append ps ks (k ∷ [])
 
 -- the first j rings are subtracted from ps, and what they leave are the m pieces in hand
 pub record Going (room : ℕ) (ps : List Ring) (rings : List Float) (j : ℕ) (hand : List Float) (m : ℕ) : Type 0 where
-  pub size : length hand ≡ 4 * room
+  pub size : length hand / 4 ≡ room
   pub few : m ≤ room
   pub ok : in_hand room ps (rings_of j rings) ≡ true
   pub same : rings_of m hand ≡ subtract_all ps (rings_of j rings)
 
-pub going_start : (room : ℕ) (rings hand : List Float) (n : ℕ) → length hand ≡ 4 * room → n ≤ room → Going room (rings_of n hand) rings 0 hand n
+pub going_start : (room : ℕ) (rings hand : List Float) (n : ℕ) → length hand / 4 ≡ room → n ≤ room → Going room (rings_of n hand) rings 0 hand n
 unfolding rings_of in_hand subtract_all
 going_start room rings hand n h k = record { size = h; few = k; ok = refl; same = refl }
 

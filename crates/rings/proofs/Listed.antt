@@ -1,5 +1,8 @@
 -- The tests of a list of rings, one after the other: what is written at the front of a lent list, and that they are the same of the store after the list as of the store before it. Assumes nothing.
-use Prim.Native.Nat.{ℕ, zero, suc, ◌+◌, ◌*◌, ◌/◌, ◌≤◌, ◌<◌, min}
+use Rattle.std.specs.Prelude.{Ok, Result}
+use Rattle.refusals.specs.declared.Refusal.{Refusal}
+use Prim.Native.Nat.{ℕ, zero, suc, ◌+◌, ◌/◌, ◌≤◌, ◌<◌, min}
+use Rattle.refusals.specs.Number.{placed_of}
 use native.Mathlib.Nat.{eq-or-lt_of_le}
 use native.Mathlib.Omega.{arith}
 use mathlib.Core.Path.{◌≡◌, refl, sym, ◌∙◌, ap, ap₂, subst}
@@ -20,13 +23,11 @@ use Rattle.stock.specs.Spec.{clean_spec}
 use Rattle.stock.proofs.Count.{no_answer, same_answer, demanded}
 use Rattle.rings.specs.declared.Ring.{Ring}
 use Rattle.rings.specs.declared.Added.{Added}
-use Rattle.rings.specs.declared.Added.TheVariants as added
-use Rattle.rings.specs.declared.StoredAs.TheVariants as stored
 use Rattle.rings.specs.Ring.{kept, clip, left}
 use Rattle.rings.specs.Store.{bar_ring, ring_at, rings_of, room_for_rings, store_as}
-use Rattle.rings.specs.Remove.{added as added_to, added_all, stored_paper, remove_all_in, remove_rings}
+use Rattle.rings.specs.Remove.{added as added_to, added_all, remove_all_in, remove_rings}
 use Rattle.rings.specs.Tests.{tests_of, tests_for, while_stored, tests_list, tests_over, list_tests_in, list_tests}
-use Rattle.rings.specs.Counted.{stored_by, AddedTests, Adds}
+use Rattle.rings.specs.Counted.{stored_by, Adds}
 use Rattle.rings.proofs.Flat.{rings-next, length-rings, rings-stored, length-stored}
 use Rattle.rings.proofs.Adding.{accepted, refused, added-room, refused-more, Adding, adding-step, adding-refused}
 use Rattle.rings.proofs.Tested.{for-added}
@@ -131,26 +132,26 @@ module _ (e : Ring) (room : ℕ) (ks : List Ring) (news : List Float) where
               | inr q ↦ let k : length news / 4 ≡ i = omega arith in ap (λ (j : ℕ). take (length old) (tests j)) k ∙ take_all (length old) (tests i) (omega (arith, m))
             ]
 
-    module _ (c : Ring) (f : c ≡ clip e (ring_at news i)) (work' : List Float) (r : Added) (a : Adds work (added_to room (rings_of n work) c) (tests_of (kept c) (rings_of n work)) r work') where
+    module _ (c : Ring) (f : c ≡ clip e (ring_at news i)) (work' : List Float) (r : Result Added Refusal) (a : Adds work (added_to room (rings_of n work) c) (tests_of (kept c) (rings_of n work)) r work') where
       next : added_to room (rings_of n work) (clip e (ring_at news i)) ≡ added_to room (rings_of n work) c
       next = ap (added_to room (rings_of n work)) (sym f)
 
       -- the next ring is stored, and its tests are written
-      pub telling-step : (m t : ℕ) → r ≡ added.Rings m t → length work' ≡ length work → i < length old → Telling e room ks news (i + 1) work' m old (set new i t)
-      telling-step m t h l k =
-          let s = adding-step e room ks news i work n g.adding c f work' (stored_by r) a.stores m (ap stored_by h) l in
-          let y = accepted work (added_to room (rings_of n work) c) (stored_by r) work' m a.stores (ap stored_by h) in
-          let u : t ≡ tests_for e (rings_of n work) (ring_at news i) = for-added e (ring_at news i) c (rings_of n work) r m t f h a.tests in
-          let w : tests (i + 1) ≡ tests i ++ (t ∷ []) =
+      pub telling-step : (t : Added) → r ≡ Ok t → length work' ≡ length work → i < length old → Telling e room ks news (i + 1) work' t.rings old (set new i t.tests)
+      telling-step t h l k =
+          let s = adding-step e room ks news i work n g.adding c f work' (stored_by r) a.stores t.rings (ap stored_by h) l in
+          let y = accepted work (added_to room (rings_of n work) c) (stored_by r) work' t.rings a.stores (ap stored_by h) in
+          let u : t.tests ≡ tests_for e (rings_of n work) (ring_at news i) = for-added e (ring_at news i) c (rings_of n work) r t f h a.tests in
+          let w : tests (i + 1) ≡ tests i ++ (t.tests ∷ []) =
           tests-more i (rings_of n work) g.adding.rule ∙ ap (λ (p : Paper (List Ring)). tests i ++ while_stored p (λ _. tests_for e (rings_of n work) (ring_at news i) ∷ [])) (next ∙ y.rule) ∙ ap (λ (v : ℕ). tests i ++ (v ∷ [])) (sym u) in
           let o = told-count i work n g.adding in
           record {
             adding = s;
-            told = ap (λ (b : List ℕ). set b i t) g.told ∙ ap (λ (j : ℕ). set (over (tests i) old) j t) (sym o) ∙ over-more (tests i) (t ∷ []) old (omega arith) ∙ ap (λ (ts : List ℕ). over ts old) (sym w);
+            told = ap (λ (b : List ℕ). set b i t.tests) g.told ∙ ap (λ (j : ℕ). set (over (tests i) old) j t.tests) (sym o) ∙ over-more (tests i) (t.tests ∷ []) old (omega arith) ∙ ap (λ (ts : List ℕ). over ts old) (sym w);
           }
 
       -- it is refused, and nothing more is written
-      pub telling-refused : (x : Reason) → stored_paper (stored_by r) ≡ refuses x → i < length news / 4 → new ≡ list_tests_in e room ks news old
+      pub telling-refused : (x : Reason) → placed_of (stored_by r) ≡ refuses x → i < length news / 4 → new ≡ list_tests_in e room ks news old
       unfolding tests_over
       telling-refused x h k =
           let y = (refused work (added_to room (rings_of n work) c) (stored_by r) work' x a.stores h).0 in

@@ -1,4 +1,5 @@
 -- Tests and counts of a list of rings that go on from ring to ring, as a loop over the lent numbers makes them. Assumes nothing.
+use mir.Val.{bool_byte}
 use Prim.Native.Nat.{ℕ, zero, suc, ◌+◌, ◌≤◌}
 use native.Mathlib.Nat.{eq-or-lt_of_le}
 use native.Mathlib.Omega.{arith}
@@ -87,6 +88,12 @@ pub raised-next : (e : Ring) (xs : List Float) (i n m : ℕ) (q c : Ring) (t : B
     → n + m ≡ raised_by e (rings_of (i + 1) xs)
 raised-next e xs i n m q c t a b f h k =
     ap₂ ◌+◌ a (k ∙ ap (λ (s : Bool). pick s 1 0) (h ∙ ap filled (f ∙ ap (clip e) b))) ∙ sym (ap (raised_by e) (rings-next xs i) ∙ raised_by-snoc e (rings_of i xs) (ring_at xs i))
+
+-- a test as a number
+pub one_or_none : (t : Bool) → bool_byte t ≡ pick t 1 0
+unfolding pick
+one_or_none true = refl
+one_or_none false = refl
 
 pub one_at_most : (m : ℕ) (t : Bool) → m ≡ pick t 1 0 → m ≤ 1
 unfolding pick

@@ -1,4 +1,7 @@
 -- The tests that a ring takes: counted from ring to ring, and how many there can be. Assumes nothing.
+use Rattle.std.specs.Prelude.{Ok, Result}
+use Rattle.refusals.specs.declared.Refusal.{Refusal}
+use Rattle.refusals.specs.declared.Refused.{Refused}
 use Prim.Native.Nat.{ℕ, ◌+◌, ◌*◌, ◌≤◌, ◌<◌, min}
 use native.Mathlib.Omega.{arith}
 use mathlib.Core.Path.{◌≡◌, refl, sym, ◌∙◌, ap, subst}
@@ -14,7 +17,6 @@ use Rattle.stock.specs.Spec.{clean_spec}
 use Rattle.rings.specs.declared.Ring.{Ring}
 use Rattle.rings.specs.declared.hand.Cut.{Cut}
 use Rattle.rings.specs.declared.Added.{Added}
-use Rattle.rings.specs.declared.Added.TheVariants as added
 use Rattle.rings.specs.declared.Took.{Took}
 use Rattle.rings.specs.Ring.{filled, apart, kept, subtract, subtract_all, in_hand, clip}
 use Rattle.rings.specs.Store.{bar_ring, ring_at, rings_of, apart_all}
@@ -130,10 +132,10 @@ pub for-empty : (e : Ring) (ks : List Ring) (q : Ring) → filled (clip e q) ≡
 unfolding tests_for
 for-empty e ks q f = sym (tests-empty (clip e q) ks f)
 
-pub for-added : (e q c : Ring) (ks : List Ring) (r : Added) (n t : ℕ) → c ≡ clip e q → r ≡ added.Rings n t → AddedTests r (tests_of (kept c) ks) → t ≡ tests_for e ks q
+pub for-added : (e q c : Ring) (ks : List Ring) (r : Result Added Refusal) (t : Added) → c ≡ clip e q → r ≡ Ok t → AddedTests r (tests_of (kept c) ks) → t.tests ≡ tests_for e ks q
 unfolding tests_for
-for-added e q c ks r n t f h a = subst (λ (v : Added). AddedTests v (tests_of (kept c) ks)) h a ∙ ap (λ (d : Ring). tests_of (kept d) ks) f
+for-added e q c ks r t f h a = subst (λ (v : Result Added Refusal). AddedTests v (tests_of (kept c) ks)) h a ∙ ap (λ (d : Ring). tests_of (kept d) ks) f
 
-pub for-stock : (spec : TurnStockSpec) (e q : Ring) (xs : List Float) (n : ℕ) (r : Took) → e ≡ bar_ring (clean_spec spec) → TakenTests r (tests_for e (rings_of n xs) q) → TakenTests r (ring_tests spec xs n q)
+pub for-stock : (spec : TurnStockSpec) (e q : Ring) (xs : List Float) (n : ℕ) (r : Result Took Refused) → e ≡ bar_ring (clean_spec spec) → TakenTests r (tests_for e (rings_of n xs) q) → TakenTests r (ring_tests spec xs n q)
 unfolding ring_tests
 for-stock spec e q xs n r f t = subst (λ (b : Ring). TakenTests r (tests_for b (rings_of n xs) q)) f t

@@ -1,6 +1,6 @@
 -- Proved equal to `subtract_all`, `in_hand` and `tests_of` (proofs/InHand, proofs/Tested); need not be believed.
 -- The pieces in hand, in a buffer with room for so many. Where there are more, one more than the room stands for their number. Assumes nothing.
-use Rattle.std.specs.Prelude.{ℕ, ◌+◌, ◌*◌, ◌≤◌, min, ◌≡◌, true, List, ◌++◌, length, Float}
+use Rattle.std.specs.Prelude.{ℕ, ◌+◌, ◌/◌, ◌≤◌, min, ◌≡◌, true, List, ◌++◌, length, Float}
 use Rattle.floats.specs.Pick.{pick}
 use Rattle.rings.specs.declared.Ring.{Ring}
 use Rattle.rings.specs.Ring.{subtract_all, in_hand}
@@ -10,7 +10,7 @@ use Rattle.rings.specs.declared.hand.Cut.{Cut}
 
 -- The first n rings of xs are l. Where l has more than the room, n is one more than that, and nothing is said of xs.
 pub record Holds (room : ℕ) (xs : List Float) (n : ℕ) (l : List Ring) : Type 0 where
-  pub size : length xs ≡ 4 * room
+  pub size : length xs / 4 ≡ room
   pub count : n ≡ min (length l) (room + 1)
   pub same : n ≤ room → rings_of n xs ≡ l
 
@@ -20,7 +20,7 @@ pub record Grows (xs : List Float) (n : ℕ) (ys : List Float) (m : ℕ) (more :
 
 -- what the rings ks leave of the pieces ps is in hand, or one of them leaves more than the room
 pub record Subtracted (room : ℕ) (ps ks : List Ring) (ys : List Float) (r : ℕ) : Type 0 where
-  pub size : length ys ≡ 4 * room
+  pub size : length ys / 4 ≡ room
   pub count : r ≡ pick (in_hand room ps ks) (length (subtract_all ps ks)) (room + 1)
   pub same : in_hand room ps ks ≡ true → rings_of r ys ≡ subtract_all ps ks
 

@@ -1,7 +1,9 @@
 -- The rules by which rings are taken: one ring, or a list of them one after the other. Assumes nothing.
-use Rattle.std.specs.Prelude.{ℕ, ◌+◌, ◌/◌, min, ◌≡◌, Bool, ◌&&◌, List, [], ◌∷◌, ◌++◌, leb, ltb, length, Float}
+use Rattle.std.specs.Prelude.{ℕ, ◌+◌, ◌/◌, min, ◌≡◌, Bool, ◌&&◌, List, [], ◌∷◌, ◌++◌, leb, ltb, length, Float, Err, Ok, Result}
+use Rattle.refusals.specs.declared.Refused.{Refused}
+use Rattle.refusals.specs.declared.Refusal.{Refusal}
 use Rattle.refusals.specs.Limits.{piece_limit, last_generation}
-use Rattle.refusals.specs.Number.{reason_of, reason_at}
+use Rattle.refusals.specs.Number.{reason_in, paper_of, placed_of}
 use Rattle.refusals.specs.Paper.{Paper, answers, refuses, demand, demand_at, onward}
 use Rattle.floats.specs.Pick.{pick}
 use Rattle.stock.specs.declared.TurnStockSpec.{TurnStockSpec}
@@ -9,14 +11,8 @@ use Rattle.stock.specs.declared.TurnStock.{TurnStock}
 use Rattle.stock.specs.Spec.{clean_spec, cells_of}
 use Rattle.stock.specs.Stock.{stock_with}
 use Rattle.rings.specs.declared.Ring.{Ring}
-use Rattle.rings.specs.declared.Counts.{Counts}
-use Rattle.rings.specs.declared.Counts.TheVariants as counts
 use Rattle.rings.specs.declared.Removed.{Removed}
-use Rattle.rings.specs.declared.Removed.TheVariants as removed
-use Rattle.rings.specs.declared.StoredAs.{StoredAs}
-use Rattle.rings.specs.declared.StoredAs.TheVariants as stored
-use Rattle.rings.specs.declared.Left.{Left}
-use Rattle.rings.specs.declared.Left.TheVariants as pieces
+use Rattle.rings.specs.declared.RingCount.{RingCount}
 use Rattle.rings.specs.Ring.{filled, kept, in_hand, clip, left}
 use Rattle.rings.specs.Store.{bar_ring, rings_of, room_for_rings, store_as, count_fits, finite_ring}
 
@@ -35,12 +31,7 @@ unfoldable pub added_all : Ring → ℕ → List Ring → List Ring → Paper (L
 added_all e room ks [] = answers ks
 added_all e room ks (q ∷ qs) = onward (added room ks (clip e q)) (λ l. added_all e room l qs)
 
--- ---- what the calls answer, case by case, and what the lent numbers hold afterwards
-
-abbrev pub stored_paper : StoredAs → Paper ℕ
-stored_paper (stored.Rings n) = answers n
-stored_paper (stored.Refused c) = refuses (reason_of c)
-stored_paper (stored.RefusedAt c k) = refuses (reason_at c k)
+-- ---- what the calls answer, and what the lent numbers hold afterwards
 
 -- how many rings
 unfoldable pub count_of : Paper (List Ring) → Paper ℕ
@@ -51,8 +42,8 @@ abbrev pub store_after : List Float → Paper (List Ring) → List Float
 store_after xs (answers l) = store_as xs l
 store_after xs (refuses n) = xs
 
-pub record StoresAs (xs : List Float) (p : Paper (List Ring)) (r : StoredAs) (ys : List Float) : Type 0 where
-  pub answer : stored_paper r ≡ count_of p
+pub record StoresAs (xs : List Float) (p : Paper (List Ring)) (r : Result ℕ Refused) (ys : List Float) : Type 0 where
+  pub answer : placed_of r ≡ count_of p
   pub store : ys ≡ store_after xs p
 
 -- ---- a list of rings
@@ -88,15 +79,6 @@ unfoldable pub remove_ring : TurnStockSpec → List Float → ℕ → ℕ → Ri
 remove_ring spec xs n g q = onward (cells_of spec) (λ _. remove_in (bar_ring (clean_spec spec)) xs n g q)
 
 -- the count of rings and the generation
-pub record RingCount : Type 0 where
-  pub rings : ℕ
-  pub generation : ℕ
-
-abbrev pub counts_paper : Counts → Paper RingCount
-counts_paper (counts.Stored n g) = answers (record { rings = n; generation = g })
-counts_paper (counts.Refused c) = refuses (reason_of c)
-counts_paper (counts.RefusedAt c k) = refuses (reason_at c k)
-
 unfoldable pub counts_of : Paper RingStore → Paper RingCount
 counts_of p = onward p (λ s. answers (record { rings = length s.rings; generation = s.generation }))
 
@@ -104,8 +86,8 @@ unfoldable pub rings_left_after : List Float → Paper RingStore → List Float
 rings_left_after xs p = store_after xs (onward p (λ s. answers s.rings))
 
 -- the answer by counts
-pub record Takes (xs : List Float) (p : Paper RingStore) (r : Counts) (ys : List Float) : Type 0 where
-  pub answer : counts_paper r ≡ counts_of p
+pub record Takes (xs : List Float) (p : Paper RingStore) (r : Result RingCount Refused) (ys : List Float) : Type 0 where
+  pub answer : placed_of r ≡ counts_of p
   pub store : ys ≡ rings_left_after xs p
 
 -- a stock with that count of rings at that generation
@@ -113,19 +95,17 @@ abbrev pub stock_after : TurnStock → Paper RingCount → Paper TurnStock
 stock_after k (answers c) = answers (stock_with k c.rings c.generation)
 stock_after k (refuses r) = refuses r
 
-abbrev pub removed_paper : Removed → Paper TurnStock
-removed_paper (removed.Stock k t) = answers k
-removed_paper (removed.Refused c) = refuses (reason_of c)
-removed_paper (removed.RefusedAt c k) = refuses (reason_at c k)
+abbrev pub removed_paper : Result Removed Refused → Paper TurnStock
+removed_paper (Ok m) = answers m.stock
+removed_paper (Err r) = refuses (reason_in r)
 
 -- the tests of a piece against a stored ring that an answer tells
-abbrev pub removed_tests : Removed → Paper ℕ
-removed_tests (removed.Stock k t) = answers t
-removed_tests (removed.Refused c) = refuses (reason_of c)
-removed_tests (removed.RefusedAt c k) = refuses (reason_at c k)
+abbrev pub removed_tests : Result Removed Refused → Paper ℕ
+removed_tests (Ok m) = answers m.tests
+removed_tests (Err r) = refuses (reason_in r)
 
 -- the stock, the lent rings and the tests m after one ring of the stock k
-pub record Removes (k : TurnStock) (xs : List Float) (p : Paper RingStore) (m : ℕ) (r : Removed) (ys : List Float) : Type 0 where
+pub record Removes (k : TurnStock) (xs : List Float) (p : Paper RingStore) (m : ℕ) (r : Result Removed Refused) (ys : List Float) : Type 0 where
   pub answer : removed_paper r ≡ stock_after k (counts_of p)
   pub store : ys ≡ rings_left_after xs p
   pub tests : removed_tests r ≡ onward p (λ _. answers m)
@@ -143,11 +123,7 @@ leaves ks q = demand (in_hand piece_limit (kept q) ks) 11 (answers (left ks q))
 abbrev pub left_of : List Float → ℕ → Ring → Paper (List Ring)
 left_of xs n q = leaves (lent_rings xs n) q
 
-abbrev pub left_paper : Left → Paper ℕ
-left_paper (pieces.Pieces n) = answers n
-left_paper (pieces.Refused c) = refuses (reason_of c)
-
 -- the pieces at the front and the rest as it was, or all as it was
-pub record LeavesOf (xs : List Float) (p : Paper (List Ring)) (r : Left) (ys : List Float) : Type 0 where
-  pub answer : left_paper r ≡ count_of p
+pub record LeavesOf (xs : List Float) (p : Paper (List Ring)) (r : Result ℕ Refusal) (ys : List Float) : Type 0 where
+  pub answer : paper_of r ≡ count_of p
   pub store : ys ≡ store_after xs p

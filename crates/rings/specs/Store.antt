@@ -1,6 +1,5 @@
 -- The stored rings, four lent numbers each: reading and writing them, the room for them, and when they are as 01 asks. Assumes nothing.
-use Rattle.std.specs.Prelude.{ℕ, zero, suc, ◌+◌, ◌*◌, ◌/◌, ◌%◌, min, Bool, true, not, ◌&&◌, List, [], ◌∷◌, ◌++◌, leb, eqb, length, get_or, set, Float}
-use Rattle.std.proofs.Math.Option.{Option, none, some}
+use Rattle.std.specs.Prelude.{ℕ, zero, suc, ◌+◌, ◌*◌, ◌/◌, ◌%◌, min, Bool, true, not, ◌&&◌, List, [], ◌∷◌, ◌++◌, leb, eqb, length, get_or, set, Float, Option, None, Some}
 use Rattle.std.specs.Float.{nan}
 use Rattle.std.specs.Float.Ieee.{lt, le}
 use Rattle.std.specs.Float.Ieee.Scale.{finite}
@@ -11,8 +10,6 @@ use Rattle.floats.specs.Pick.{pick}
 use Rattle.floats.specs.Numbers.{zero64, minus_zero}
 use Rattle.stock.specs.declared.TurnStockSpec.{TurnStockSpec}
 use Rattle.rings.specs.declared.Ring.{Ring}
-use Rattle.rings.specs.declared.Judged.{Judged}
-use Rattle.rings.specs.declared.Judged.TheVariants.{Good, Bad}
 use Rattle.rings.specs.Ring.{ring, filled, apart, clip}
 
 -- ---- reading
@@ -82,24 +79,19 @@ good_ring q = finite_ring q && filled q
 
 -- the place of the first that is not good, the first of them at the place k
 unfoldable pub bad_from : ℕ → List Ring → Option ℕ
-bad_from k [] = none
-bad_from k (q ∷ qs) = pick (good_ring q) (bad_from (suc k) qs) (some k)
+bad_from k [] = None
+bad_from k (q ∷ qs) = pick (good_ring q) (bad_from (suc k) qs) (Some k)
 
 -- what 10 asks of a move's or the parts' rings: the place of the first whole ring that is not good, else of the one that is broken off
 unfoldable pub bad_ring : List Float → Option ℕ
-bad_ring xs = first_of (bad_from 0 (rings_of (length xs / 4) xs)) (pick (eqb (length xs % 4) 0) none (some (length xs / 4)))
-
--- what an answer of rings that are judged says, case by case
-abbrev pub judged_place : Judged → Option ℕ
-judged_place Good = none
-judged_place (Bad k) = some k
+bad_ring xs = first_of (bad_from 0 (rings_of (length xs / 4) xs)) (pick (eqb (length xs % 4) 0) None (Some (length xs / 4)))
 
 -- each is finite and, as given, not empty
 unfoldable pub all_good : List Ring → Bool
 all_good [] = true
 all_good (q ∷ qs) = finite_ring q && filled q && all_good qs
 
--- whole rings, each good: no ring is bad (`Good-none`, proofs/Bad)
+-- whole rings, each good: no ring is bad (`Good-none`, proofs/Some)
 unfoldable pub rings_good : List Float → Bool
 rings_good xs = eqb (length xs % 4) 0 && all_good (rings_of (length xs / 4) xs)
 

@@ -3,11 +3,12 @@
 // A box is kept about each block of 16 rings, so that a ring which is apart from the box is found apart
 // from the whole block at once. Rings that come in no order make boxes about all: a sweep is tried
 // first (`swept`).
-ghost use Rattle.std.specs.Prelude.{◌≡◌, true, ◌+◌, ◌*◌, ◌/◌, ◌≤◌, min, length};
+ghost use Rattle.std.specs.Prelude.{◌≡◌, true, ◌+◌, ◌*◌, ◌/◌, ◌≤◌, ◌<◌, min, length};
 ghost use Rattle.rings.specs.Store.{rings_of, ring_fits, apart_all, store_fits, count_fits};
 ghost use Rattle.rings.specs.Swept.{Each};
 ghost use Rattle.rings.specs.Block.{box_with, boxes_with, BoxAbout, Boxed};
 
+use crate::lent::Stored;
 use crate::{Ring, lent, shape, swept};
 
 // So many rings have one box about them.
@@ -45,8 +46,8 @@ fn widened(first: bool, b: Ring, q: Ring) -> Ring
 }
 
 // The box of a block widened about its next ring, the ring i.
-fn widen(boxes: &mut [f64], i: usize, q: Ring)
-    requires { 4 * (i / 16) + 4 ≤ length boxes.old }
+fn widen(boxes: &mut [f64; 64], i: usize, q: Ring)
+    requires { i < 256 }
     ensures { boxes.new ≡ boxes_with boxes.old i q }
 {
     let at = i / BLOCK;
@@ -66,45 +67,37 @@ fn apart_block(rings: &[f64], from: usize, to: usize, b: Ring, k: Ring, before: 
 }
 
 // As `apart_from`, block by block.
-fn apart_blocks(rings: &[f64], n: usize, boxes: &[f64], k: Ring) -> bool
-    requires { (4 * n ≤ length rings.now) × (n ≤ 256) × (length boxes.now ≡ 64) }
-    ensures { Boxed boxes.now rings.now n → result ≡ apart_all (rings_of n rings.now) k }
+fn apart_blocks(stored: Stored, boxes: &[f64; 64], k: Ring) -> bool
+    ensures { Boxed boxes.now stored.entry.rings.now stored.entry.n → result ≡ apart_all (rings_of stored.entry.n stored.entry.rings.now) k }
 {
     let mut ok = true;
-    let mut at: usize = 0;
-    while BLOCK * at < n {
+    for at in 0..stored.n.div_ceil(BLOCK) {
         let from = BLOCK * at;
-        let to = numbers::lesser(from + BLOCK, n);
-        ok = apart_block(rings, from, to, lent::ring_at(boxes, at), k, ok);
-        at += 1;
+        let to = numbers::lesser(from + BLOCK, stored.n);
+        ok = apart_block(stored.rings, from, to, lent::ring_at(boxes, at), k, ok);
     }
     ok
 }
 
-// Each of the first n rings fits, and no two overlap.
-fn store_fits(e: Ring, rings: &[f64], n: usize) -> bool
-    requires { (4 * n ≤ length rings.now) × (n ≤ 256) }
-    ensures { result ≡ store_fits e (rings_of n rings.now) }
+// Each of the rings fits, and no two overlap.
+fn store_fits(e: Ring, stored: Stored) -> bool
+    ensures { result ≡ store_fits e (rings_of stored.entry.n stored.entry.rings.now) }
 {
     let mut boxes = [0.0f64; 64];
     let mut ok = true;
-    let mut i: usize = 0;
-    while i < n {
-        let q = lent::ring_at(rings, i);
-        ok = ok & ring_fits(e, q) & apart_blocks(rings, i, &boxes, q);
+    for i in 0..stored.n {
+        let q = stored.at(i);
+        ok = ok & ring_fits(e, q) & apart_blocks(stored.first(i), &boxes, q);
         widen(&mut boxes, i, q);
-        i += 1;
     }
     ok
 }
 
 // z0 falls nowhere from one of every eight rings to the next.
-fn rises(rings: &[f64], n: usize) -> bool
-    requires { (4 * n ≤ length rings.now) × (n ≤ 256) }
-{
+fn rises(stored: Stored) -> bool {
     let mut i: usize = 8;
-    while i < n {
-        if rings[4 * i] < rings[4 * (i - 8)] {
+    while i < stored.n {
+        if stored.at(i).z0 < stored.at(i - 8).z0 {
             return false;
         }
         i += 8;
@@ -112,33 +105,29 @@ fn rises(rings: &[f64], n: usize) -> bool
     true
 }
 
-// Each of the first n rings fits.
-fn all_fit(e: Ring, rings: &[f64], n: usize) -> bool
-    requires { 4 * n ≤ length rings.now }
-    ensures { result ≡ true → Each e rings.now n }
+// Each of the rings fits.
+fn all_fit(e: Ring, stored: Stored) -> bool
+    ensures { result ≡ true → Each e stored.entry.rings.now stored.entry.n }
 {
     let mut ok = true;
-    let mut i: usize = 0;
-    while i < n {
-        ok = ok & ring_fits(e, lent::ring_at(rings, i));
-        i += 1;
+    for i in 0..stored.n {
+        ok = ok & ring_fits(e, stored.at(i));
     }
     ok
 }
 
 // Of rings that come in no order: a sweep finds that they are as `store_fits` asks.
-fn sweep_fits(e: Ring, rings: &[f64], n: usize) -> bool
-    requires { (4 * n ≤ length rings.now) × (n ≤ 256) }
-    ensures { result ≡ true → store_fits e (rings_of n rings.now) ≡ true }
+fn sweep_fits(e: Ring, stored: Stored) -> bool
+    ensures { result ≡ true → store_fits e (rings_of stored.entry.n stored.entry.rings.now) ≡ true }
 {
-    if n <= BLOCK {
+    if stored.n <= BLOCK {
         return false;
     }
-    if rises(rings, n) {
+    if rises(stored) {
         return false;
     }
-    let fits = all_fit(e, rings, n);
-    fits & swept::is_clear(e, rings, n)
+    let fits = all_fit(e, stored);
+    fits & swept::is_clear(e, stored)
 }
 
 // What refusal 4 asks of the store.
@@ -148,8 +137,9 @@ pub fn count_fits(e: Ring, rings: &[f64], count: usize) -> bool
     if lent::room_of(rings.len()) < count {
         return false;
     }
-    if sweep_fits(e, rings, count) {
+    let stored = Stored { rings, n: count };
+    if sweep_fits(e, stored) {
         return true;
     }
-    store_fits(e, rings, count)
+    store_fits(e, stored)
 }

@@ -1,6 +1,6 @@
 // The pieces in hand while a ring is cut, in a buffer with room for so many. Where there are more, one
 // more than the room stands for their number.
-ghost use Rattle.std.specs.Prelude.{◌≡◌, [], ◌∷◌, ◌*◌, ◌≤◌, length};
+ghost use Rattle.std.specs.Prelude.{◌≡◌, [], ◌∷◌, ◌*◌, ◌/◌, ◌≤◌, length};
 ghost use Rattle.rings.specs.Ring.{kept, split, subtract};
 ghost use Rattle.rings.specs.Store.{rings_of};
 ghost use Rattle.rings.specs.Hand.{Holds, Grows, CutsAll};
@@ -95,24 +95,22 @@ fn subtract_one(hand: &[f64], n: usize, k: Ring, next: &mut [f64]) -> usize
     ensures { Grows next.old 0 next.new result (subtract (rings_of n hand.now) k) }
 {
     let mut m: usize = 0;
-    let mut i: usize = 0;
-    while i < n {
+    for i in 0..n {
         m = split_into(next, m, lent::ring_at(hand, i), k);
-        i += 1;
     }
     m
 }
 
 // The same, in hand. A ring that overlaps none of the pieces leaves all as they are.
-fn cut_by(hand: &mut [f64], room: usize, n: usize, k: Ring, next: &mut [f64]) -> usize
-    requires { (n ≤ room) × (length hand.old ≡ 4 * room) × (length next.old ≡ 4 * room) }
-    ensures { Holds room hand.new result (subtract (rings_of n hand.old) k) }
+fn cut_by<const N: usize>(hand: &mut [f64; N], n: usize, k: Ring, next: &mut [f64; N]) -> usize
+    requires { n ≤ N / 4 }
+    ensures { Holds (N / 4) hand.new result (subtract (rings_of n hand.old) k) }
 {
     if lent::apart_from(hand, n, k) {
         return n;
     }
     let m = subtract_one(hand, n, k, next);
-    if room < m {
+    if N / 4 < m {
         return m;
     }
     lent::copy_rings(next, m, hand, 0);
@@ -121,43 +119,39 @@ fn cut_by(hand: &mut [f64], room: usize, n: usize, k: Ring, next: &mut [f64]) ->
 
 // What the first `count` stored rings leave of the n pieces in hand, in hand. Each is tested against the
 // pieces in hand before it.
-fn subtract_all(
+fn subtract_all<const N: usize>(
     rings: &[f64],
     count: usize,
-    hand: &mut [f64],
-    room: usize,
+    hand: &mut [f64; N],
     n: usize,
-    next: &mut [f64],
+    next: &mut [f64; N],
 ) -> Cut
-    requires { (4 * count ≤ length rings.now) × (n ≤ room) × (length hand.old ≡ 4 * room) × (length next.old ≡ 4 * room) }
-    ensures { CutsAll room (rings_of n hand.old) (rings_of count rings.now) hand.new result }
+    requires { (4 * count ≤ length rings.now) × (n ≤ N / 4) }
+    ensures { CutsAll (N / 4) (rings_of n hand.old) (rings_of count rings.now) hand.new result }
 {
     let mut m = n;
     let mut tests: usize = 0;
-    let mut j: usize = 0;
-    while j < count {
+    for j in 0..count {
         tests = numbers::lesser(tests + m, TEST_LIMIT);
-        m = cut_by(hand, room, m, lent::ring_at(rings, j), next);
-        if room < m {
+        m = cut_by(hand, m, lent::ring_at(rings, j), next);
+        if N / 4 < m {
             return Cut { left: m, tests };
         }
-        j += 1;
     }
     Cut { left: m, tests }
 }
 
 // What the first `count` stored rings leave of the ring c, in hand.
-pub fn cut_ring(
+pub fn cut_ring<const N: usize>(
     rings: &[f64],
     count: usize,
     c: Ring,
-    hand: &mut [f64],
-    room: usize,
-    next: &mut [f64],
+    hand: &mut [f64; N],
+    next: &mut [f64; N],
 ) -> Cut
-    requires { (4 * count ≤ length rings.now) × (1 ≤ room) × (length hand.old ≡ 4 * room) × (length next.old ≡ 4 * room) }
-    ensures { CutsAll room (kept c) (rings_of count rings.now) hand.new result }
+    requires { (4 * count ≤ length rings.now) × (4 ≤ N) }
+    ensures { CutsAll (N / 4) (kept c) (rings_of count rings.now) hand.new result }
 {
     let n = put(hand, 0, c);
-    subtract_all(rings, count, hand, room, n, next)
+    subtract_all(rings, count, hand, n, next)
 }

@@ -1,9 +1,38 @@
 // Rings in lent memory, four numbers each: read, written, and compared with one.
-ghost use Rattle.std.specs.Prelude.{◌≡◌, ◌++◌, ◌+◌, ◌*◌, ◌≤◌, length};
+ghost use Rattle.std.specs.Prelude.{◌≡◌, ◌++◌, ◌+◌, ◌*◌, ◌≤◌, ◌<◌, length};
 ghost use Rattle.rings.specs.Store.{ring_at, rings_of, room_for_rings, store_as, write, apart_all};
 
 use crate::{Ring, shape};
 use refusals::RING_LIMIT;
+
+// So many rings at the front of lent numbers, as a store holds them.
+#[derive(Clone, Copy)]
+pub struct Stored<'a> {
+    pub rings: &'a [f64],
+    pub n: usize,
+    pub ghost lent: { 4 * n ≤ length rings.now },
+    pub ghost few: { n ≤ 256 },
+}
+
+impl<'a> Stored<'a> {
+    pub fn at(self, i: usize) -> Ring
+        requires { i < self.n }
+        ensures { result ≡ ring_at self.entry.rings.now i }
+    {
+        ring_at(self.rings, i)
+    }
+
+    // The first n of them.
+    pub fn first(self, n: usize) -> Stored<'a>
+        requires { n ≤ self.n }
+        ensures { (result.rings ≡ self.entry.rings) × (result.n ≡ n) }
+    {
+        Stored {
+            rings: self.rings,
+            n,
+        }
+    }
+}
 
 pub fn ring_at(rings: &[f64], i: usize) -> Ring
     requires { 4 * i + 4 ≤ length rings.now }
@@ -34,10 +63,8 @@ pub fn copy_rings(from: &[f64], n: usize, to: &mut [f64], at: usize)
     requires { (4 * n ≤ length from.now) × (4 * (at + n) ≤ length to.old) }
     ensures { to.new ≡ store_as to.old (rings_of at to.old ++ rings_of n from.now) }
 {
-    let mut i: usize = 0;
-    while i < n {
+    for i in 0..n {
         write_ring(to, at + i, ring_at(from, i));
-        i += 1;
     }
 }
 
@@ -47,10 +74,8 @@ pub fn apart_on(rings: &[f64], from: usize, to: usize, k: Ring, before: bool) ->
     ensures { before ≡ apart_all (rings_of from rings.now) k → result ≡ apart_all (rings_of to rings.now) k }
 {
     let mut ok = before;
-    let mut j = from;
-    while j < to {
+    for j in from..to {
         ok = ok & shape::is_apart(ring_at(rings, j), k);
-        j += 1;
     }
     ok
 }
@@ -67,8 +92,5 @@ pub fn apart_from(rings: &[f64], n: usize, k: Ring) -> bool
 pub fn room_of(len: usize) -> usize
     ensures { result ≡ room_for_rings len }
 {
-    if len / 4 < RING_LIMIT {
-        return len / 4;
-    }
-    RING_LIMIT
+    (len / 4).min(RING_LIMIT)
 }

@@ -9,15 +9,14 @@
 
 ghost use Rattle.std.specs.Prelude.{◌≡◌, ◌*◌, ◌/◌, ◌≤◌, length};
 ghost use Rattle.refusals.specs.Paper.{place_or};
-ghost use Rattle.floats.specs.Pick.{pick};
 ghost use Rattle.stock.specs.Spec.{clean_spec};
-ghost use Rattle.rings.specs.Store.{bar_ring, rings_of, count_fits, bad_from, bad_ring, judged_place, all_good, raised_by};
+ghost use Rattle.rings.specs.Store.{bar_ring, rings_of, count_fits, bad_from, bad_ring, all_good, raised_by};
 ghost use Rattle.rings.specs.Remove.{StoresAs, remove_all_in, remove_rings, remove_ring, Removes, left_of, LeavesOf};
 ghost use Rattle.rings.specs.Tests.{ring_tests, list_tests_in, list_tests};
-ghost use Rattle.rings.specs.Counted.{TakesOne, TakesFrom, StockTaken, stored_by};
+ghost use Rattle.rings.specs.Counted.{TakesOne, TakesFrom};
 
-use refusals::{LAST_GENERATION, PIECE_LIMIT, Refusal};
-use stock::{Counted, TurnStock, TurnStockSpec};
+use refusals::{LAST_GENERATION, PIECE_LIMIT, Refusal, Refused};
+use stock::{TurnStock, TurnStockSpec};
 
 mod fit;
 mod hand;
@@ -37,59 +36,31 @@ pub struct Ring {
 
 // Rings taken: the count of rings and the generation afterwards.
 #[derive(Clone, Copy)]
-pub enum Counts {
-    Stored(usize, u64),
-    Refused(Refusal),
-    // at the place of the change or of the ring in its list
-    RefusedAt(Refusal, usize),
+pub struct RingCount {
+    pub rings: usize,
+    pub generation: u64,
 }
 
 // One ring taken: the stock afterwards, and the tests of a piece against a stored ring that it took.
 #[derive(Clone, Copy)]
-pub enum Removed {
-    Stock(TurnStock, usize),
-    Refused(Refusal),
-    // at the place of the ring in its list, which is 0
-    RefusedAt(Refusal, usize),
+pub struct Removed {
+    pub stock: TurnStock,
+    pub tests: usize,
 }
 
 // One ring taken: the count of rings and the generation afterwards, and the tests that it took.
 #[derive(Clone, Copy)]
-enum Took {
-    Stored(usize, u64, usize),
-    Refused(Refusal),
-    // at the place of the ring in its list, which is 0
-    RefusedAt(Refusal, usize),
+struct Took {
+    rings: usize,
+    generation: u64,
+    tests: usize,
 }
 
 // A clipped ring stored: how many rings there are then, and the tests that it took.
 #[derive(Clone, Copy)]
-enum Added {
-    Rings(usize, usize),
-    Refused(Refusal),
-}
-
-// Rings stored: how many there are then.
-#[derive(Clone, Copy)]
-pub enum StoredAs {
-    Rings(usize),
-    Refused(Refusal),
-    // at the place of the ring in its list
-    RefusedAt(Refusal, usize),
-}
-
-// Whether the rings of a list are good, or the place of the first that is not.
-#[derive(Clone, Copy)]
-pub enum Judged {
-    Good,
-    Bad(usize),
-}
-
-// What rings leave of one: so many pieces.
-#[derive(Clone, Copy)]
-pub enum Left {
-    Pieces(usize),
-    Refused(Refusal),
+struct Added {
+    rings: usize,
+    tests: usize,
 }
 
 // z_min..z_max and 0..outer, -0.0 read as +0.0.
@@ -113,27 +84,38 @@ pub fn rings_fit(spec: TurnStockSpec, rings: &[f64], count: usize) -> bool
 }
 
 // A ring within the extent e; 4, 10, 12, 11.
-fn remove_in(e: Ring, rings: &mut [f64], count: usize, generation: u64, ring: Ring) -> Took
+fn remove_in(
+    e: Ring,
+    rings: &mut [f64],
+    count: usize,
+    generation: u64,
+    ring: Ring,
+) -> Result<Took, Refused>
     ensures { TakesOne e rings.old count generation ring result rings.new }
 {
     if !fit::count_fits(e, rings, count) {
-        return Took::Refused(Refusal::StoredRings);
+        return Err(Refused::from(Refusal::StoredRings));
     }
     if !shape::is_finite_ring(ring) {
-        return Took::RefusedAt(Refusal::RingOutside, 0);
+        return Err(Refused::at(Refusal::RingOutside, 0));
     }
     let c = shape::clipped(e, ring);
     if !shape::is_filled(c) {
-        return Took::Stored(count, generation, 0);
+        return Ok(Took {
+            rings: count,
+            generation,
+            tests: 0,
+        });
     }
     if LAST_GENERATION <= generation {
-        return Took::Refused(Refusal::GenerationsSpent);
+        return Err(Refused::from(Refusal::GenerationsSpent));
     }
-    let added = store::add_ring(rings, lent::room_of(rings.len()), count, c);
-    match added {
-        Added::Refused(r) => Took::Refused(r),
-        Added::Rings(n, tests) => Took::Stored(n, generation + 1, tests),
-    }
+    let added = store::add_ring(rings, lent::room_of(rings.len()), count, c)?;
+    Ok(Took {
+        rings: added.rings,
+        generation: generation + 1,
+        tests: added.tests,
+    })
 }
 
 // A ring of a stock by its spec; 1, 2, 4, 10, 12, 11.
@@ -143,82 +125,57 @@ fn remove_from(
     count: usize,
     generation: u64,
     ring: Ring,
-) -> Took
+) -> Result<Took, Refused>
     ensures { TakesFrom spec rings.old count generation ring result rings.new }
 {
-    let counted = stock::validate(spec);
-    match counted {
-        Counted::Refused(r) => Took::Refused(r),
-        Counted::Cells(_) => remove_in(extent(spec), rings, count, generation, ring),
-    }
-}
-
-// The stock with the rings and the generation that it has then.
-fn with_counts(stock: TurnStock, took: Took) -> Removed
-    ensures { StockTaken stock took result }
-{
-    match took {
-        Took::Refused(r) => Removed::Refused(r),
-        Took::RefusedAt(r, k) => Removed::RefusedAt(r, k),
-        Took::Stored(n, generation, tests) => {
-            Removed::Stock(stock::stock_with(stock, n, generation), tests)
-        }
-    }
+    stock::validate(spec)?;
+    remove_in(extent(spec), rings, count, generation, ring)
 }
 
 // A ring certainly removed inside the material: the stock afterwards, and the tests that it took; 1, 2,
 // 4, 10, 12, 11.
-pub fn remove_ring(stock: TurnStock, rings: &mut [f64], ring: Ring) -> Removed
+pub fn remove_ring(stock: TurnStock, rings: &mut [f64], ring: Ring) -> Result<Removed, Refused>
     ensures { Removes stock rings.old
         (remove_ring stock.spec rings.old stock.rings stock.stamp.generation ring)
         (ring_tests stock.spec rings.old stock.rings ring) result rings.new }
 {
-    let spec = stock.spec;
-    let took = remove_from(spec, rings, stock.rings, stock.stamp.generation, ring);
-    with_counts(stock, took)
-}
-
-// The answer without the tests.
-fn stored_by(added: Added) -> StoredAs
-    ensures { result ≡ stored_by added }
-{
-    match added {
-        Added::Refused(r) => StoredAs::Refused(r),
-        Added::Rings(n, _) => StoredAs::Rings(n),
-    }
+    let took = remove_from(stock.spec, rings, stock.rings, stock.stamp.generation, ring)?;
+    Ok(Removed {
+        stock: stock::stock_with(stock, took.rings, took.generation),
+        tests: took.tests,
+    })
 }
 
 // All within the extent e, one after the other, decided before anything is written; 4, 11.
-fn remove_all_in(e: Ring, rings: &mut [f64], count: usize, removed: &[f64]) -> StoredAs
+fn remove_all_in(
+    e: Ring,
+    rings: &mut [f64],
+    count: usize,
+    removed: &[f64],
+) -> Result<usize, Refused>
     ensures { StoresAs rings.old (remove_all_in e rings.old count removed.now) result rings.new }
 {
     let room = lent::room_of(rings.len());
     if room < count {
-        return StoredAs::Refused(Refusal::StoredRings);
+        return Err(Refused::from(Refusal::StoredRings));
     }
     let k = removed.len() / 4;
     if k == 0 {
-        return StoredAs::Rings(count);
+        return Ok(count);
     }
     if k == 1 {
         let c = shape::clipped(e, lent::ring_at(removed, 0));
-        return stored_by(store::add_ring(rings, room, count, c));
+        return Ok(store::add_ring(rings, room, count, c)?.rings);
     }
     let mut work = [0.0f64; 1024];
     lent::copy_rings(rings, count, &mut work, 0);
     let mut n = count;
-    let mut i: usize = 0;
-    while i < k {
+    for i in 0..k {
         let c = shape::clipped(e, lent::ring_at(removed, i));
-        let one = store::add_ring(&mut work, room, n, c);
-        match one {
-            Added::Rings(m, _) => n = m,
-            Added::Refused(x) => return StoredAs::Refused(x),
-        }
-        i += 1;
+        n = store::add_ring(&mut work, room, n, c)?.rings;
     }
     lent::copy_rings(&work, n, rings, 0);
-    StoredAs::Rings(n)
+    Ok(n)
 }
 
 // All of the list `removed`, in a stock whose spec is checked already; 4 where the count is over the
@@ -228,7 +185,7 @@ pub fn remove_rings(
     rings: &mut [f64],
     count: usize,
     removed: &[f64],
-) -> StoredAs
+) -> Result<usize, Refused>
     ensures { StoresAs rings.old (remove_rings spec rings.old count removed.now) result rings.new }
 {
     remove_all_in(extent(spec), rings, count, removed)
@@ -251,18 +208,13 @@ fn list_tests_in(
     let mut work = [0.0f64; 1024];
     lent::copy_rings(rings, count, &mut work, 0);
     let mut n = count;
-    let mut i: usize = 0;
-    while i < k {
+    for i in 0..k {
         let c = shape::clipped(e, lent::ring_at(removed, i));
-        let one = store::add_ring(&mut work, room, n, c);
-        match one {
-            Added::Refused(_) => return,
-            Added::Rings(m, t) => {
-                tests[i] = t;
-                n = m;
-            }
-        }
-        i += 1;
+        let Ok(one) = store::add_ring(&mut work, room, n, c) else {
+            return;
+        };
+        tests[i] = one.tests;
+        n = one.rings;
     }
 }
 
@@ -288,57 +240,42 @@ pub fn list_tests(
     list_tests_in(extent(spec), rings, room, count, removed, tests);
 }
 
-// The first n rings are finite and not empty. This pass has no branch; which ring is not is asked only
-// where one is not.
-fn all_good(rings: &[f64], n: usize) -> bool
-    requires { 4 * n ≤ length rings.now }
-    ensures { result ≡ all_good (rings_of n rings.now) }
+// The rings are finite and not empty. This pass has no branch; which ring is not is asked only where one
+// is not.
+fn all_good(rings: &[f64]) -> bool
+    ensures { result ≡ all_good (rings_of (length rings.now / 4) rings.now) }
 {
     let mut ok = true;
-    let mut i: usize = 0;
-    while i < n {
+    for i in 0..rings.len() / 4 {
         let q = lent::ring_at(rings, i);
         ok = ok & shape::is_finite_ring(q) & shape::is_filled(q);
-        i += 1;
     }
     ok
 }
 
-// The place of the first of n rings that is not finite or is empty; n where there is none.
-fn first_bad(rings: &[f64], n: usize) -> usize
-    requires { 4 * n ≤ length rings.now }
-    ensures { result ≡ place_or n (bad_from 0 (rings_of n rings.now)) }
+// The place of the first ring that is not finite or is empty; where there is none, how many there are.
+fn first_bad(rings: &[f64]) -> usize
+    ensures { result ≡ place_or (length rings.now / 4) (bad_from 0 (rings_of (length rings.now / 4) rings.now)) }
 {
-    let mut i: usize = 0;
-    while i < n {
+    let n = rings.len() / 4;
+    for i in 0..n {
         let q = lent::ring_at(rings, i);
         if !(shape::is_finite_ring(q) & shape::is_filled(q)) {
             return i;
         }
-        i += 1;
     }
     n
 }
 
 // What refusal 10 asks of a move and of parts: whole rings, each finite and not empty. The place of the
 // first that is not, and else of the one that is broken off.
-pub fn first_bad_ring(removed: &[f64]) -> Judged
-    ensures { judged_place result ≡ bad_ring removed.now }
+pub fn first_bad_ring(removed: &[f64]) -> Option<usize>
+    ensures { result ≡ bad_ring removed.now }
 {
-    let n = removed.len();
-    if (n % 4 == 0) & all_good(removed, n / 4) {
-        return Judged::Good;
+    if (removed.len() % 4 == 0) & all_good(removed) {
+        return None;
     }
-    Judged::Bad(first_bad(removed, n / 4))
-}
-
-fn one_if(t: bool) -> usize
-    ensures { result ≡ pick t 1 0 }
-{
-    if t {
-        return 1;
-    }
-    0
+    Some(first_bad(removed))
 }
 
 // How many of the rings are not empty after clipping, in a stock whose spec is checked already.
@@ -346,28 +283,30 @@ pub fn raised_by(spec: TurnStockSpec, removed: &[f64]) -> usize
     ensures { result ≡ raised_by (bar_ring (clean_spec spec)) (rings_of (length removed.now / 4) removed.now) }
 {
     let e = extent(spec);
-    let k = removed.len() / 4;
     let mut n: usize = 0;
-    let mut i: usize = 0;
-    while i < k {
-        n += one_if(shape::is_filled(shape::clipped(e, lent::ring_at(removed, i))));
-        i += 1;
+    for i in 0..removed.len() / 4 {
+        n += usize::from(shape::is_filled(shape::clipped(e, lent::ring_at(removed, i))));
     }
     n
 }
 
 // What the first `count` lent rings leave of a ring that is taken as it stands, at the front of
 // `pieces`; 11. Where fewer are lent, those.
-pub fn left_of(rings: &[f64], count: usize, ring: Ring, pieces: &mut [f64; 1024]) -> Left
+pub fn left_of(
+    rings: &[f64],
+    count: usize,
+    ring: Ring,
+    pieces: &mut [f64; 1024],
+) -> Result<usize, Refusal>
     ensures { LeavesOf pieces.old (left_of rings.now count ring) result pieces.new }
 {
     let n = numbers::lesser(count, rings.len() / 4);
     let mut hand = [0.0f64; 1024];
     let mut next = [0.0f64; 1024];
-    let left = hand::cut_ring(rings, n, ring, &mut hand, PIECE_LIMIT, &mut next).left;
+    let left = hand::cut_ring(rings, n, ring, &mut hand, &mut next).left;
     if PIECE_LIMIT < left {
-        return Left::Refused(Refusal::RingsOverRoom);
+        return Err(Refusal::RingsOverRoom);
     }
     lent::copy_rings(&hand, left, pieces, 0);
-    Left::Pieces(left)
+    Ok(left)
 }

@@ -1,7 +1,6 @@
 -- What the sample wheel asks, and how that is answered by the rules that the calls are proved to follow. Assumes nothing.
-use Rattle.std.specs.Prelude.{ℕ, length, Float}
+use Rattle.std.specs.Prelude.{ℕ, length, Float, Option, None, Some}
 use mathlib.Core.List.{List, [], ◌∷◌, foldl}
-use Rattle.std.proofs.Math.Option.{Option, none, some}
 use Rattle.refusals.specs.Paper.{Paper, answers, onward}
 use Rattle.floats.specs.Numbers.{zero64}
 use Rattle.numbers.specs.Root.{root_of}
@@ -67,8 +66,8 @@ after_rings spec l = foldl (λ (p : Paper Held) (q : Ring). onward p (λ h. take
 
 -- bore and outer radius, or nothing
 abbrev pub radii_of : Option Band → List Float
-radii_of (some b) = b.bore ∷ b.outer ∷ []
-radii_of none = []
+radii_of (Some b) = b.bore ∷ b.outer ∷ []
+radii_of None = []
 
 unfoldable pub answer_of : Ask → Paper Says
 answer_of (root x) = onward (root_of x) (λ y. says (y ∷ []) 0)

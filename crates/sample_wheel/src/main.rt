@@ -9,14 +9,11 @@
 // those of kept numbers, and writes what it finds, a line each.
 #![tactic(auto)]
 
-use changes::{Applied, ChangeList, Previewed};
+use changes::ChangeList;
 use cuts::Cut;
-use moves::Rebuilt;
-use numbers::Rooted;
-use queries::Seen;
-use refusals::Refusal;
-use rings::{Removed, Ring};
-use stock::{Counted, Stamp, TurnSide, TurnStock, TurnStockSpec};
+use refusals::{Refusal, Refused};
+use rings::Ring;
+use stock::{Stamp, TurnSide, TurnStock, TurnStockSpec};
 
 // A bar from 0 on with cells of 1, outer radius 10 and no bore.
 fn bar(z_max: f64) -> TurnStockSpec {
@@ -42,52 +39,49 @@ fn bar_of(edition: u32) -> TurnStock {
     }
 }
 
-fn say(n: u64) {
-    io::write_all(1, b"accepted ");
-    io::print_decimal(1, n);
-    io::write_all(1, b"\n");
-}
-
 fn say_no(r: Refusal) {
     io::write_all(1, b"refused ");
-    io::print_decimal(1, refusals::number(r) as u64);
+    io::print_decimal(1, u64::from(refusals::number(r)));
     io::write_all(1, b"\n");
 }
 
-fn say_counted(answer: Counted) {
+// A count or a generation, or the number of the refusal.
+fn say(answer: Result<u64, Refusal>) {
     match answer {
-        Counted::Cells(n) => say(n as u64),
-        Counted::Refused(r) => say_no(r),
+        Ok(n) => {
+            io::write_all(1, b"accepted ");
+            io::print_decimal(1, n);
+            io::write_all(1, b"\n");
+        }
+        Err(r) => say_no(r),
     }
 }
 
-fn say_changes(answer: Previewed) {
-    match answer {
-        Previewed::Listed(list) => say(list.count as u64),
-        Previewed::Refused(r) => say_no(r),
+fn say_whether(so: bool) {
+    if so {
+        io::write_all(1, b"yes\n");
+    } else {
+        io::write_all(1, b"no\n");
     }
+}
+
+fn say_changes(answer: Result<ChangeList, Refusal>) {
+    say(answer.map(|list| list.count as u64));
 }
 
 // The root of 2, against 3FF6A09E667F3BCD, which is 1.4142135623730951.
 fn root_of_2() {
     io::write_all(1, b"root 2 is 3FF6A09E667F3BCD: ");
-    let found = numbers::root(2.0);
-    match found {
-        Rooted::Root(x) => {
-            if x == 1.4142135623730951 {
-                io::write_all(1, b"yes\n");
-            } else {
-                io::write_all(1, b"no\n");
-            }
-        }
-        Rooted::Refused(r) => say_no(r),
+    match numbers::root(2.0) {
+        Ok(x) => say_whether(x == 1.4142135623730951),
+        Err(r) => say_no(r),
     }
 }
 
 // So many cells.
 fn cells(z_max: f64) {
     io::write_all(1, b"cells: ");
-    say_counted(stock::validate(bar(z_max)));
+    say(stock::validate(bar(z_max)).map(|n| n as u64));
 }
 
 // A nose along segments, over a bar of 4 cells.
@@ -95,7 +89,7 @@ fn nose_along(segments: &[f64]) {
     let mut lent = [0.0f64; 16];
     let mut indices = [0usize; 4];
     let mut records = [0.0f64; 32];
-    stock::fill(bar(4.0), 0, &mut lent);
+    let _ = stock::fill(bar(4.0), 0, &mut lent);
     io::write_all(1, b"segments: ");
     say_changes(cuts::preview(
         bar_of(0),
@@ -112,7 +106,7 @@ fn nose_along(segments: &[f64]) {
 fn records_for(indices: &mut [usize]) {
     let mut lent = [0.0f64; 16];
     let mut records = [0.0f64; 32];
-    stock::fill(bar(4.0), 0, &mut lent);
+    let _ = stock::fill(bar(4.0), 0, &mut lent);
     io::write_all(1, b"records: ");
     say_changes(cuts::preview_cut(
         bar_of(0),
@@ -132,7 +126,7 @@ fn thread_to(z: f64) {
     let mut lent = [0.0f64; 16];
     let mut indices = [0usize; 4];
     let mut records = [0.0f64; 32];
-    stock::fill(bar(4.0), 0, &mut lent);
+    let _ = stock::fill(bar(4.0), 0, &mut lent);
     io::write_all(1, b"thread: ");
     say_changes(cuts::preview_cut(
         bar_of(0),
@@ -153,7 +147,7 @@ fn thread_on(
     lent: &[f64],
     indices: &mut [usize],
     records: &mut [f64],
-) -> Previewed {
+) -> Result<ChangeList, Refusal> {
     cuts::thread_cut(stock, lent, 0.0, 4.0, 8.0, indices, records)
 }
 
@@ -162,30 +156,35 @@ fn commit(
     stock: TurnStock,
     lent: &mut [f64],
     kept: &mut [f64],
-    previewed: Previewed,
+    previewed: Result<ChangeList, Refusal>,
     indices: &[usize],
     records: &[f64],
-) {
-    match previewed {
-        Previewed::Refused(r) => say_no(r),
-        Previewed::Listed(list) => {
-            say_applied(changes::apply(stock, lent, kept, list, indices, records));
-        }
-    }
+) -> Result<u64, Refused> {
+    let list = previewed?;
+    let after = changes::apply(stock, lent, kept, list, indices, records)?;
+    Ok(after.stamp.generation)
+}
+
+// The same of a rebuilt stock.
+fn commit_rebuilt(
+    rebuilt: Result<TurnStock, Refused>,
+    lent: &mut [f64],
+    kept: &mut [f64],
+    previewed: Result<ChangeList, Refusal>,
+    indices: &[usize],
+    records: &[f64],
+) -> Result<u64, Refused> {
+    commit(rebuilt?, lent, kept, previewed, indices, records)
+}
+
+fn say_committed(answer: Result<u64, Refused>) {
+    say(answer.map_err(|e| e.why));
 }
 
 // A bar of 4 cells of an edition, with its kept numbers: those of one block.
 fn new_bar(edition: u32, lent: &mut [f64], kept: &mut [f64]) {
-    stock::fill(bar(4.0), edition, lent);
-    blocks::renew(bar(4.0), lent, kept);
-}
-
-fn say_applied(answer: Applied) {
-    match answer {
-        Applied::Stock(after) => say(after.stamp.generation),
-        Applied::Refused(r) => say_no(r),
-        Applied::RefusedAt(r, _) => say_no(r),
-    }
+    let _ = stock::fill(bar(4.0), edition, lent);
+    let _ = blocks::renew(bar(4.0), lent, kept);
 }
 
 // A list kept from one edition, committed to another, whose bins hold the same.
@@ -197,26 +196,21 @@ fn kept_from(first: u32, second: u32) {
     new_bar(first, &mut lent, &mut kept);
     io::write_all(1, b"edition: ");
     let previewed = thread_on(bar_of(first), &lent, &mut indices, &mut records);
-    commit(
+    say_committed(commit(
         bar_of(second),
         &mut lent,
         &mut kept,
         previewed,
         &indices,
         &records,
-    );
+    ));
 }
 
 // The stock after a commit of no changes; the same where it is refused.
 fn gone_on(stock: TurnStock, lent: &mut [f64], kept: &mut [f64]) -> TurnStock {
     let stamp = stock.stamp;
     let none = ChangeList { count: 0, stamp };
-    let applied = changes::apply(stock, lent, kept, none, &[], &[]);
-    match applied {
-        Applied::Stock(after) => after,
-        Applied::Refused(_) => stock,
-        Applied::RefusedAt(_, _) => stock,
-    }
+    changes::apply(stock, lent, kept, none, &[], &[]).unwrap_or(stock)
 }
 
 // A list kept over a commit that changed no cell.
@@ -229,16 +223,14 @@ fn kept_over_commit() {
     io::write_all(1, b"commit: ");
     let previewed = thread_on(bar_of(2), &lent, &mut indices, &mut records);
     let after = gone_on(bar_of(2), &mut lent, &mut kept);
-    commit(after, &mut lent, &mut kept, previewed, &indices, &records);
+    say_committed(commit(after, &mut lent, &mut kept, previewed, &indices, &records));
 }
 
 // The stock after a ring; the same where it is refused.
 fn with_ring(stock: TurnStock, store: &mut [f64], ring: Ring) -> TurnStock {
-    let removed = rings::remove_ring(stock, store, ring);
-    match removed {
-        Removed::Stock(after, _) => after,
-        Removed::Refused(_) => stock,
-        Removed::RefusedAt(_, _) => stock,
+    match rings::remove_ring(stock, store, ring) {
+        Ok(removed) => removed.stock,
+        Err(_) => stock,
     }
 }
 
@@ -260,23 +252,7 @@ fn kept_over_ring(ring: Ring) {
     io::write_all(1, b"ring: ");
     let previewed = thread_on(grooved, &lent, &mut indices, &mut records);
     let after = with_ring(grooved, &mut store, ring);
-    commit(after, &mut lent, &mut kept, previewed, &indices, &records);
-}
-
-// The list that was previewed, committed to a rebuilt stock.
-fn commit_rebuilt(
-    rebuilt: Rebuilt,
-    lent: &mut [f64],
-    kept: &mut [f64],
-    previewed: Previewed,
-    indices: &[usize],
-    records: &[f64],
-) {
-    match rebuilt {
-        Rebuilt::Stock(stock) => commit(stock, lent, kept, previewed, indices, records),
-        Rebuilt::Refused(r) => say_no(r),
-        Rebuilt::RefusedAt(r, _) => say_no(r),
-    }
+    say_committed(commit(after, &mut lent, &mut kept, previewed, &indices, &records));
 }
 
 // A list kept over a rebuild of the same cells: the stamp is the same again.
@@ -299,25 +275,18 @@ fn kept_over_rebuild(edition: u32) {
         &mut store,
         &mut tests,
     );
-    commit_rebuilt(rebuilt, &mut lent, &mut kept, previewed, &indices, &records);
+    say_committed(commit_rebuilt(rebuilt, &mut lent, &mut kept, previewed, &indices, &records));
 }
 
 // Whether the most that may remain from 1 to 3 reaches just so far out.
 fn say_range(lent: &[f64], kept: &[f64], wanted: f64) {
     io::write_all(1, b"range: ");
-    let seen = blocks::range(bar(4.0), lent, kept, 1.0, 3.0);
-    match seen {
-        Seen::Radii(_, outer) => {
-            if outer == wanted {
-                io::write_all(1, b"yes\n");
-            } else {
-                io::write_all(1, b"no\n");
-            }
-        }
-        Seen::Nothing => {
+    match blocks::range(bar(4.0), lent, kept, 1.0, 3.0) {
+        Ok(Some(band)) => say_whether(band.outer == wanted),
+        Ok(None) => {
             io::write_all(1, b"nothing\n");
         }
-        Seen::Refused(r) => say_no(r),
+        Err(r) => say_no(r),
     }
 }
 
@@ -335,7 +304,7 @@ fn turned_down(lent: &mut [f64], kept: &mut [f64]) {
         &mut indices,
         &mut records,
     );
-    commit(bar_of(2), lent, kept, previewed, &indices, &records);
+    say_committed(commit(bar_of(2), lent, kept, previewed, &indices, &records));
 }
 
 // A range before and after a commit, which renews the kept numbers; and by those of before it.

@@ -17,56 +17,42 @@ struct Extent {
     after: usize,
 }
 
-// a without b; 0 where b is greater.
-pub fn less(a: usize, b: usize) -> usize {
-    if b < a { a - b } else { 0 }
-}
-
 fn extent_of(x: f64) -> Extent {
     let mut own = [0u8; 32];
     let n = put_millimetres(&mut own, 0, x);
     let before = text::part(text::part(&own, 0, 0), b'.', 0).len();
     Extent {
         before,
-        after: less(n, before),
+        after: n.saturating_sub(before),
     }
 }
 
 pub fn width_at(widths: &[usize], k: usize) -> usize {
-    if k < widths.len() { widths[k] } else { 0 }
+    widths.get(k).copied().unwrap_or(0)
 }
 
 // Makes a width at least w.
 pub fn widen(widths: &mut [usize], k: usize, w: usize) {
-    if k < widths.len() {
-        if widths[k] < w {
-            widths[k] = w;
-        }
+    if let Some(width) = widths.get_mut(k) {
+        *width = (*width).max(w);
     }
 }
 
 // Makes the columns wide enough for a row.
 pub fn widen_for(widths: &mut [usize], row: &[f64]) {
-    let mut c: usize = 0;
-    while c < COLUMNS {
-        if row.len() <= c {
-            return;
-        }
-        let e = extent_of(row[c]);
+    for (c, x) in row.iter().take(COLUMNS).enumerate() {
+        let e = extent_of(*x);
         widen(widths, 2 * c, e.before);
         widen(widths, 2 * c + 1, e.after);
-        c += 1;
     }
 }
 
 // Makes the columns wide enough for their heads.
 pub fn widen_for_heads(widths: &mut [usize], heads: &[u8]) {
-    let mut c: usize = 0;
-    while c < COLUMNS {
+    for c in 0..COLUMNS {
         let n = text::part(heads, b'\t', c).len();
         let after = width_at(widths, 2 * c + 1);
-        widen(widths, 2 * c, less(n, after));
-        c += 1;
+        widen(widths, 2 * c, n.saturating_sub(after));
     }
 }
 
@@ -75,10 +61,8 @@ pub fn put_spaces(out: &mut [u8], at: usize, k: usize) -> usize
     ensures { result ≤ length out.old }
 {
     let mut o = put_text(out, at, b"");
-    let mut i: usize = 0;
-    while i < k {
+    for _ in 0..k {
         o = put_text(out, o, b" ");
-        i += 1;
     }
     o
 }
@@ -89,9 +73,9 @@ fn put_number(out: &mut [u8], at: usize, before: usize, after: usize, x: f64) ->
 {
     let e = extent_of(x);
     let a = put_text(out, at, b"  ");
-    let b = put_spaces(out, a, less(before, e.before));
+    let b = put_spaces(out, a, before.saturating_sub(e.before));
     let c = put_millimetres(out, b, x);
-    put_spaces(out, c, less(after, e.after))
+    put_spaces(out, c, after.saturating_sub(e.after))
 }
 
 // Puts a row of numbers.
@@ -99,15 +83,10 @@ pub fn put_row(out: &mut [u8], at: usize, widths: &[usize], row: &[f64]) -> usiz
     ensures { result ≤ length out.old }
 {
     let mut o = put_text(out, at, b"");
-    let mut c: usize = 0;
-    while c < COLUMNS {
-        if row.len() <= c {
-            return o;
-        }
+    for (c, x) in row.iter().take(COLUMNS).enumerate() {
         let before = width_at(widths, 2 * c);
         let after = width_at(widths, 2 * c + 1);
-        o = put_number(out, o, before, after, row[c]);
-        c += 1;
+        o = put_number(out, o, before, after, *x);
     }
     o
 }
@@ -117,8 +96,9 @@ fn put_head(out: &mut [u8], at: usize, before: usize, after: usize, head: &[u8])
     ensures { result ≤ length out.old }
 {
     let a = put_text(out, at, b"  ");
-    let b = put_spaces(out, a, less(before, less(head.len(), after)));
-    let c = put_spaces(out, b, less(after, head.len()));
+    let n = head.len();
+    let b = put_spaces(out, a, before.saturating_sub(n.saturating_sub(after)));
+    let c = put_spaces(out, b, after.saturating_sub(n));
     put_text(out, c, head)
 }
 
@@ -128,15 +108,10 @@ pub fn put_heads(out: &mut [u8], at: usize, widths: &[usize], heads: &[u8]) -> u
 {
     let mut o = put_text(out, at, b"");
     let n = text::part_count(heads, b'\t');
-    let mut c: usize = 0;
-    while c < COLUMNS {
-        if n <= c {
-            return o;
-        }
+    for c in 0..n.min(COLUMNS) {
         let before = width_at(widths, 2 * c);
         let after = width_at(widths, 2 * c + 1);
         o = put_head(out, o, before, after, text::part(heads, b'\t', c));
-        c += 1;
     }
     o
 }
@@ -145,15 +120,9 @@ pub fn put_heads(out: &mut [u8], at: usize, widths: &[usize], heads: &[u8]) -> u
 pub fn trimmed(out: &[u8], at: usize) -> usize
     ensures { result ≤ at }
 {
-    if out.len() < at {
+    let Some(front) = out.get(..at) else {
         return at;
-    }
-    let mut o = at;
-    while 0 < o {
-        if out[o - 1] != b' ' {
-            return o;
-        }
-        o -= 1;
-    }
-    o
+    };
+    let last = front.iter().rposition(|b| *b != b' ');
+    last.map_or(0, |i| i + 1)
 }

@@ -16,11 +16,7 @@ const LINES: usize = 1024;
 
 // The first n fours of numbers, all where there are fewer.
 fn first_fours(xs: &[f64], n: usize) -> &[f64] {
-    if xs.len() / 4 < n {
-        return xs;
-    }
-    let end = 4 * n;
-    &xs[..end]
+    xs.get(..n.saturating_mul(4)).unwrap_or(xs)
 }
 
 // Puts line k of the page behind what is gathered; past the last line, nothing.
@@ -55,12 +51,10 @@ fn gather_page(
     page::bin_widths(&mut bins, spec, cells);
     page::ring_widths(&mut removed, rings);
     let mut out = streams::fresh();
-    let mut k: usize = 0;
-    while k < LINES {
+    for k in 0..LINES {
         out = put_line(
             rt, out, gathered, &bins, &removed, spec, cells, rings, generation, k,
         );
-        k += 1;
     }
     out
 }

@@ -5,9 +5,9 @@
 ghost use Rattle.std.specs.Prelude.{◌≡◌, ◌≤◌, length};
 
 use crate::column::{
-    less, put_heads, put_row, put_spaces, trimmed, widen, widen_for, widen_for_heads, width_at,
+    put_heads, put_row, put_spaces, trimmed, widen, widen_for, widen_for_heads, width_at,
 };
-use stock::{Binned, RadiusBounds, TurnStockSpec, ZRange};
+use stock::{RadiusBounds, TurnStockSpec, ZRange};
 use text::{put_count, put_millimetres, put_text};
 
 // Two widths for each of six columns, and one for what is certainly metal.
@@ -27,11 +27,7 @@ const INDEX_END: usize = 4;
 
 // The z range of bin i.
 fn range_of(spec: TurnStockSpec, i: usize) -> ZRange {
-    let binned = stock::bin(spec, i);
-    match binned {
-        Binned::At(z) => z,
-        Binned::Refused(_) => ZRange { za: 0.0, zb: 0.0 },
-    }
+    stock::bin(spec, i).unwrap_or(ZRange { za: 0.0, zb: 0.0 })
 }
 
 // The six numbers of bin i.
@@ -111,11 +107,9 @@ fn metal_width(cells: &[f64], i: usize) -> usize {
 // The widths for all bins.
 pub fn bin_widths(widths: &mut [usize], spec: TurnStockSpec, cells: &[f64]) {
     let n = cells.len() / 4;
-    let mut i: usize = 0;
-    while i < n {
+    for i in 0..n {
         widen_for(widths, &bin_row(spec, cells, i));
         widen(widths, METAL, metal_width(cells, i));
-        i += 1;
     }
     widen_for_heads(widths, &BIN_HEADS);
     widen(widths, METAL, METAL_HEAD);
@@ -124,10 +118,8 @@ pub fn bin_widths(widths: &mut [usize], spec: TurnStockSpec, cells: &[f64]) {
 // The widths for all rings.
 pub fn ring_widths(widths: &mut [usize], rings: &[f64]) {
     let n = rings.len() / 4;
-    let mut i: usize = 0;
-    while i < n {
+    for i in 0..n {
         widen_for(widths, &ring_row(rings, i));
-        i += 1;
     }
     widen_for_heads(widths, &RING_HEADS);
 }
@@ -138,7 +130,7 @@ fn put_index(out: &mut [u8], i: usize) -> usize
 {
     let mut own = [0u8; 32];
     let n = put_count(&mut own, 0, i as u64);
-    let a = put_spaces(out, 0, less(INDEX_END, n));
+    let a = put_spaces(out, 0, INDEX_END.saturating_sub(n));
     put_count(out, a, i as u64)
 }
 
@@ -149,7 +141,7 @@ fn bins_head(out: &mut [u8], widths: &[usize]) -> usize
     let a = put_text(out, 0, b" bin");
     let b = put_heads(out, a, widths, &BIN_HEADS);
     let c = put_text(out, b, b"  certainly metal");
-    let d = put_spaces(out, c, less(width_at(widths, METAL), METAL_HEAD));
+    let d = put_spaces(out, c, width_at(widths, METAL).saturating_sub(METAL_HEAD));
     put_text(out, d, b"  uncertain\n")
 }
 
@@ -165,7 +157,7 @@ fn put_words(
 {
     let a = put_text(out, at, b"  ");
     let b = put_metal(out, a, outer, inner);
-    let c = put_spaces(out, b, less(width, less(b, a)));
+    let c = put_spaces(out, b, width.saturating_sub(b.saturating_sub(a)));
     let d = put_text(out, c, b"  ");
     put_doubt(out, d, outer, inner)
 }

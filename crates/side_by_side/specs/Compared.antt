@@ -2,7 +2,6 @@
 use Rattle.std.specs.Prelude.{ℕ, zero, suc, ◌/◌, max, Bool, true, ◌&&◌, List, [], ◌∷◌, ◌++◌, length, get_or, Float}
 use Rattle.std.specs.Float.Ieee.{eq}
 use Rattle.refusals.specs.Limits.{piece_limit}
-use Rattle.refusals.specs.Number.{reason_of}
 use Rattle.refusals.specs.Paper.{Paper, answers, refuses, demand, onward}
 use Rattle.floats.specs.Pick.{pick}
 use Rattle.stock.specs.declared.TurnStockSpec.{TurnStockSpec}
@@ -13,8 +12,6 @@ use Rattle.rings.specs.Ring.{kept, in_hand, left}
 use Rattle.rings.specs.Remove.{lent_rings, leaves}
 use Rattle.text.specs.Lines.{ring_line}
 use Rattle.stock_lines.specs.Form.{written_form, kept_cell_line}
-use Rattle.side_by_side.specs.declared.Compared.{Compared}
-use Rattle.side_by_side.specs.declared.Compared.TheVariants.{Chunks, Refused}
 
 -- the cells and the rings of a stock
 pub record Side : Type 0 where
@@ -97,11 +94,6 @@ compared_of s a t b =
     demand (same_bar s t) 24
     (demand (both_in_hand a b) 11
     (answers (chunks_of a b)))
-
--- what the answer of `compare` says, case by case
-abbrev pub compared_paper : Compared → Paper ℕ
-compared_paper (Chunks n) = answers n
-compared_paper (Refused c) = refuses (reason_of c)
 
 -- how many chunks
 unfoldable pub chunk_count : Paper (List (List ℕ)) → Paper ℕ

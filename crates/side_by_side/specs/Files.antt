@@ -2,18 +2,19 @@
 use Rattle.std.specs.Prelude.{ℕ, ◌*◌, List, take, Float}
 use Rattle.refusals.specs.Paper.{Paper, answers, refuses}
 use Rattle.lines.specs.File.{joined}
-use Rattle.stock_file.specs.Read.{Stocked, file_in, read_of}
+use Rattle.stock_file.specs.declared.Kept.{Kept}
+use Rattle.stock_file.specs.Read.{file_in, read_of}
 use Rattle.side_by_side.specs.Compared.{Side, side, compared_of}
 use Rattle.side_by_side.specs.Refused.{refused_with, reason_numbers, file_refused}
 
 -- a file as it was read: what it tells, and the lent room
 pub record Told : Type 0 where
-  pub tells : Paper Stocked
+  pub tells : Paper Kept
   pub cells : List Float
   pub rings : List Float
 
 -- the stock's part of the room
-abbrev pub side_of : Stocked → Told → Side
+abbrev pub side_of : Kept → Told → Side
 side_of k f = side (take (4 * k.cells) f.cells) f.rings k.stock.rings
 
 -- the chunks joined, or the line of the refusal
@@ -22,11 +23,11 @@ compared_text (answers l) = joined l
 compared_text (refuses r) = refused_with (reason_numbers r)
 
 -- the second file, where the first tells the stock k
-abbrev pub second_text : Stocked → Told → Paper Stocked → Told → List ℕ
+abbrev pub second_text : Kept → Told → Paper Kept → Told → List ℕ
 second_text k f (refuses r) g = file_refused 2 (refuses r)
 second_text k f (answers j) g = compared_text (compared_of k.stock.spec (side_of k f) j.stock.spec (side_of j g))
 
-abbrev pub first_text : Paper Stocked → Told → Told → List ℕ
+abbrev pub first_text : Paper Kept → Told → Told → List ℕ
 first_text (refuses r) f g = file_refused 1 (refuses r)
 first_text (answers k) f g = second_text k f g.tells g
 

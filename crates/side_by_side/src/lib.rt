@@ -13,24 +13,18 @@ mod refused;
 mod spelled;
 
 ghost use Rattle.std.specs.Prelude.{◌≡◌, min, max, ◌/◌, ◌*◌, ◌+◌, ◌≤◌, ◌&&◌, length};
+ghost use Rattle.refusals.specs.Number.{paper_of};
 ghost use Rattle.text.specs.Wrote.{Wrote};
 ghost use Rattle.rings.specs.Ring.{kept, in_hand};
 ghost use Rattle.rings.specs.Remove.{lent_rings, leaves};
 ghost use Rattle.refusals.specs.Limits.{piece_limit};
-ghost use Rattle.side_by_side.specs.Compared.{side, same_bar, each_in_hand, both_in_hand, pieces_text, bin_count, compared_of, compared_paper, chunk_count, chunk_of};
+ghost use Rattle.side_by_side.specs.Compared.{side, same_bar, each_in_hand, both_in_hand, pieces_text, bin_count, compared_of, chunk_count, chunk_of};
 
 use refusals::Refusal;
 pub use refused::{file_refused, pair_refused};
-use rings::{Left, Ring};
+use rings::Ring;
 pub use spelled::CHUNK_ROOM;
 use stock::TurnStockSpec;
-
-// How many chunks the text of two stocks has.
-#[derive(Clone, Copy)]
-pub enum Compared {
-    Chunks(usize),
-    Refused(Refusal),
-}
 
 // The five numbers of two specs are equal.
 fn same_bar(a: TurnStockSpec, b: TurnStockSpec) -> bool
@@ -62,11 +56,7 @@ fn in_hand(rings: &[f64], count: usize, ring: Ring) -> bool
     ensures { result ≡ in_hand piece_limit (kept ring) (lent_rings rings.now count) }
 {
     let mut pieces = [0.0f64; 1024];
-    let left = rings::left_of(rings, count, ring, &mut pieces);
-    match left {
-        Left::Pieces(_) => true,
-        Left::Refused(_) => false,
-    }
+    rings::left_of(rings, count, ring, &mut pieces).is_ok()
 }
 
 // The same of each of the other rings.
@@ -75,10 +65,8 @@ fn each_in_hand(rings: &[f64], count: usize, others: &[f64], many: usize) -> boo
 {
     let n = lent_of(others, many);
     let mut ok = true;
-    let mut i: usize = 0;
-    while i < n {
+    for i in 0..n {
         ok = ok & in_hand(rings, count, spelled::ring_at(others, i));
-        i += 1;
     }
     ok
 }
@@ -100,17 +88,17 @@ pub fn compare(
     cells2: &[f64],
     rings2: &[f64],
     count2: usize,
-) -> Compared
-    ensures { compared_paper result ≡ chunk_count (compared_of spec1 (side cells1.now rings1.now count1) spec2 (side cells2.now rings2.now count2)) }
+) -> Result<usize, Refusal>
+    ensures { paper_of result ≡ chunk_count (compared_of spec1 (side cells1.now rings1.now count1) spec2 (side cells2.now rings2.now count2)) }
 {
     if !same_bar(spec1, spec2) {
-        return Compared::Refused(Refusal::SpecsDiffer);
+        return Err(Refusal::SpecsDiffer);
     }
     if !both_in_hand(rings1, count1, rings2, count2) {
-        return Compared::Refused(Refusal::RingsOverRoom);
+        return Err(Refusal::RingsOverRoom);
     }
     let n = bin_count(cells1, cells2);
-    Compared::Chunks(n + (lent_of(rings1, count1) + lent_of(rings2, count2)))
+    Ok(n + (lent_of(rings1, count1) + lent_of(rings2, count2)))
 }
 
 // What the lent rings leave of the ring, a line for each piece.
@@ -120,8 +108,8 @@ fn put_left(out: &mut [u8; CHUNK_ROOM], rings: &[f64], count: usize, ring: Ring)
     let mut pieces = [0.0f64; 1024];
     let left = rings::left_of(rings, count, ring, &mut pieces);
     match left {
-        Left::Pieces(n) => spelled::put_rings(out, &pieces, n),
-        Left::Refused(_) => 0,
+        Ok(n) => spelled::put_rings(out, &pieces, n),
+        Err(_) => 0,
     }
 }
 

@@ -30,14 +30,9 @@ fn put_bytes(out: &mut [u8; CHUNK_ROOM], at: usize, s: &[u8]) -> usize
     requires { at + length s.now ≤ 18688 }
     ensures { Wrote out.old at s.now out.new result }
 {
-    let mut j = 0;
-    let mut o = at;
-    while j < s.len() {
-        out[o] = s[j];
-        o += 1;
-        j += 1;
-    }
-    o
+    let end = at + s.len();
+    out[at..end].copy_from_slice(s);
+    end
 }
 
 // Puts a ring's line.
@@ -56,10 +51,8 @@ pub fn put_rings(out: &mut [u8; CHUNK_ROOM], rings: &[f64], n: usize) -> usize
     ensures { Wrote out.old 0 (ring_texts (rings_of n rings.now)) out.new result }
 {
     let mut e: usize = 0;
-    let mut i: usize = 0;
-    while i < n {
+    for i in 0..n {
         e = put_ring(out, e, ring_at(rings, i));
-        i += 1;
     }
     e
 }

@@ -4,20 +4,21 @@ use mathlib.Core.Path.{◌≡◌, refl, sym, ap, ◌∙◌, subst}
 use mathlib.Core.List.{List, []}
 use lib.ListN.{length, take}
 use lib.Ieee.{Float}
+use Rattle.std.specs.Prelude.{Result, Err, Ok}
+use Rattle.refusals.specs.declared.Refused.{Refused}
 use Rattle.refusals.specs.declared.Refusal.TheVariants.{FileMalformed}
+use Rattle.refusals.specs.Number.{placed_of, reason_in, refused_at}
 use Rattle.refusals.specs.Limits.{cell_limit, ring_limit}
 use Rattle.refusals.specs.Paper.{Paper, Reason, answers, refuses, demand, demand_at, onward}
 use Rattle.floats.specs.Pick.{pick}
 use Rattle.text.specs.Parts.{parted_at}
-use Rattle.stock.specs.declared.TurnStock.{TurnStock}
 use Rattle.stock.specs.declared.TurnStockSpec.{TurnStockSpec}
 use Rattle.stock.proofs.Count.{demanded, same_answer, no_answer}
 use Rattle.streams.specs.declared.Out.{Out}
 use Rattle.lines.specs.File.{ended, over_pieces, joined}
 use Rattle.stock_lines.specs.Reading.{refusing}
 use Rattle.stock_file.specs.declared.Kept.{Kept}
-use Rattle.stock_file.specs.declared.Kept.TheVariants as kept
-use Rattle.stock_file.specs.Read.{Stocked, kept_paper, told_as, read_of, file_in}
+use Rattle.stock_file.specs.Read.{told_as, read_of, file_in}
 use Rattle.stock_file.specs.Write.{lines_to}
 use Rattle.stock_streams.specs.Read.{StockOfSome}
 use Rattle.stock_streams.specs.Write.{AllPut}
@@ -55,58 +56,55 @@ pair-refused (refuses s) q r out buf e f a = subst (λ (x : Paper ℕ). AllPut (
 -- ---- a file
 
 -- one that cannot be opened has no bytes: its first line is missing
-pub no-file : (cs rs : List Float) → StockOfSome cell_limit (kept.RefusedAt FileMalformed 1) cs cs rs rs
+pub no-file : (r : Refused) (cs rs : List Float) → r ≡ refused_at FileMalformed 1 → StockOfSome cell_limit (Err r) cs cs rs rs
 unfolding parted_at over_pieces ended refusing told_as demand_at pick
-no-file cs rs = record { bytes = []; told = refl; cells = refl; rings = refl }
+no-file r cs rs e = record { bytes = []; told = ap (λ (x : Refused). refuses (reason_in x)) e; cells = refl; rings = refl }
 
 -- one that was read in a room of that length
-module _ {r : Kept} {cs cs' rs rs' : List Float} (hc : length cs ≡ 4 * cell_limit) (hr : length rs ≡ 4 * ring_limit) (s : StockOfSome cell_limit r cs cs' rs rs') where
+module _ {r : Result Kept Refused} {cs cs' rs rs' : List Float} (hc : length cs ≡ 4 * cell_limit) (hr : length rs ≡ 4 * ring_limit) (s : StockOfSome cell_limit r cs cs' rs rs') where
   file : SomeFile
   file = record { bytes = s.bytes; cells = cs; rings = rs; cell_room = hc; ring_room = hr }
 
-  abbrev told-as : Paper Stocked → List Float → List Float → Told
+  abbrev told-as : Paper Kept → List Float → List Float → Told
   told-as p xs ys = record { tells = p; cells = xs; rings = ys }
 
   -- it is refused
-  module _ (x : Reason) (e : kept_paper r ≡ refuses x) (out : Out) (buf : List ℕ) where
-    refused_as : (n : ℕ) → AllPut (file_refused n (kept_paper r)) out buf → AllPut (file_refused n (refuses x)) out buf
-    refused_as n a = subst (λ (p : Paper Stocked). AllPut (file_refused n p) out buf) e a
+  module _ (x : Reason) (e : placed_of r ≡ refuses x) (out : Out) (buf : List ℕ) where
+    refused_as : (n : ℕ) → AllPut (file_refused n (placed_of r)) out buf → AllPut (file_refused n (refuses x)) out buf
+    refused_as n a = subst (λ (p : Paper Kept). AllPut (file_refused n p) out buf) e a
 
-    pub second-refused : (k : Stocked) (xs ys : List Float) → AllPut (file_refused 2 (kept_paper r)) out buf → SecondPut k xs ys out buf
+    pub second-refused : (k : Kept) (xs ys : List Float) → AllPut (file_refused 2 (placed_of r)) out buf → SecondPut k xs ys out buf
     unfolding file
     second-refused k xs ys a = record {
       second = file;
-      put = subst (λ (p : Paper Stocked). AllPut (second_text k (told-as (answers k) xs ys) p (told_by file)) out buf) (sym e ∙ s.told) (refused_as 2 a);
+      put = subst (λ (p : Paper Kept). AllPut (second_text k (told-as (answers k) xs ys) p (told_by file)) out buf) (sym e ∙ s.told) (refused_as 2 a);
     }
 
-    pub first-refused : AllPut (file_refused 1 (kept_paper r)) out buf → FilesPut out buf
+    pub first-refused : AllPut (file_refused 1 (placed_of r)) out buf → FilesPut out buf
     unfolding file
     first-refused a = record {
       first = file;
       second = file;
-      put = subst (λ (p : Paper Stocked). AllPut (first_text p (told_by file) (told_by file)) out buf) (sym e ∙ s.told) (refused_as 1 a);
+      put = subst (λ (p : Paper Kept). AllPut (first_text p (told_by file) (told_by file)) out buf) (sym e ∙ s.told) (refused_as 1 a);
     }
 
   -- it tells a stock
-  module _ (stock : TurnStock) (n : ℕ) (e : r ≡ kept.Stock stock n) (out : Out) (buf : List ℕ) where
-    abbrev here : Stocked
-    here = record { stock = stock; cells = n }
-
+  module _ (here : Kept) (e : r ≡ Ok here) (out : Out) (buf : List ℕ) where
     tells : answers here ≡ read_of cell_limit cs rs s.bytes
-    tells = sym (ap kept_paper e) ∙ s.told
+    tells = sym (ap placed_of e) ∙ s.told
 
-    pub second-stock : (k : Stocked) (xs ys a b : List Float) → a ≡ take (4 * k.cells) xs → b ≡ take (4 * n) cs'
-        → AllPut (compared_text (compared_of k.stock.spec (side a ys k.stock.rings) stock.spec (side b rs' stock.rings))) out buf → SecondPut k xs ys out buf
+    pub second-stock : (k : Kept) (xs ys a b : List Float) → a ≡ take (4 * k.cells) xs → b ≡ take (4 * here.cells) cs'
+        → AllPut (compared_text (compared_of k.stock.spec (side a ys k.stock.rings) here.stock.spec (side b rs' here.stock.rings))) out buf → SecondPut k xs ys out buf
     unfolding file
     second-stock k xs ys a b f g p =
-        let text : List Float → List Float → List Float → List ℕ = λ u v w. compared_text (compared_of k.stock.spec (side u ys k.stock.rings) stock.spec (side v w stock.rings)) in
-        let t : text a b rs' ≡ text (take (4 * k.cells) xs) (take (4 * n) (file_in cs rs s.bytes).cells) (file_in cs rs s.bytes).rings =
+        let text : List Float → List Float → List Float → List ℕ = λ u v w. compared_text (compared_of k.stock.spec (side u ys k.stock.rings) here.stock.spec (side v w here.stock.rings)) in
+        let t : text a b rs' ≡ text (take (4 * k.cells) xs) (take (4 * here.cells) (file_in cs rs s.bytes).cells) (file_in cs rs s.bytes).rings =
         ap (λ (u : List Float). text u b rs') f
-        ∙ ap (λ (v : List Float). text (take (4 * k.cells) xs) v rs') (g ∙ ap (take (4 * n)) s.cells)
-        ∙ ap (text (take (4 * k.cells) xs) (take (4 * n) (file_in cs rs s.bytes).cells)) s.rings in
+        ∙ ap (λ (v : List Float). text (take (4 * k.cells) xs) v rs') (g ∙ ap (take (4 * here.cells)) s.cells)
+        ∙ ap (text (take (4 * k.cells) xs) (take (4 * here.cells) (file_in cs rs s.bytes).cells)) s.rings in
         record {
           second = file;
-          put = subst (λ (q : Paper Stocked). AllPut (second_text k (told-as (answers k) xs ys) q (told_by file)) out buf) tells (subst (λ (x : List ℕ). AllPut x out buf) t p);
+          put = subst (λ (q : Paper Kept). AllPut (second_text k (told-as (answers k) xs ys) q (told_by file)) out buf) tells (subst (λ (x : List ℕ). AllPut x out buf) t p);
         }
 
     pub first-stock : SecondPut here cs' rs' out buf → FilesPut out buf
@@ -114,11 +112,11 @@ module _ {r : Kept} {cs cs' rs rs' : List Float} (hc : length cs ≡ 4 * cell_li
     first-stock p =
         let g = told_by p.second in
         let t : told-as (answers here) cs' rs' ≡ told_by file =
-        ap (λ (q : Paper Stocked). told-as q cs' rs') tells
+        ap (λ (q : Paper Kept). told-as q cs' rs') tells
         ∙ ap (λ (x : List Float). told-as (read_of cell_limit cs rs s.bytes) x rs') s.cells
         ∙ ap (told-as (read_of cell_limit cs rs s.bytes) (file_in cs rs s.bytes).cells) s.rings in
         record {
           first = file;
           second = p.second;
-          put = subst (λ (q : Paper Stocked). AllPut (first_text q (told_by file) g) out buf) tells (subst (λ (f : Told). AllPut (second_text here f g.tells g) out buf) t p.put);
+          put = subst (λ (q : Paper Kept). AllPut (first_text q (told_by file) g) out buf) tells (subst (λ (f : Told). AllPut (second_text here f g.tells g) out buf) t p.put);
         }

@@ -3,7 +3,7 @@ use Rattle.std.specs.Prelude.{◌≡◌, List, ℕ, ◌*◌, length, Float}
 use Rattle.refusals.specs.Limits.{cell_limit, ring_limit}
 use Rattle.refusals.specs.Paper.{answers}
 use Rattle.streams.specs.declared.Out.{Out}
-use Rattle.stock_file.specs.Read.{Stocked}
+use Rattle.stock_file.specs.declared.Kept.{Kept}
 use Rattle.stock_streams.specs.Write.{AllPut}
 use Rattle.side_by_side.specs.Files.{Told, second_text, files_text, told_of}
 
@@ -20,7 +20,7 @@ abbrev pub told_by : SomeFile → Told
 told_by f = told_of cell_limit f.cells f.rings f.bytes
 
 -- the first file told the stock k, which stands in a room: what the second makes of it
-pub record SecondPut (k : Stocked) (cs rs : List Float) (out : Out) (buf : List ℕ) : Type 0 where
+pub record SecondPut (k : Kept) (cs rs : List Float) (out : Out) (buf : List ℕ) : Type 0 where
   pub second : SomeFile
   pub put : AllPut (second_text k (record { tells = answers k; cells = cs; rings = rs }) (told_by second).tells (told_by second)) out buf
 

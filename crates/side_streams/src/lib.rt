@@ -7,18 +7,18 @@
 #![tactic(auto)]
 
 ghost use Rattle.std.specs.Prelude.{◌≡◌, ◌*◌, take};
+ghost use Rattle.refusals.specs.Number.{paper_of, placed_of};
 ghost use Rattle.refusals.specs.Limits.{cell_limit};
-ghost use Rattle.stock_file.specs.Read.{kept_paper};
 ghost use Rattle.stock_file.specs.Write.{lines_to};
 ghost use Rattle.stock_streams.specs.Read.{ReadsStock};
 ghost use Rattle.stock_streams.specs.Write.{AllPut};
-ghost use Rattle.side_by_side.specs.Compared.{side, chunk_of, compared_of, compared_paper};
+ghost use Rattle.side_by_side.specs.Compared.{side, chunk_of, compared_of};
 ghost use Rattle.side_by_side.specs.Refused.{file_refused, pair_refused};
 ghost use Rattle.side_by_side.specs.Files.{compared_text};
 ghost use Rattle.side_streams.specs.Put.{SecondPut, FilesPut};
 
-use refusals::{CELL_LIMIT, RING_LIMIT, Refusal};
-use side_by_side::{CHUNK_ROOM, Compared};
+use refusals::{CELL_LIMIT, RING_LIMIT, Refusal, Refused};
+use side_by_side::CHUNK_ROOM;
 use std::io::Write;
 use std::rt::{Clock, Files};
 use stock::TurnStock;
@@ -39,7 +39,7 @@ fn read_named(
     path: &[u8],
     cells: &mut [f64],
     rings: &mut [f64],
-) -> Kept
+) -> Result<Kept, Refused>
     ensures { ReadsStock cell_limit result cells rings }
 {
     let opened = streams::open(rt, path);
@@ -49,7 +49,7 @@ fn read_named(
         }
         Err(e) => {
             streams::fail_at(rt, path, e);
-            Kept::RefusedAt(Refusal::FileMalformed, 1)
+            Err(Refused::at(Refusal::FileMalformed, 1))
         }
     }
 }
@@ -73,9 +73,9 @@ fn gather_file(
     to: &mut impl Write,
     gathered: &mut [u8; GATHERED],
     file: u64,
-    kept: Kept,
+    kept: Result<Kept, Refused>,
 ) -> Out
-    ensures { AllPut (file_refused file (kept_paper kept)) result gathered.new }
+    ensures { AllPut (file_refused file (placed_of kept)) result gathered.new }
 {
     let mut line = [0u8; LINE_ROOM];
     let n = side_by_side::file_refused(&mut line, file, kept);
@@ -87,9 +87,9 @@ fn gather_refused(
     rt: &(impl Eprint + Clock),
     to: &mut impl Write,
     gathered: &mut [u8; GATHERED],
-    compared: Compared,
+    compared: Result<usize, Refusal>,
 ) -> Out
-    ensures { AllPut (pair_refused (compared_paper compared)) result gathered.new }
+    ensures { AllPut (pair_refused (paper_of compared)) result gathered.new }
 {
     let mut line = [0u8; LINE_ROOM];
     let n = side_by_side::pair_refused(&mut line, compared);
@@ -114,11 +114,9 @@ fn gather_chunks(
 {
     let mut part = [0u8; CHUNK_ROOM];
     let mut out = streams::fresh();
-    let mut c: usize = 0;
-    while c < chunks {
+    for c in 0..chunks {
         let n = side_by_side::chunk(&mut part, cells1, rings1, count1, cells2, rings2, count2, c);
         out = streams::put(rt, to, out, gathered, text::front(&part, n));
-        c += 1;
     }
     out
 }
@@ -151,45 +149,43 @@ fn gather_pair(
         k,
     );
     match compared {
-        Compared::Chunks(chunks) => {
+        Ok(chunks) => {
             gather_chunks(
                 rt, to, gathered, chunks, cells1, rings1, m, cells2, rings2, k,
             )
         }
-        Compared::Refused(_) => gather_refused(rt, to, gathered, compared),
+        Err(_) => gather_refused(rt, to, gathered, compared),
     }
 }
 
-// Gathers what a second file makes of a stock of n cells, which the first told.
+// Gathers what a second file makes of the stock that the first told.
 fn gather_second(
     rt: &(impl Files + Eprint + Clock),
     to: &mut impl Write,
     gathered: &mut [u8; GATHERED],
-    stock: TurnStock,
-    n: usize,
+    first: Kept,
     cells: &[f64],
     rings: &[f64],
     second: &[u8],
 ) -> Out
-    ensures { SecondPut (record { stock = stock; cells = n }) cells.now rings.now result gathered.new }
+    ensures { SecondPut first cells.now rings.now result gathered.new }
 {
     let mut cells2 = [0.0f64; CELL_NUMBERS];
     let mut rings2 = [0.0f64; RING_NUMBERS];
     let kept = read_named(rt, second, &mut cells2, &mut rings2);
     match kept {
-        Kept::Stock(other, m) => gather_pair(
+        Ok(other) => gather_pair(
             rt,
             to,
             gathered,
-            stock,
-            first_cells(cells, n),
+            first.stock,
+            first_cells(cells, first.cells),
             rings,
-            other,
-            first_cells(&cells2, m),
+            other.stock,
+            first_cells(&cells2, other.cells),
             &rings2,
         ),
-        Kept::Refused(_) => gather_file(rt, to, gathered, 2, kept),
-        Kept::RefusedAt(_, _) => gather_file(rt, to, gathered, 2, kept),
+        Err(_) => gather_file(rt, to, gathered, 2, kept),
     }
 }
 
@@ -207,9 +203,8 @@ fn gather_files(
     let mut rings = [0.0f64; RING_NUMBERS];
     let kept = read_named(rt, first, &mut cells, &mut rings);
     match kept {
-        Kept::Stock(stock, n) => gather_second(rt, to, gathered, stock, n, &cells, &rings, second),
-        Kept::Refused(_) => gather_file(rt, to, gathered, 1, kept),
-        Kept::RefusedAt(_, _) => gather_file(rt, to, gathered, 1, kept),
+        Ok(stock) => gather_second(rt, to, gathered, stock, &cells, &rings, second),
+        Err(_) => gather_file(rt, to, gathered, 1, kept),
     }
 }
 

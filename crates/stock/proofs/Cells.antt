@@ -1,14 +1,14 @@
 -- What is read of a list of cells and written into one. Assumes nothing.
-use Rattle.std.proofs.Common.{◌≡◌, ℕ, zero, suc, ◌+◌, ◌-◌, ◌*◌, ◌/◌, ◌<◌, ◌≤◌, Bool, true, false, ◌&&◌, ltb, List, [], ◌∷◌, ◌++◌, length, get_or, take, drop, sym, refl, ap, ◌∙◌, subst, le_trans, le_of_eq, add-one, arith, length-append, le-ltb, lt-ltb}
+use Rattle.std.proofs.Common.{◌≡◌, ℕ, zero, suc, ◌+◌, ◌*◌, ◌/◌, ◌<◌, ◌≤◌, ◌&&◌, List, length, sym, refl, ap, ◌∙◌, add-one, arith, length-append, le-ltb, lt-ltb}
 use lib.ListN.{get_or-eq_default}
-use lib.Seq.{sets, sets-eq}
+use lib.Seq.{sets}
 use lib.Ieee.{Float, nan}
 use Rattle.refusals.specs.Lent.{over}
 use Rattle.refusals.proofs.Written.{length_over, over-more}
 use Rattle.floats.specs.Pick.{pick_true, pick-false}
 use Rattle.stock.specs.declared.TurnStockSpec.{TurnStockSpec}
 use Rattle.stock.specs.declared.TurnCell.{TurnCell}
-use Rattle.stock.specs.Cell.{number_at, cell_from, cell_at, cell_of_none, four_of, put_cell, cell_fits, fit_to, cells_like}
+use Rattle.stock.specs.Cell.{cell_from, cell_at, cell_of_none, four_of, put_cell, cell_fits, fit_to, cells_like}
 
 -- past the end of a list there is no cell
 pub no_cell : (xs : List Float) (at : ℕ) → length xs ≤ at → cell_from xs at ≡ cell_of_none

@@ -1,7 +1,6 @@
 -- What is known of a spec that is not refused. Assumes nothing.
-use Rattle.std.proofs.Common.{◌≡◌, ℕ, zero, suc, ◌+◌, ◌*◌, ◌<◌, ◌≤◌, Bool, true, false, not, ◌&&◌, eqb, leb, List, length, sym, refl, ap, ◌∙◌, subst, arith, eqb-true, leb-true}
+use Rattle.std.proofs.Common.{◌≡◌, ℕ, zero, suc, ◌*◌, ◌<◌, ◌≤◌, Bool, true, false, not, ◌&&◌, eqb, leb, List, length, refl, subst, arith, eqb-true, leb-true, Option, None, Some}
 use mathlib.Core.Bool.{false≢true}
-use mathlib.Core.Option.{Option, none, some}
 use lib.Ieee.{Float, lt, le}
 use Rattle.refusals.specs.Paper.{Paper, Reason, answers, refuses, only, at, demand, demand_at, demand_none, onward, onward-answers}
 use Rattle.refusals.specs.Limits.{cell_limit}
@@ -27,10 +26,10 @@ demanded true n p a h = (refl, h)
 demanded false n p a h = absurd (no_answer (only n) a h)
 
 -- so of a place that is not found
-pub none-demanded : {A : Type 0} (o : Option ℕ) (n : ℕ) (p : Paper A) (a : A) → demand_none o n p ≡ answers a → (o ≡ none) × (p ≡ answers a)
+pub none-demanded : {A : Type 0} (o : Option ℕ) (n : ℕ) (p : Paper A) (a : A) → demand_none o n p ≡ answers a → (o ≡ None) × (p ≡ answers a)
 unfolding demand_none
-none-demanded none n p a h = (refl, h)
-none-demanded (some k) n p a h = absurd (no_answer (at n k) a h)
+none-demanded None n p a h = (refl, h)
+none-demanded (Some k) n p a h = absurd (no_answer (at n k) a h)
 
 -- and of one test of a list
 pub demanded_at : {A : Type 0} (t : Bool) (n k : ℕ) (p : Paper A) (a : A) → demand_at t n k p ≡ answers a → (t ≡ true) × (p ≡ answers a)
@@ -53,7 +52,7 @@ pub record Checked (spec : TurnStockSpec) (n : ℕ) : Type 0 where
   pub some-cells : 0 < n
   pub few : n ≤ cell_limit
   pub most : n ≤ spec.max_cells
-  pub whole : whole_up (quotient (clean_spec spec)) cell_limit ≡ some n
+  pub whole : whole_up (quotient (clean_spec spec)) cell_limit ≡ Some n
 
 pub checked : (spec : TurnStockSpec) (n : ℕ) → cells_of spec ≡ answers n → Checked spec n
 unfolding cells_of clean_spec
@@ -63,8 +62,8 @@ checked spec n h =
     go d.0 (whole_up (quotient s) cell_limit) refl d.1
   where
     go : spec_good (clean_spec spec) ≡ true → (o : Option ℕ) → whole_up (quotient (clean_spec spec)) cell_limit ≡ o → counted spec.max_cells o ≡ answers n → Checked spec n
-    go g none e k = absurd (no_answer (only 2) n k)
-    go g (some m) e k =
+    go g None e k = absurd (no_answer (only 2) n k)
+    go g (Some m) e k =
         let d = demanded (not (eqb m 0) && leb m spec.max_cells) 2 (answers m) n k in
         let b = and_both (not (eqb m 0)) (leb m spec.max_cells) d.0 in
         let s : m ≡ n = same_answer d.1 in

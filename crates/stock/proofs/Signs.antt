@@ -1,7 +1,7 @@
 -- Cells that fit a solid bar, by the sign's bit of their numbers; cells that fit a tube, by comparisons alone. Assumes nothing.
-use Rattle.std.proofs.Common.{◌≡◌, ℕ, zero, suc, ◌+◌, ◌*◌, ◌<◌, ◌≤◌, Bool, true, false, not, ◌&&◌, T, ltb, leb, ℤ, pos, sym, refl, ap, ◌∙◌, subst, le_trans, lt_of_le_of_lt, arith, ltb-true, le-ltb, lt-ltb, leb-false}
+use Rattle.std.proofs.Common.{◌≡◌, ℕ, zero, suc, ◌+◌, ◌*◌, ◌<◌, ◌≤◌, Bool, true, false, not, ◌&&◌, T, ltb, ℤ, sym, refl, ◌∙◌, lt_of_le_of_lt, arith, ltb-true, le-ltb, lt-ltb, leb-false}
 use mathlib.Core.Bool.{false≢true}
-use lib.Bits.{bit_or, bit_and, or_lt, or_add_and, and_le_l, and_le_r}
+use lib.Bits.{bit_or, or_lt, or_add_and, and_le_l, and_le_r}
 use lib.Ieee.{Float, nan, inf, fin, binary64, lt, eq, le, fits, is_nan, to_bits, of_bits, of_fields, odd, up, down}
 use lib.Ieee.Bits.{is_true}
 use borrow.Author.Tests.{not-true}

@@ -1,5 +1,5 @@
 -- Stamps: two are the same exactly where both numbers are. Assumes nothing.
-use Rattle.std.proofs.Common.{◌≡◌, ℕ, Bool, true, false, ◌&&◌, eqb, sym, refl, ap, ◌∙◌, ap₂, eq-eqb, ne_eqb, eqb-true}
+use Rattle.std.proofs.Common.{◌≡◌, Bool, true, false, ◌&&◌, eqb, refl, ap, ◌∙◌, ap₂, eq-eqb, ne_eqb, eqb-true}
 use Rattle.stock.proofs.Count.{and_both}
 use Rattle.stock.specs.declared.Stamp.{Stamp}
 use Rattle.stock.specs.Stock.{stamp_of, same_stamp}

@@ -2,13 +2,10 @@
 use Rattle.std.specs.Prelude.{ℕ, pos, nat_lt, Float}
 use Rattle.std.specs.Float.{binary64}
 use Rattle.std.specs.Float.Ieee.{of_int}
-use Rattle.refusals.specs.Number.{reason_of}
-use Rattle.refusals.specs.Paper.{Paper, answers, refuses, demand, onward}
+use Rattle.refusals.specs.Paper.{Paper, answers, demand, onward}
 use Rattle.floats.specs.Numbers.{◌+₆₄◌, ◌*₆₄◌, least_of}
 use Rattle.stock.specs.declared.TurnStockSpec.{TurnStockSpec}
 use Rattle.stock.specs.declared.ZRange.{ZRange}
-use Rattle.stock.specs.declared.Binned.{Binned}
-use Rattle.stock.specs.declared.Binned.TheVariants.{At, Refused}
 use Rattle.stock.specs.Spec.{clean_spec, cells_of}
 
 -- za = z_min + i * cell
@@ -22,8 +19,3 @@ bin_of s i = record { za = start_of s i; zb = least_of (start_of s i +₆₄ s.c
 -- the range of bin i; 1, 2, then 21 for an index of n or more, of no place: there is no list
 unfoldable pub bin_for : TurnStockSpec → ℕ → Paper ZRange
 bin_for spec i = onward (cells_of spec) (λ n. demand (nat_lt i n) 21 (answers (bin_of (clean_spec spec) i)))
-
--- what the answer of `bin` says, case by case
-abbrev pub binned_paper : Binned → Paper ZRange
-binned_paper (At z) = answers z
-binned_paper (Refused c) = refuses (reason_of c)

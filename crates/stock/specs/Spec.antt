@@ -1,15 +1,11 @@
 -- A stock's spec, and how many cells it has. Assumes nothing.
-use Rattle.std.specs.Prelude.{ℕ, Bool, not, ◌&&◌, ◌==◌, nat_le, Float}
-use Rattle.std.proofs.Math.Option.{Option, none, some}
+use Rattle.std.specs.Prelude.{ℕ, Bool, not, ◌&&◌, ◌==◌, nat_le, Float, Option, None, Some}
 use Rattle.std.specs.Float.Ieee.{le, lt}
-use Rattle.refusals.specs.Number.{reason_of}
 use Rattle.refusals.specs.Paper.{Paper, answers, refuses, only, demand}
 use Rattle.refusals.specs.Limits.{cell_limit}
 use Rattle.floats.specs.Numbers.{◌-₆₄◌, ◌/₆₄◌, zero64, clean_of, usable}
 use Rattle.numbers.specs.Whole.{whole_up}
 use Rattle.stock.specs.declared.TurnStockSpec.{TurnStockSpec}
-use Rattle.stock.specs.declared.Counted.{Counted}
-use Rattle.stock.specs.declared.Counted.TheVariants.{Cells, Refused}
 
 -- -0.0 is read as +0.0
 unfoldable pub clean_spec : TurnStockSpec → TurnStockSpec
@@ -35,16 +31,11 @@ quotient s = (s.z_max_mm -₆₄ s.z_min_mm) /₆₄ s.cell_mm
 
 -- 2 unless n is there, not 0, and at most max_cells
 abbrev pub counted : ℕ → Option ℕ → Paper ℕ
-counted most none = refuses (only 2)
-counted most (some n) = demand (not (n == 0) && nat_le n most) 2 (answers n)
+counted most None = refuses (only 2)
+counted most (Some n) = demand (not (n == 0) && nat_le n most) 2 (answers n)
 
 -- the number of cells: the least whole number at or above the quotient; 1, 2
 unfoldable pub cells_of : TurnStockSpec → Paper ℕ
 cells_of spec =
     let s = clean_spec spec in
     demand (spec_good s) 1 (counted s.max_cells (whole_up (quotient s) cell_limit))
-
--- what a count of cells says, case by case
-abbrev pub counted_paper : Counted → Paper ℕ
-counted_paper (Cells n) = answers n
-counted_paper (Refused c) = refuses (reason_of c)

@@ -1,12 +1,11 @@
 -- A stock as one value; its cells and its rings are lent beside it. Assumes nothing.
-use Rattle.std.specs.Prelude.{◌≡◌, ℕ, Bool, ◌&&◌, List, length, ◌==◌, Float}
-use Rattle.refusals.specs.Number.{reason_of}
+use Rattle.std.specs.Prelude.{◌≡◌, ℕ, Bool, ◌&&◌, List, length, ◌==◌, Float, Result}
+use Rattle.refusals.specs.declared.Refusal.{Refusal}
+use Rattle.refusals.specs.Number.{paper_of}
 use Rattle.refusals.specs.Paper.{Paper, answers, refuses}
 use Rattle.stock.specs.declared.TurnStockSpec.{TurnStockSpec}
 use Rattle.stock.specs.declared.Stamp.{Stamp}
 use Rattle.stock.specs.declared.TurnStock.{TurnStock}
-use Rattle.stock.specs.declared.Made.{Made}
-use Rattle.stock.specs.declared.Made.TheVariants.{Stock, Refused}
 use Rattle.stock.specs.Cell.{new_of, new_cells}
 
 -- an edition and a generation
@@ -29,17 +28,12 @@ new_stock spec edition = stock_from spec edition 0 0
 abbrev pub stock_with : TurnStock → ℕ → ℕ → TurnStock
 stock_with k rings g = stock_from k.spec k.stamp.edition rings g
 
--- what the answer of a call that makes a stock says, case by case
-abbrev pub made_paper : Made → Paper TurnStock
-made_paper (Stock k) = answers k
-made_paper (Refused c) = refuses (reason_of c)
-
 -- the stock, where its cells are counted
 abbrev pub stock_made : TurnStockSpec → ℕ → Paper ℕ → Paper TurnStock
 stock_made spec edition (answers n) = answers (new_stock spec edition)
 stock_made spec edition (refuses r) = refuses r
 
 -- the answer and the lent cells of a new stock
-pub record Filled (spec : TurnStockSpec) (edition : ℕ) (r : Made) (cs cs' : List Float) : Type 0 where
-  pub answer : made_paper r ≡ stock_made spec edition (new_of spec (length cs))
+pub record Filled (spec : TurnStockSpec) (edition : ℕ) (r : Result TurnStock Refusal) (cs cs' : List Float) : Type 0 where
+  pub answer : paper_of r ≡ stock_made spec edition (new_of spec (length cs))
   pub cells : cs' ≡ new_cells spec (new_of spec (length cs)) cs

@@ -9,9 +9,10 @@ ghost use Rattle.std.specs.Prelude.{◌≡◌, ◌+◌, ◌*◌, ◌≤◌, true
 ghost use Rattle.std.specs.Float.{binary64};
 ghost use Rattle.std.specs.Float.Ieee.{of_int, le, lt};
 ghost use Rattle.std.proofs.lemmas.List.Edits.{sets};
+ghost use Rattle.refusals.specs.Number.{paper_of};
 ghost use Rattle.floats.specs.Numbers.{zero64, minus_zero};
-ghost use Rattle.stock.specs.Spec.{clean_spec, spec_good, cells_of, counted_paper};
-ghost use Rattle.stock.specs.Bin.{bin_of, bin_for, binned_paper};
+ghost use Rattle.stock.specs.Spec.{clean_spec, spec_good, cells_of};
+ghost use Rattle.stock.specs.Bin.{bin_of, bin_for};
 ghost use Rattle.stock.specs.Cell.{cell_at, cell_from, cell_of_none, number_at, four_of, cell_fits, pair_fits_in, between, same_cell, fit_to, stock_of, put_cell, fresh_cell, cells_like};
 ghost use Rattle.stock.specs.Signs.{sign_bit, Solid, ordered};
 ghost use Rattle.stock.specs.Stock.{same_stamp, new_stock, stock_with, Filled};
@@ -73,7 +74,7 @@ pub struct BinRange {
 }
 
 // Which edition of a wheel a stock is of, its caller's own number, and how often it was changed.
-#[derive(Clone, Copy)]
+#[derive(Clone, Copy, PartialEq)]
 pub struct Stamp {
     pub edition: u32,
     pub generation: u64,
@@ -85,26 +86,6 @@ pub struct TurnStock {
     pub spec: TurnStockSpec,
     pub stamp: Stamp,
     pub rings: usize,
-}
-
-// How many cells a stock has.
-#[derive(Clone, Copy)]
-pub enum Counted {
-    Cells(usize),
-    Refused(Refusal),
-}
-
-#[derive(Clone, Copy)]
-pub enum Binned {
-    At(ZRange),
-    Refused(Refusal),
-}
-
-// A new stock.
-#[derive(Clone, Copy)]
-pub enum Made {
-    Stock(TurnStock),
-    Refused(Refusal),
 }
 
 // The spec with -0.0 read as +0.0.
@@ -137,24 +118,20 @@ fn spec_good(s: TurnStockSpec) -> bool
 }
 
 // The number of cells that reach from z_min to z_max; 1, 2.
-pub fn validate(spec: TurnStockSpec) -> Counted
-    ensures { counted_paper result ≡ cells_of spec }
+pub fn validate(spec: TurnStockSpec) -> Result<usize, Refusal>
+    ensures { paper_of result ≡ cells_of spec }
 {
     let s = clean_spec(spec);
     if !spec_good(s) {
-        return Counted::Refused(Refusal::SpecOutside);
+        return Err(Refusal::SpecOutside);
     }
     let found = numbers::whole_up((s.z_max_mm - s.z_min_mm) / s.cell_mm, CELL_LIMIT as u64);
-    match found {
-        numbers::Whole::Over => Counted::Refused(Refusal::CellCount),
-        numbers::Whole::Of(n) => {
-            let cells = n as usize;
-            if (cells != 0) & (cells <= s.max_cells) {
-                return Counted::Cells(cells);
-            }
-            Counted::Refused(Refusal::CellCount)
-        }
+    let n = found.ok_or(Refusal::CellCount)?;
+    let cells = n as usize;
+    if (cells != 0) & (cells <= s.max_cells) {
+        return Ok(cells);
     }
+    Err(Refusal::CellCount)
 }
 
 // A count as a float: the processor takes one of 31 bits in a step.
@@ -179,29 +156,21 @@ pub fn bin_of(s: TurnStockSpec, i: usize) -> ZRange
 }
 
 // The z range of bin i; 1, 2, 21.
-pub fn bin(spec: TurnStockSpec, i: usize) -> Binned
-    ensures { binned_paper result ≡ bin_for spec i }
+pub fn bin(spec: TurnStockSpec, i: usize) -> Result<ZRange, Refusal>
+    ensures { paper_of result ≡ bin_for spec i }
 {
-    let counted = validate(spec);
-    match counted {
-        Counted::Refused(r) => Binned::Refused(r),
-        Counted::Cells(n) => {
-            if i < n {
-                return Binned::At(bin_of(clean_spec(spec), i));
-            }
-            Binned::Refused(Refusal::NoSuchBin)
-        }
+    let n = validate(spec)?;
+    if i < n {
+        return Ok(bin_of(clean_spec(spec), i));
     }
+    Err(Refusal::NoSuchBin)
 }
 
 // The number at place k, or no number where the list has none.
 fn number_at(list: &[f64], k: usize) -> f64
     ensures { result ≡ number_at list.now k }
 {
-    if k < list.len() {
-        return list[k];
-    }
-    0.0 / 0.0
+    if k < list.len() { list[k] } else { f64::NAN }
 }
 
 // The cell whose four numbers start at a place.
@@ -225,16 +194,13 @@ fn cell_from(list: &[f64], at: usize) -> TurnCell
 fn no_cell() -> TurnCell
     ensures { result ≡ cell_of_none }
 {
-    let none = 0.0 / 0.0;
+    let none = RadiusBounds {
+        lower_mm: f64::NAN,
+        upper_mm: f64::NAN,
+    };
     TurnCell {
-        outer: RadiusBounds {
-            lower_mm: none,
-            upper_mm: none,
-        },
-        inner: RadiusBounds {
-            lower_mm: none,
-            upper_mm: none,
-        },
+        outer: none,
+        inner: none,
     }
 }
 
@@ -371,12 +337,10 @@ fn all_fit_solid(s: TurnStockSpec, cells: &[f64], n: usize) -> bool
 {
     let mut ok = true;
     let mut bits: u64 = 0;
-    let mut i: usize = 0;
-    while i < n {
+    for i in 0..n {
         let c = cell_from(cells, 4 * i);
         ok = ok & is_ordered(s, c);
         bits = bits | bits_of(s, c);
-        i += 1;
     }
     ok & (bits < 0x8000_0000_0000_0000)
 }
@@ -395,10 +359,8 @@ fn all_fit_tube(s: TurnStockSpec, cells: &[f64], n: usize) -> bool
     ensures { result ≡ fit_to s cells.now n }
 {
     let mut ok = true;
-    let mut i: usize = 0;
-    while i < n {
+    for i in 0..n {
         ok = ok & fits_tube(s, cell_from(cells, 4 * i));
-        i += 1;
     }
     ok
 }
@@ -415,22 +377,17 @@ fn all_fit(s: TurnStockSpec, cells: &[f64], n: usize) -> bool
 }
 
 // The number of cells of a stock whose lent cells fit; 1, 2, 3.
-pub fn cells_fit(spec: TurnStockSpec, cells: &[f64]) -> Counted
-    ensures { counted_paper result ≡ stock_of spec cells.now }
+pub fn cells_fit(spec: TurnStockSpec, cells: &[f64]) -> Result<usize, Refusal>
+    ensures { paper_of result ≡ stock_of spec cells.now }
 {
-    let counted = validate(spec);
-    match counted {
-        Counted::Refused(r) => Counted::Refused(r),
-        Counted::Cells(n) => {
-            if cells.len() != 4 * n {
-                return Counted::Refused(Refusal::CellsDoNotFit);
-            }
-            if all_fit(clean_spec(spec), cells, n) {
-                return Counted::Cells(n);
-            }
-            Counted::Refused(Refusal::CellsDoNotFit)
-        }
+    let n = validate(spec)?;
+    if cells.len() != 4 * n {
+        return Err(Refusal::CellsDoNotFit);
     }
+    if all_fit(clean_spec(spec), cells, n) {
+        return Ok(n);
+    }
+    Err(Refusal::CellsDoNotFit)
 }
 
 // The four bounds are the same numbers.
@@ -463,10 +420,8 @@ fn put_all(cells: &mut [f64], n: usize, c: TurnCell)
     requires { length cells.old ≡ 4 * n }
     ensures { cells.new ≡ cells_like c n }
 {
-    let mut i: usize = 0;
-    while i < n {
+    for i in 0..n {
         put_from(cells, 4 * i, c);
-        i += 1;
     }
 }
 
@@ -474,7 +429,7 @@ fn put_all(cells: &mut [f64], n: usize, c: TurnCell)
 pub fn same_stamp(a: Stamp, b: Stamp) -> bool
     ensures { result ≡ same_stamp a b }
 {
-    (a.edition == b.edition) & (a.generation == b.generation)
+    a == b
 }
 
 // The same stock, of the same edition, with so many rings, at a generation.
@@ -508,18 +463,13 @@ fn new_stock(spec: TurnStockSpec, edition: u32) -> TurnStock
 
 // A new stock of an edition: every cell at outer and bore, no rings, generation 0; 1, 2, and 3 where the
 // lent cells are not n.
-pub fn fill(spec: TurnStockSpec, edition: u32, cells: &mut [f64]) -> Made
+pub fn fill(spec: TurnStockSpec, edition: u32, cells: &mut [f64]) -> Result<TurnStock, Refusal>
     ensures { Filled spec edition result cells.old cells.new }
 {
-    let counted = validate(spec);
-    match counted {
-        Counted::Refused(r) => Made::Refused(r),
-        Counted::Cells(n) => {
-            if cells.len() != 4 * n {
-                return Made::Refused(Refusal::CellsDoNotFit);
-            }
-            put_all(cells, n, fresh_cell(clean_spec(spec)));
-            Made::Stock(new_stock(spec, edition))
-        }
+    let n = validate(spec)?;
+    if cells.len() != 4 * n {
+        return Err(Refusal::CellsDoNotFit);
     }
+    put_all(cells, n, fresh_cell(clean_spec(spec)));
+    Ok(new_stock(spec, edition))
 }

@@ -1,4 +1,5 @@
 -- What a file tells does not depend on the bar that stands in its reading before the first line. Assumes nothing.
+use Rattle.std.specs.Prelude.{Option, Some, None}
 use Prim.Native.Nat.{ℕ, ◌+◌, ◌%◌, ◌^◌, ◌<◌}
 use native.Mathlib.Omega.{arith}
 use mathlib.Core.Path.{◌≡◌, refl, sym, ap, ◌∙◌}
@@ -13,7 +14,6 @@ use Rattle.lines.specs.File.{pieces_of, ended, line_on_bytes, over_pieces}
 use Rattle.stock_lines.specs.declared.Bar.{Bar}
 use Rattle.stock_lines.specs.declared.Reading.{Reading}
 use Rattle.stock_lines.specs.declared.form.First.{First}
-use Rattle.stock_lines.specs.declared.form.First.TheVariants.{Says, NoFirst}
 use Rattle.stock_lines.specs.First.{first_of}
 use Rattle.stock_lines.specs.Reading.{State, state, refusing, begun}
 use Rattle.stock_lines.proofs.Readings.{line_first}
@@ -67,22 +67,22 @@ module _ (b b' : Bar) (cs rs : List Float) where
     unfolding over_pieces line_on_bytes refusing
     too_long x e = ap (λ (y : State). walk y (m ∷ ls)) (pick-false _ _ _ refl ∙ pick-false _ _ _ e) ∙ stopped-walk (m ∷ ls) (on_long (st x)) refl
 
-    first : (x : Bar) (f : First) → ltb (length l) 128 ≡ true → first_of l ≡ f → walk (st x) (l ∷ m ∷ ls) ≡ walk (state (begun (fresh x) f) cs rs) (m ∷ ls)
+    first : (x : Bar) (f : Option First) → ltb (length l) 128 ≡ true → first_of l ≡ f → walk (st x) (l ∷ m ∷ ls) ≡ walk (state (begun (fresh x) f) cs rs) (m ∷ ls)
     unfolding over_pieces line_on_bytes
-    first x f e q = ap (λ (y : State). walk y (m ∷ ls)) (pick-false _ _ _ refl ∙ pick_true _ _ _ e ∙ line_first (st x) l refl ∙ ap (λ (g : First). state (begun (fresh x) g) cs rs) q)
+    first x f e q = ap (λ (y : State). walk y (m ∷ ls)) (pick-false _ _ _ refl ∙ pick_true _ _ _ e ∙ line_first (st x) l refl ∙ ap (λ (g : Option First). state (begun (fresh x) g) cs rs) q)
 
-    no-first : (x : Bar) → ltb (length l) 128 ≡ true → first_of l ≡ NoFirst → walk (st x) (l ∷ m ∷ ls) ≡ on_long (st x)
+    no-first : (x : Bar) → ltb (length l) 128 ≡ true → first_of l ≡ None → walk (st x) (l ∷ m ∷ ls) ≡ on_long (st x)
     unfolding begun refusing
-    no-first x e q = first x NoFirst e q ∙ stopped-walk (m ∷ ls) (on_long (st x)) refl
+    no-first x e q = first x None e q ∙ stopped-walk (m ∷ ls) (on_long (st x)) refl
 
     a-line : SameTold (walk (st b) (l ∷ m ∷ ls)) (walk (st b') (l ∷ m ∷ ls))
     unfolding begun
     a-line = by (ltb (length l) 128) refl (first_of l) refl
       where
-        by : (t : Bool) → ltb (length l) 128 ≡ t → (f : First) → first_of l ≡ f → SameTold (walk (st b) (l ∷ m ∷ ls)) (walk (st b') (l ∷ m ∷ ls))
+        by : (t : Bool) → ltb (length l) 128 ≡ t → (f : Option First) → first_of l ≡ f → SameTold (walk (st b) (l ∷ m ∷ ls)) (walk (st b') (l ∷ m ∷ ls))
         by false e f q = both (too_long b e) (too_long b' e)
-        by true e NoFirst q = both (no-first b e q) (no-first b' e q)
-        by true e (Says k n x) q = same-state (first b (Says k n x) e q ∙ sym (first b' (Says k n x) e q))
+        by true e None q = both (no-first b e q) (no-first b' e q)
+        by true e (Some x) q = same-state (first b (Some x) e q ∙ sym (first b' (Some x) e q))
 
   pieces : (ls : List (List ℕ)) → 0 < length ls → SameTold (walk (st b) ls) (walk (st b') ls)
   pieces [] h = absurd (omega arith)

@@ -1,4 +1,7 @@
 -- However the bytes of a file are cut into parts, what `take_part` leaves of them one after the other and `finish` at the end is that of the whole file. Assumes nothing.
+use Rattle.std.specs.Prelude.{Result}
+use Rattle.refusals.specs.Number.{placed_of}
+use Rattle.refusals.specs.declared.Refused.{Refused}
 use Prim.Native.Nat.{ℕ, ◌≤◌, ◌<◌, min}
 use native.Mathlib.Omega.{arith}
 use native.Mathlib.Nat.{min-eq_left}
@@ -20,7 +23,7 @@ use Rattle.lines.proofs.AnyCut.{any-cut}
 use Rattle.stock_lines.specs.declared.Reading.{Reading}
 use Rattle.stock_lines.specs.Reading.{State, state, refusing, on_line}
 use Rattle.stock_file.specs.declared.Kept.{Kept}
-use Rattle.stock_file.specs.Read.{fresh_reading, stopped, on_long, on_end, held_in, taking, ended, told_as, kept_paper, file_in, read_of}
+use Rattle.stock_file.specs.Read.{fresh_reading, stopped, on_long, on_end, held_in, taking, ended, told_as, file_in, read_of}
 use Rattle.stock_file.specs.InParts.{Took, start, part, Finished}
 
 pub long-stops : (st : State) → stopped (on_long st) ≡ true
@@ -78,8 +81,8 @@ end_is r cs rs h = by r.refused refl (eqb (length h) 0) refl (ltb r.stage 2) ref
     by false e false f v g = simp (e, f, no)
 
 -- HOWEVER A FILE IS CUT INTO PARTS, also with nothing in some or inside a number: what is left at its end is what the whole file leaves, and `finish` tells what the whole file tells.
-pub however-cut : {most : ℕ} {cs rs : List Float} {ps : List (List ℕ)} {r : Kept} (f : Finished most cs rs ps r)
-    → (kept_paper r ≡ read_of most cs rs (joined ps)) × (f.left.job.cells ≡ (file_in cs rs (joined ps)).cells) × (f.left.job.rings ≡ (file_in cs rs (joined ps)).rings)
+pub however-cut : {most : ℕ} {cs rs : List Float} {ps : List (List ℕ)} {r : Result Kept Refused} (f : Finished most cs rs ps r)
+    → (placed_of r ≡ read_of most cs rs (joined ps)) × (f.left.job.cells ≡ (file_in cs rs (joined ps)).cells) × (f.left.job.rings ≡ (file_in cs rs (joined ps)).rings)
 however-cut {most} {cs} {rs} {ps} {r} f =
     let k = f.left in
     let e : state (ended k.job.reading (length k.held)) k.job.cells k.job.rings ≡ file_in cs rs (joined ps) =

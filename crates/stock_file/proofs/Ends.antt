@@ -16,7 +16,8 @@ use Rattle.stock.specs.Stock.{stock_from}
 use Rattle.rings.specs.Store.{bar_ring, count_fits}
 use Rattle.stock_lines.specs.declared.Reading.{Reading}
 use Rattle.stock_lines.specs.Reading.{refusing}
-use Rattle.stock_file.specs.Read.{ended, spec_of, front_of, Stocked, stocked_of, stock_in, told_as}
+use Rattle.stock_file.specs.declared.Kept.{Kept}
+use Rattle.stock_file.specs.Read.{ended, spec_of, front_of, stocked_of, stock_in, told_as}
 
 module _ (r : Reading) (n : ℕ) where
   pub ended-stopped : r.refused ≡ true → r ≡ ended r n
@@ -50,7 +51,7 @@ unfolding told_as
 told_line r most cs rs l e q = ap (λ (k : ℕ). refuses (at 16 k)) q ∙ sym (demand_at-false _ _ _ _ (ap not e))
 
 module _ (r : Reading) (most : ℕ) (cs rs xs : List Float) (s : TurnStockSpec) (h : r.refused ≡ false) (es : s ≡ spec_of r.bar most) (ex : xs ≡ front_of r.cells cs) where
-  asked : Paper Stocked
+  asked : Paper Kept
   asked = onward (stock_of s xs) (λ k. demand (count_fits (bar_ring (clean_spec s)) rs r.rings) 4 (answers (stocked_of s r.edition k r.rings)))
 
   told_is : told_as r most cs rs ≡ asked
@@ -69,5 +70,5 @@ module _ (r : Reading) (most : ℕ) (cs rs xs : List Float) (s : TurnStockSpec) 
   told-rings n e f = sym (found n e ∙ demand-false _ _ _ f)
 
   pub told-stock : (n : ℕ) (t : TurnStock) → stock_of s xs ≡ answers n → count_fits (bar_ring (clean_spec s)) rs r.rings ≡ true → t ≡ stock_from (clean_spec s) r.edition r.rings 0
-      → ◌≡◌ {A = Paper Stocked} (answers (record { stock = t; cells = n })) (told_as r most cs rs)
+      → ◌≡◌ {A = Paper Kept} (answers (record { stock = t; cells = n })) (told_as r most cs rs)
   told-stock n t e f q = ap (λ (u : TurnStock). answers (record { stock = u; cells = n })) q ∙ sym (found n e ∙ demand-true _ _ _ f)

@@ -1,9 +1,9 @@
 -- A file is refused at a line exactly when the lines before it begin some file of the form, and with it, or with the end in its place, they begin none. Assumes nothing.
+use Rattle.std.specs.Prelude.{Option, None, Some}
 use Prim.Native.Nat.{ℕ, zero, suc, ◌+◌, ◌-◌, ◌^◌, ◌≤◌, ◌<◌}
 use native.Mathlib.Omega.{arith}
 use mathlib.Core.Path.{◌≡◌, refl, sym, ap, ◌∙◌, subst}
 use mathlib.Core.Bool.{Bool, true, false, not, true≢false, false≢true}
-use mathlib.Core.Option.{Option, none, some}
 use mathlib.Core.List.{List, [], ◌∷◌, ◌++◌, append_assoc}
 use lib.Dec.{T, eqb, leb, ltb}
 use lib.ListN.{length, take, drop, length-append}
@@ -23,19 +23,18 @@ use Rattle.text.proofs.Parting as parting
 use Rattle.text.proofs.Spelling.{decimal-short}
 use Rattle.lines.specs.File.{pieces_of, ended, line_on_bytes, over_pieces}
 use Rattle.stock_lines.specs.declared.Reading.{Reading}
-use Rattle.stock_lines.specs.declared.form.Four.TheVariants.{Numbers}
 use Rattle.stock_lines.specs.declared.form.First.{First}
-use Rattle.stock_lines.specs.declared.form.First.TheVariants.{Says, NoFirst}
 use Rattle.stock_lines.specs.declared.room.Took.{Took}
 use Rattle.stock_lines.specs.declared.room.Took.TheVariants.{Cell, Ring, End, NoLine}
-use Rattle.stock_lines.specs.Form.{fields_text, bar_numbers, cell_prefix, end_text, kept_cell_line, end_line}
+use Rattle.stock_lines.specs.Form.{fields_text, bar_numbers, cell_prefix, end_text, kept_cell_line, end_line, four}
 use Rattle.stock_lines.specs.First.{first_of, two}
 use Rattle.stock_lines.specs.Room.{stored, took_of}
 use Rattle.stock_lines.specs.Reading.{State, state, next, refusing, begun, onward_to, went, on_body, on_line}
 use Rattle.stock_lines.proofs.Forms as forms
 use Rattle.stock_lines.proofs.Steps.{counts-few, least-most, few-least, cell-short}
 use Rattle.stock_lines.proofs.Readings.{line_first, line-body, line-behind}
-use Rattle.stock_file.specs.Read.{fresh_reading, stopped, on_long, spec_of, Stocked, stock_in, told_as, file_in, read_of}
+use Rattle.stock_file.specs.declared.Kept.{Kept}
+use Rattle.stock_file.specs.Read.{fresh_reading, stopped, on_long, spec_of, stock_in, told_as, file_in, read_of}
 use Rattle.stock_file.specs.Write.{Opening, opening, file_of}
 use Rattle.stock_file.specs.Exactly.{Begins, ended_lines, first_lines, RefusedBehind}
 use Rattle.stock_file.proofs.Newlines.{Free, none, more, cell_free, end-free}
@@ -115,10 +114,10 @@ went-next r Ring = refl
 went-next r End = refl
 went-next r NoLine = refl
 
-begun-next : (r : Reading) (f : First) → (begun r f).lines ≡ next r
+begun-next : (r : Reading) (f : Option First) → (begun r f).lines ≡ next r
 unfolding begun refusing
-begun-next r (Says k e b) = refl
-begun-next r NoFirst = refl
+begun-next r (Some f) = refl
+begun-next r None = refl
 
 line-next : (st : State) (s : List ℕ) → (on_line st s).reading.lines ≡ next st.reading
 unfolding on_body refusing
@@ -178,12 +177,12 @@ module _ (cs rs : List Float) where
       by true e = pick-false _ _ _ g ∙ pick_true _ _ _ e
       by false e = absurd (true≢false (ap stopped (sym (pick-false _ _ _ g ∙ pick-false _ _ _ e)) ∙ h))
 
-  first_on : (f : First) → stopped (state (begun fresh_reading f) cs rs) ≡ false → Reached cs rs 1 (state (begun fresh_reading f) cs rs)
+  first_on : (f : Option First) → stopped (state (begun fresh_reading f) cs rs) ≡ false → Reached cs rs 1 (state (begun fresh_reading f) cs rs)
   unfolding begun refusing
-  first_on NoFirst h = absurd (true≢false h)
-  first_on (Says form edition b) h =
+  first_on None h = absurd (true≢false h)
+  first_on (Some f) h =
       let one : 1 ≡ next fresh_reading = omega arith in
-      subst (λ (k : ℕ). Reached cs rs 1 (state (reading (opening form edition b) 1 0 0 k) cs rs)) one (body (record { alone = λ z. refl; lines = λ z. sym one }))
+      subst (λ (k : ℕ). Reached cs rs 1 (state (reading (opening f.form f.edition f.bar) 1 0 0 k) cs rs)) one (body (record { alone = λ z. refl; lines = λ z. sym one }))
 
   line_on : {j : ℕ} {st : State} (l : List ℕ) → Reached cs rs j st → j + 1 < 2 ^ 64 → stopped (on_line st l) ≡ false → Reached cs rs (j + 1) (on_line st l)
   unfolding refusing
@@ -252,7 +251,7 @@ module _ (cs rs : List Float) where
       let u : l ++ newline ≡ kept_cell_line b.form n zero64 zero64 zero64 zero64 = line-is b.form n in
       let w : length l < 128 = omega (arith, length-append (cell_prefix b.form n) (fields_text nothings []), cell-short b.form n, forms.fields-text-long nothings) in
       let lots : n < most b = omega (arith, within (omega arith)) in
-      let cells : List Float = stored (most b) cs' n (Numbers zero64 zero64 zero64 zero64) in
+      let cells : List Float = stored (most b) cs' n (four zero64 zero64 zero64 zero64) in
       let s : step st l ≡ state (reading b 1 (n + 1) m (k + 1)) cells rs' =
       pick-false _ _ _ refl ∙ pick_true _ _ _ (lt-ltb _ _ w) ∙ cell-on b n m k cs' rs' l (omega arith) zero64 zero64 zero64 zero64 (alone (omega arith)) lots kept-nothings u in
       ap (λ (x : List ℕ). stopped (walk st (pieces_of x))) (ap (λ (x : List ℕ). x ++ t) (sym u) ∙ append_assoc l newline t)
@@ -439,24 +438,24 @@ module _ (cs rs : List Float) (s : List ℕ) where
 -- ---- 16 alone has a place
 
 abbrev place_of : {A : Type 0} → Paper A → Option ℕ
-place_of (answers a) = none
+place_of (answers a) = None
 place_of (refuses w) = w.place
 
-demand-place : {A : Type 0} (t : Bool) (n : ℕ) (p : Paper A) → place_of p ≡ none → place_of (demand t n p) ≡ none
+demand-place : {A : Type 0} (t : Bool) (n : ℕ) (p : Paper A) → place_of p ≡ None → place_of (demand t n p) ≡ None
 unfolding demand
 demand-place true n p e = e
 demand-place false n p e = refl
 
-onward-place : {A B : Type 0} (p : Paper A) (f : A → Paper B) → place_of p ≡ none → ((a : A) → place_of (f a) ≡ none) → place_of (onward p f) ≡ none
+onward-place : {A B : Type 0} (p : Paper A) (f : A → Paper B) → place_of p ≡ None → ((a : A) → place_of (f a) ≡ None) → place_of (onward p f) ≡ None
 unfolding onward
 onward-place (answers a) f e h = h a
 onward-place (refuses w) f e h = e
 
-counted-place : (most : ℕ) (o : Option ℕ) → place_of (counted most o) ≡ none
-counted-place most none = refl
-counted-place most (some n) = demand-place _ 2 _ refl
+counted-place : (most : ℕ) (o : Option ℕ) → place_of (counted most o) ≡ None
+counted-place most None = refl
+counted-place most (Some n) = demand-place _ 2 _ refl
 
-stock-place : (spec : TurnStockSpec) (edition n : ℕ) (cs : List Float) (m : ℕ) (rs : List Float) → place_of (stock_in spec edition n cs m rs) ≡ none
+stock-place : (spec : TurnStockSpec) (edition n : ℕ) (cs : List Float) (m : ℕ) (rs : List Float) → place_of (stock_in spec edition n cs m rs) ≡ None
 unfolding stock_in stock_of cells_of
 stock-place spec edition n cs m rs =
     onward-place _ _
@@ -464,10 +463,10 @@ stock-place spec edition n cs m rs =
     (λ k. demand-place _ 4 _ refl)
 
 has : Option ℕ → Bool
-has none = false
-has (some k) = true
+has None = false
+has (Some k) = true
 
-number_at : Paper Stocked → ℕ
+number_at : Paper Kept → ℕ
 number_at (answers a) = 0
 number_at (refuses w) = place_or 0 w.place
 

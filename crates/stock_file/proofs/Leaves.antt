@@ -1,4 +1,5 @@
 -- What the lent room holds after any read: a line is written at its place once, and all that no line was written to stays. Assumes nothing.
+use Rattle.std.specs.Prelude.{Option, Some, None}
 use Prim.Native.Nat.{ℕ, suc, ◌+◌, ◌*◌, ◌/◌, ◌≤◌, ◌<◌}
 use native.Mathlib.Omega.{arith}
 use mathlib.Core.Path.{◌≡◌, refl, sym, ◌∙◌, subst}
@@ -13,9 +14,7 @@ use Rattle.floats.specs.Pick.{pick, pick_true, pick-false}
 use Rattle.lines.specs.File.{pieces_of, ended, line_on_bytes, over_pieces}
 use Rattle.stock_lines.specs.declared.Reading.{Reading}
 use Rattle.stock_lines.specs.declared.form.Four.{Four}
-use Rattle.stock_lines.specs.declared.form.Four.TheVariants.{Numbers, NoFour}
 use Rattle.stock_lines.specs.declared.form.First.{First}
-use Rattle.stock_lines.specs.declared.form.First.TheVariants.{Says, NoFirst}
 use Rattle.stock_lines.specs.declared.room.Took.{Took}
 use Rattle.stock_lines.specs.declared.room.Took.TheVariants.{Cell, Ring, End, NoLine}
 use Rattle.stock_lines.specs.Form.{form_of}
@@ -64,32 +63,32 @@ more : (n : ℕ) (l : List Float) → Filled n (n + 1) l l
 more n l = record { grows = omega arith; long = refl; before = λ i h. refl; behind = λ i h. refl }
 
 -- one more of a kind that is counted past its limit or not
-stored-filled : (limit most n : ℕ) (l : List Float) (f : Four) → limit ≤ most → Filled n (count_to most n) l (stored limit l n f)
+stored-filled : (limit most n : ℕ) (l : List Float) (f : Option Four) → limit ≤ most → Filled n (count_to most n) l (stored limit l n f)
 unfolding stored kept
-stored-filled limit most n l NoFour h = counted (ltb n most) refl
+stored-filled limit most n l None h = counted (ltb n most) refl
   where
     counted : (t : Bool) → ltb n most ≡ t → Filled n (count_to most n) l l
     counted true e = subst (λ (k : ℕ). Filled n k l l) (count-more most n (ltb-true _ _ e)) (more n l)
     counted false e = subst (λ (k : ℕ). Filled n k l l) (count-full most n (ltb-false _ _ e)) (same n l)
-stored-filled limit most n l (Numbers a b c d) h = by (ltb n limit) refl (ltb n (length l / 4)) refl (ltb n most) refl
+stored-filled limit most n l (Some x) h = by (ltb n limit) refl (ltb n (length l / 4)) refl (ltb n most) refl
   where
     by : (t : Bool) → ltb n limit ≡ t → (u : Bool) → ltb n (length l / 4) ≡ u → (v : Bool) → ltb n most ≡ v
-        → Filled n (count_to most n) l (pick (ltb n limit) (pick (ltb n (length l / 4)) (sets l (4 * n) (a ∷ b ∷ c ∷ d ∷ [])) l) l)
+        → Filled n (count_to most n) l (pick (ltb n limit) (pick (ltb n (length l / 4)) (sets l (4 * n) (x.a ∷ x.b ∷ x.c ∷ x.d ∷ [])) l) l)
     by true e true f v g =
         let w : n < limit = ltb-true _ _ e in
-        let x : n < most = omega arith in
-        subst (λ (k : ℕ). Filled n k l (pick (ltb n limit) (pick (ltb n (length l / 4)) (sets l (4 * n) (a ∷ b ∷ c ∷ d ∷ [])) l) l)) (count-more most n x)
-        (subst (λ (y : List Float). Filled n (n + 1) l y) (sym (pick_true _ _ _ e ∙ pick_true _ _ _ f)) (put-filled l n a b c d))
+        let q : n < most = omega arith in
+        subst (λ (k : ℕ). Filled n k l (pick (ltb n limit) (pick (ltb n (length l / 4)) (sets l (4 * n) (x.a ∷ x.b ∷ x.c ∷ x.d ∷ [])) l) l)) (count-more most n q)
+        (subst (λ (y : List Float). Filled n (n + 1) l y) (sym (pick_true _ _ _ e ∙ pick_true _ _ _ f)) (put-filled l n x.a x.b x.c x.d))
     by true e false f v g =
         let w : n < limit = ltb-true _ _ e in
-        let x : n < most = omega arith in
-        subst (λ (k : ℕ). Filled n k l (pick (ltb n limit) (pick (ltb n (length l / 4)) (sets l (4 * n) (a ∷ b ∷ c ∷ d ∷ [])) l) l)) (count-more most n x)
+        let q : n < most = omega arith in
+        subst (λ (k : ℕ). Filled n k l (pick (ltb n limit) (pick (ltb n (length l / 4)) (sets l (4 * n) (x.a ∷ x.b ∷ x.c ∷ x.d ∷ [])) l) l)) (count-more most n q)
         (subst (λ (y : List Float). Filled n (n + 1) l y) (sym (pick_true _ _ _ e ∙ pick-false _ _ _ f)) (more n l))
     by false e u f true g =
-        subst (λ (k : ℕ). Filled n k l (pick (ltb n limit) (pick (ltb n (length l / 4)) (sets l (4 * n) (a ∷ b ∷ c ∷ d ∷ [])) l) l)) (count-more most n (ltb-true _ _ g))
+        subst (λ (k : ℕ). Filled n k l (pick (ltb n limit) (pick (ltb n (length l / 4)) (sets l (4 * n) (x.a ∷ x.b ∷ x.c ∷ x.d ∷ [])) l) l)) (count-more most n (ltb-true _ _ g))
         (subst (λ (y : List Float). Filled n (n + 1) l y) (sym (pick-false _ _ _ e)) (more n l))
     by false e u f false g =
-        subst (λ (k : ℕ). Filled n k l (pick (ltb n limit) (pick (ltb n (length l / 4)) (sets l (4 * n) (a ∷ b ∷ c ∷ d ∷ [])) l) l)) (count-full most n (ltb-false _ _ g))
+        subst (λ (k : ℕ). Filled n k l (pick (ltb n limit) (pick (ltb n (length l / 4)) (sets l (4 * n) (x.a ∷ x.b ∷ x.c ∷ x.d ∷ [])) l) l)) (count-full most n (ltb-false _ _ g))
         (subst (λ (y : List Float). Filled n n l y) (sym (pick-false _ _ _ e)) (same n l))
 
 -- ---- a line
@@ -120,10 +119,10 @@ refusing-unmoved : (r : Reading) → Unmoved r (refusing r)
 unfolding refusing
 refusing-unmoved r = record { cells = refl; rings = refl }
 
-begun-unmoved : (r : Reading) (f : First) → Unmoved r (begun r f)
+begun-unmoved : (r : Reading) (f : Option First) → Unmoved r (begun r f)
 unfolding begun
-begun-unmoved r (Says k e b) = record { cells = refl; rings = refl }
-begun-unmoved r NoFirst = refusing-unmoved r
+begun-unmoved r (Some f) = record { cells = refl; rings = refl }
+begun-unmoved r None = refusing-unmoved r
 
 -- what a line behind the first leaves, by what it was
 body-stays : (st : State) (s : List ℕ) → Stays st (on_body st s)

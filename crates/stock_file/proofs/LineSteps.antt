@@ -1,4 +1,5 @@
 -- A whole line taken: its bytes, and what each kind of line leaves. Assumes nothing.
+use Rattle.std.specs.Prelude.{Option, Some, None}
 use Prim.Native.Nat.{ℕ, ◌+◌, ◌*◌, ◌/◌, ◌^◌, ◌≤◌, ◌<◌}
 use native.Mathlib.Omega.{arith}
 use mathlib.Core.Path.{◌≡◌, refl, sym, ap, ◌∙◌}
@@ -14,13 +15,11 @@ use Rattle.text.specs.Lines.{newline, ring_line}
 use Rattle.lines.specs.Hands.{Hand, hand, takes}
 use Rattle.lines.proofs.Parts.{byte-newline, byte-held}
 use Rattle.stock_lines.specs.declared.Reading.{Reading}
-use Rattle.stock_lines.specs.declared.form.Four.TheVariants.{Numbers, NoFour}
-use Rattle.stock_lines.specs.declared.form.First.TheVariants.{Says}
-use Rattle.stock_lines.specs.Form.{Line, holds, other, form_of, line_of, four_of, bar_numbers, cell_prefix, stock_line, kept_cell_line, end_line}
+use Rattle.stock_lines.specs.Form.{Line, holds, other, form_of, line_of, four_of, bar_numbers, cell_prefix, stock_line, kept_cell_line, end_line, four}
 use Rattle.stock_lines.specs.Room.{kept, stored, taken, cell_at, ring_turn, took_of, rings_left_after}
 use Rattle.stock_lines.specs.Reading.{State, state, next, onward_to, went, on_body, on_line}
 use Rattle.stock_lines.proofs.Forms.{Keeps}
-use Rattle.stock_lines.specs.First.{first_of, CanSay}
+use Rattle.stock_lines.specs.First.{first_of, CanSay, first_says}
 use Rattle.stock_lines.proofs.EachLine.{cell-reads, ring-reads, end_reads, first_byte}
 use Rattle.stock_lines.proofs.Firsts.{first_reads}
 use Rattle.stock_lines.proofs.Rooms.{cell-turn, ring-turn, end-turn, took-cell, took-ring, took-end, rings-cell, rings-other, taken-numbers, taken_none}
@@ -51,19 +50,19 @@ line_taken l s st f e w q = ap (takes stopped on_line on_long (hand st [])) (sym
 -- ---- what is of another kind
 
 -- a line that begins with another byte is of another kind
-other-four : (b : ℕ) (p s : List ℕ) → (get_or s 0 0 ≡ b → ⊥) → four_of (line_of (b ∷ p) 4 s) ≡ NoFour
+other-four : (b : ℕ) (p s : List ℕ) → (get_or s 0 0 ≡ b → ⊥) → four_of (line_of (b ∷ p) 4 s) ≡ None
 unfolding four_of
 other-four b p s h = by (line_of (b ∷ p) 4 s) refl
   where
-    by : (l : Line) → line_of (b ∷ p) 4 s ≡ l → four_of (line_of (b ∷ p) 4 s) ≡ NoFour
+    by : (l : Line) → line_of (b ∷ p) 4 s ≡ l → four_of (line_of (b ∷ p) 4 s) ≡ None
     by other f = ap four_of f
     by (holds xs) f = absurd (h (first_byte b p 4 s xs f))
 
-no_cell : (form n m : ℕ) (s : List ℕ) → (get_or s 0 0 ≡ 99 → ⊥) → cell_at form n m s ≡ NoFour
+no_cell : (form n m : ℕ) (s : List ℕ) → (get_or s 0 0 ≡ 99 → ⊥) → cell_at form n m s ≡ None
 unfolding cell_at
 no_cell form n m s h = by (eqb m 0) refl (ltb n (form_of form).most) refl
   where
-    by : (t : Bool) → eqb m 0 ≡ t → (u : Bool) → ltb n (form_of form).most ≡ u → pick (eqb m 0) (pick (ltb n (form_of form).most) (four_of (line_of (cell_prefix form n) 4 s)) NoFour) NoFour ≡ NoFour
+    by : (t : Bool) → eqb m 0 ≡ t → (u : Bool) → ltb n (form_of form).most ≡ u → pick (eqb m 0) (pick (ltb n (form_of form).most) (four_of (line_of (cell_prefix form n) 4 s)) None) None ≡ None
     by true e true f = pick_true _ _ _ e ∙ pick_true _ _ _ f ∙ other-four 99 _ s h
     by true e false f = pick_true _ _ _ e ∙ pick-false _ _ _ f
     by false e u f = pick-false _ _ _ e
@@ -92,14 +91,14 @@ module _ (b : Opening) (n m l : ℕ) (cs rs : List Float) (s : List ℕ) (few : 
 
   -- a cell's line
   pub cell-on : (x y z w : Float) → m ≡ 0 → n < (most b) → Keeps (x ∷ y ∷ z ∷ w ∷ []) → s ++ newline ≡ kept_cell_line b.form n x y z w
-      → on_line (state (reading b 1 n m l) cs rs) s ≡ state (reading b 1 (n + 1) m (l + 1)) (stored (most b) cs n (Numbers x y z w)) rs
+      → on_line (state (reading b 1 n m l) cs rs) s ≡ state (reading b 1 (n + 1) m (l + 1)) (stored (most b) cs n (four x y z w)) rs
   unfolding on_body
   cell-on x y z w e h keeps q =
-      let c : cell_at b.form n m s ≡ Numbers x y z w = sym (cell-turn b.form n m s e h) ∙ cell-reads b.form x y z w n s keeps q in
-      let t : taken (cell_at b.form n m s) ≡ true = sym (taken-numbers (cell_at b.form n m s) x y z w c) in
+      let c : cell_at b.form n m s ≡ four x y z w = sym (cell-turn b.form n m s e h) ∙ cell-reads b.form x y z w n s keeps q in
+      let t : taken (cell_at b.form n m s) ≡ true = sym (taken-numbers (cell_at b.form n m s) _ c) in
       let r : went (reading b 1 n m l) (took_of b.form n m l s) ≡ reading b 1 (n + 1) m (l + 1) =
       sym (went-cell (reading b 1 n m l) (took_of b.form n m l s) (n + 1) (sym (took-cell b.form n m s l t)) (count-more (most b) n h)) ∙ onward-is b n m l 1 (n + 1) m few in
-      let u : stored (most b) cs n (cell_at b.form n m s) ≡ stored (most b) cs n (Numbers x y z w) = ap (stored (most b) cs n) c in
+      let u : stored (most b) cs n (cell_at b.form n m s) ≡ stored (most b) cs n (four x y z w) = ap (stored (most b) cs n) c in
       let v : rings_left_after b.form n m s rs ≡ rs = sym (rings-cell b.form n m s rs t) in
       body ∙ (λ i. state (r i) (u i) (v i))
 
@@ -116,10 +115,10 @@ module _ (b : Opening) (n m l : ℕ) (cs rs : List Float) (s : List ℕ) (few : 
       → on_line (state (reading b 1 n m l) cs rs) s ≡ state (reading b 1 n (m + 1) (l + 1)) cs (sets rs (4 * m) (x ∷ y ∷ z ∷ w ∷ []))
   unfolding on_body kept stored
   ring-step x y z w enough h k keeps q g =
-      let c : cell_at b.form n m s ≡ NoFour = no_cell b.form n m s g in
+      let c : cell_at b.form n m s ≡ None = no_cell b.form n m s g in
       let t : taken (cell_at b.form n m s) ≡ false = sym (taken_none (cell_at b.form n m s) c) in
-      let d : ring_turn b.form n s ≡ Numbers x y z w = sym (ring-turn b.form n m s enough) ∙ ring-reads x y z w s keeps q in
-      let o : taken (ring_turn b.form n s) ≡ true = sym (taken-numbers (ring_turn b.form n s) x y z w d) in
+      let d : ring_turn b.form n s ≡ four x y z w = sym (ring-turn b.form n m s enough) ∙ ring-reads x y z w s keeps q in
+      let o : taken (ring_turn b.form n s) ≡ true = sym (taken-numbers (ring_turn b.form n s) _ d) in
       let j : m < 257 = omega arith in
       let r : went (reading b 1 n m l) (took_of b.form n m l s) ≡ reading b 1 n (m + 1) (l + 1) =
       sym (went-ring (reading b 1 n m l) (took_of b.form n m l s) (m + 1) (sym (took-ring b.form n m s l t o)) (count-more 257 m j)) ∙ onward-is b n m l 1 n (m + 1) few in
@@ -132,9 +131,9 @@ module _ (b : Opening) (n m l : ℕ) (cs rs : List Float) (s : List ℕ) (few : 
       → on_line (state (reading b 1 n m l) cs rs) s ≡ state (reading b 2 n m (l + 1)) cs rs
   unfolding on_body kept stored
   end_step enough q g f =
-      let c : cell_at b.form n m s ≡ NoFour = no_cell b.form n m s g in
+      let c : cell_at b.form n m s ≡ None = no_cell b.form n m s g in
       let t : taken (cell_at b.form n m s) ≡ false = sym (taken_none (cell_at b.form n m s) c) in
-      let d : ring_turn b.form n s ≡ NoFour = sym (ring-turn b.form n m s enough) ∙ other-four 114 _ s f in
+      let d : ring_turn b.form n s ≡ None = sym (ring-turn b.form n m s enough) ∙ other-four 114 _ s f in
       let o : taken (ring_turn b.form n s) ≡ false = sym (taken_none (ring_turn b.form n s) d) in
       let r : went (reading b 1 n m l) (took_of b.form n m l s) ≡ reading b 2 n m (l + 1) =
       sym (went-end (reading b 1 n m l) (took_of b.form n m l s) (sym (took-end b.form n m s l t o (sym (end-turn b.form n m s l enough) ∙ end_reads l s q)))) ∙ onward-is b n m l 2 n m few in
@@ -146,7 +145,7 @@ module _ (b : Opening) (n m l : ℕ) (cs rs : List Float) (s : List ℕ) (few : 
 pub first_step : (b : Opening) (cs rs : List Float) (s : List ℕ) → CanSay b.form b.edition → Keeps (bar_numbers b.bar) → s ++ newline ≡ stock_line b.form b.bar b.edition
     → on_line (state fresh_reading cs rs) s ≡ state (reading b 1 0 0 1) cs rs
 first_step b cs rs s says keeps q =
-    let c : first_of s ≡ Says b.form b.edition b.bar = first_reads b.form b.edition b.bar says s keeps q in
+    let c : first_of s ≡ first_says b.form b.edition b.bar = first_reads b.form b.edition b.bar says s keeps q in
     let one : 1 ≡ next fresh_reading = omega arith in
     line_first (state fresh_reading cs rs) s refl
-    ∙ ap (λ (r : Reading). state r cs rs) (sym (begun-is fresh_reading (first_of s) _ _ _ 1 c one))
+    ∙ ap (λ (r : Reading). state r cs rs) (sym (begun-is fresh_reading (first_of s) _ 1 c one))

@@ -1,4 +1,5 @@
 -- The lines of a stock's file, case by case. Assumes nothing.
+use Rattle.std.specs.Prelude.{Result, Err, Ok}
 use Prim.Native.Nat.{ℕ, ◌+◌, ◌-◌, ◌*◌, ◌/◌, ◌≤◌, ◌<◌}
 use native.Mathlib.Omega.{arith}
 use native.Mathlib.Nat.{min-le_right}
@@ -10,7 +11,7 @@ use lib.ListN.{length}
 use lib.Ieee.{Float}
 use borrow.Author.Tests.{eq-eqb, ne_eqb, eqb-true, lt-ltb, le-ltb, lt-leb, le-leb}
 use Rattle.refusals.specs.declared.Refusal.{Refusal}
-use Rattle.refusals.specs.Number.{reason_of}
+use Rattle.refusals.specs.Number.{paper_of, reason_of}
 use Rattle.refusals.specs.Paper.{Paper, Reason, answers, refuses, only, demand, onward, demand-true, demand-false, onward-answers, onward-refuses}
 use Rattle.floats.specs.Pick.{pick_true, pick-false}
 use Rattle.stock.specs.declared.TurnStock.{TurnStock}
@@ -21,7 +22,6 @@ use Rattle.rings.specs.Store.{count_fits, room_for_rings}
 use Rattle.rings.proofs.Removing.{fits-within}
 use Rattle.text.specs.Wrote.{WroteLine}
 use Rattle.stock_lines.specs.Form.{stock_line, end_line}
-use Rattle.stock_file.specs.declared.written.Spelled.TheVariants as spelled
 use Rattle.stock_file.specs.Write.{Opening, opening_of, cell_at, ring_at, line_behind, line_at, line_for, length_of, line_over, WroteFileLine}
 
 -- the same line under another name
@@ -71,10 +71,14 @@ module _ (b : Opening) (cs : List Float) (n : ℕ) (rs : List Float) (m k : ℕ)
 pub rings-few : (e : Ring) (xs : List Float) (m : ℕ) → count_fits e xs m ≡ true → m ≤ 256
 rings-few e xs m f = omega (arith, fits-within e xs m f, min-le_right (length xs / 4) 256)
 
-pub line_refused : (p : Paper (List ℕ)) (c : Refusal) (l : List ℕ) → p ≡ refuses (reason_of c) → WroteFileLine l p (spelled.Refused c) l
-line_refused p c l e = record { answer = ap length_of (sym e); out = sym (ap (λ (q : Paper (List ℕ)). line_over q l) e) }
+-- a refusal that a call in it answered
+pub line_exits : {r : Result ℕ Refusal} {w : Reason} (p : Paper (List ℕ)) (l : List ℕ) → paper_of r ≡ refuses w → p ≡ refuses w → WroteFileLine l p r l
+line_exits p l q e = record { answer = q ∙ ap length_of (sym e); out = sym (ap (λ (q : Paper (List ℕ)). line_over q l) e) }
 
-pub line-told : (p : Paper (List ℕ)) (s l m : List ℕ) (r : ℕ) → p ≡ answers s → WroteLine l s m r → WroteFileLine l p (spelled.Bytes r) m
+pub line_refused : (p : Paper (List ℕ)) (c : Refusal) (l : List ℕ) → p ≡ refuses (reason_of c) → WroteFileLine l p (Err c) l
+line_refused p c l e = line_exits p l refl e
+
+pub line-told : (p : Paper (List ℕ)) (s l m : List ℕ) (r : ℕ) → p ≡ answers s → WroteLine l s m r → WroteFileLine l p (Ok r) m
 line-told p s l m r e w =
     let q : r ≡ length s = omega (arith, w.wrote.end) in
     record { answer = ap answers q ∙ sym (ap length_of e); out = w.wrote.text ∙ sym (ap (λ (q : Paper (List ℕ)). line_over q l) e) }

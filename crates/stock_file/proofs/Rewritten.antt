@@ -1,4 +1,5 @@
 -- Write after read: the bytes of a file that is not refused are those of the file of what it left, where the room reached and no number is a NaN. Assumes nothing.
+use Rattle.std.specs.Prelude.{Option, Some, None}
 use Prim.Native.Nat.{ℕ, zero, suc, ◌+◌, ◌-◌, ◌*◌, ◌/◌, ◌^◌, ◌≤◌, ◌<◌}
 use native.Mathlib.Omega.{arith}
 use mathlib.Core.Path.{◌≡◌, refl, sym, ap, ◌∙◌, subst}
@@ -14,12 +15,10 @@ use Rattle.text.specs.Lines.{newline, ring_line}
 use Rattle.text.proofs.Parting.{some}
 use Rattle.lines.specs.File.{pieces_of}
 use Rattle.stock_lines.specs.declared.Bar.{Bar}
-use Rattle.stock_lines.specs.declared.form.Four.TheVariants.{Numbers}
 use Rattle.stock_lines.specs.declared.Reading.{Reading}
 use Rattle.stock_lines.specs.declared.form.First.{First}
-use Rattle.stock_lines.specs.declared.form.First.TheVariants.{Says, NoFirst}
-use Rattle.stock_lines.specs.Form.{Counts, line_of, four_of, bar_numbers, cell_prefix, ring_prefix, end_line, kept_cell_line}
-use Rattle.stock_lines.specs.First.{first_of, CanSay}
+use Rattle.stock_lines.specs.Form.{Counts, line_of, four_of, bar_numbers, cell_prefix, ring_prefix, end_line, kept_cell_line, four}
+use Rattle.stock_lines.specs.First.{first_of, CanSay, first_says}
 use Rattle.stock_lines.specs.Room.{kept, stored}
 use Rattle.stock_lines.specs.Reading.{State, state, next, count_to, refusing, begun, on_line}
 use Rattle.stock_lines.proofs.Forms.{NoNan}
@@ -62,12 +61,12 @@ put-here l i x y z w h =
     }
 
 -- and stay there to the end
-kept_here : (limit n n' : ℕ) (l l' : List Float) (x y z w : Float) → n < limit → n < n' → 4 * n' ≤ length l' → Filled (n + 1) n' (stored limit l n (Numbers x y z w)) l' → length (stored limit l n (Numbers x y z w)) ≡ length l
+kept_here : (limit n n' : ℕ) (l l' : List Float) (x y z w : Float) → n < limit → n < n' → 4 * n' ≤ length l' → Filled (n + 1) n' (stored limit l n (four x y z w)) l' → length (stored limit l n (four x y z w)) ≡ length l
     → Here l' (4 * n) x y z w
 unfolding stored kept
 kept_here limit n n' l l' x y z w h k room f long =
     let m : n < length l / 4 = omega (arith, f.long) in
-    let q : stored limit l n (Numbers x y z w) ≡ sets l (4 * n) (x ∷ y ∷ z ∷ w ∷ []) = pick_true _ _ _ (lt-ltb _ _ h) ∙ pick_true _ _ _ (lt-ltb _ _ m) in
+    let q : stored limit l n (four x y z w) ≡ sets l (4 * n) (x ∷ y ∷ z ∷ w ∷ []) = pick_true _ _ _ (lt-ltb _ _ h) ∙ pick_true _ _ _ (lt-ltb _ _ m) in
     let p = put-here l (4 * n) x y z w (omega arith) in
     let at : (i : ℕ) → i < 4 * (n + 1) → get_or l' i nan ≡ get_or (sets l (4 * n) (x ∷ y ∷ z ∷ w ∷ [])) i nan = λ i g. f.before i g ∙ ap (λ (v : List Float). get_or v i nan) q in
     record {
@@ -77,7 +76,7 @@ kept_here limit n n' l l' x y z w h k room f long =
       fourth = at (4 * n + 3) (omega arith) ∙ p.fourth;
     }
 
-stored-long : (limit n : ℕ) (l : List Float) (x y z w : Float) → length (stored limit l n (Numbers x y z w)) ≡ length l
+stored-long : (limit n : ℕ) (l : List Float) (x y z w : Float) → length (stored limit l n (four x y z w)) ≡ length l
 unfolding stored kept
 stored-long limit n l x y z w = by (ltb n limit) refl (ltb n (length l / 4)) refl
   where
@@ -159,17 +158,17 @@ module _ (b : Opening) (fin : State) (sound : Sound fin) where
     later : (st' : State) → walk st' (q ∷ ls) ≡ fin → Stays st' fin
     later st' k = subst (Stays st') k (pieces-stay (q ∷ ls) st')
 
-    a-cell : (x y z w : Float) → m ≡ 0 → n < (most b) → four_of (line_of (cell_prefix b.form n) 4 p) ≡ Numbers x y z w
-        → on_line st p ≡ state (reading b 1 (n + 1) m (l + 1)) (stored (most b) cs n (Numbers x y z w)) rs → Rest n m l (p ∷ q ∷ ls)
+    a-cell : (x y z w : Float) → m ≡ 0 → n < (most b) → four_of (line_of (cell_prefix b.form n) 4 p) ≡ four x y z w
+        → on_line st p ≡ state (reading b 1 (n + 1) m (l + 1)) (stored (most b) cs n (four x y z w)) rs → Rest n m l (p ∷ q ∷ ls)
     a-cell x y z w em lt h k =
-        let st' : State = state (reading b 1 (n + 1) m (l + 1)) (stored (most b) cs n (Numbers x y z w)) rs in
+        let st' : State = state (reading b 1 (n + 1) m (l + 1)) (stored (most b) cs n (four x y z w)) rs in
         let e' = left st' k in
         let s = later st' e' in
         let g : n + 1 ≤ N = s.cells.grows in
         let below : n < N = omega arith in
         let here = kept_here (most b) n N cs fin.cells x y z w lt below sound.room s.cells (stored-long (most b) n cs x y z w) in
-        let four : four_at fin.cells n ≡ x ∷ y ∷ z ∷ w ∷ [] = λ j. here.first j ∷ here.second j ∷ here.third j ∷ here.fourth j ∷ [] in
-        let t : p ++ newline ≡ kept_cell_line b.form n x y z w = cell-spelled b.form x y z w n p (subst NoNan four (sound.cells n below)) h in
+        let numbers : four_at fin.cells n ≡ x ∷ y ∷ z ∷ w ∷ [] = λ j. here.first j ∷ here.second j ∷ here.third j ∷ here.fourth j ∷ [] in
+        let t : p ++ newline ≡ kept_cell_line b.form n x y z w = cell-spelled b.form x y z w n p (subst NoNan numbers (sound.cells n below)) h in
         let u : cell_at b.form fin.cells n ≡ kept_cell_line b.form n x y z w = λ j. kept_cell_line b.form n (here.first j) (here.second j) (here.third j) (here.fourth j) in
         let i : n ≡ l - 1 = omega arith in
         let v : l - 1 < N = omega arith in
@@ -187,19 +186,19 @@ module _ (b : Opening) (fin : State) (sound : Sound fin) where
             let c : m ≡ count_to 257 m = count-full 257 m w in
             absurd (omega (arith, sound.few))
 
-    a-ring : (x y z w : Float) → four_of (line_of ring_prefix 4 p) ≡ Numbers x y z w
-        → on_line st p ≡ state (reading b 1 n (count_to 257 m) (l + 1)) cs (stored 256 rs m (Numbers x y z w)) → Rest n m l (p ∷ q ∷ ls)
+    a-ring : (x y z w : Float) → four_of (line_of ring_prefix 4 p) ≡ four x y z w
+        → on_line st p ≡ state (reading b 1 n (count_to 257 m) (l + 1)) cs (stored 256 rs m (four x y z w)) → Rest n m l (p ∷ q ∷ ls)
     a-ring x y z w h k =
-        let st' : State = state (reading b 1 n (count_to 257 m) (l + 1)) cs (stored 256 rs m (Numbers x y z w)) in
+        let st' : State = state (reading b 1 n (count_to 257 m) (l + 1)) cs (stored 256 rs m (four x y z w)) in
         let e' = left st' k in
         let s = later st' e' in
         let g : count_to 257 m ≤ M = s.rings.grows in
         let c : m + 1 ≡ count_to 257 m = more-rings g in
         let below : m < M = omega arith in
         let lt : m < 256 = omega (arith, sound.few) in
-        let here = kept_here 256 m M rs fin.rings x y z w lt below sound.space (subst (λ (i : ℕ). Filled i M (stored 256 rs m (Numbers x y z w)) fin.rings) (sym c) s.rings) (stored-long 256 m rs x y z w) in
-        let four : four_at fin.rings m ≡ x ∷ y ∷ z ∷ w ∷ [] = λ j. here.first j ∷ here.second j ∷ here.third j ∷ here.fourth j ∷ [] in
-        let t : p ++ newline ≡ ring_line x y z w = ring-spelled x y z w p (subst NoNan four (sound.rings m below)) h in
+        let here = kept_here 256 m M rs fin.rings x y z w lt below sound.space (subst (λ (i : ℕ). Filled i M (stored 256 rs m (four x y z w)) fin.rings) (sym c) s.rings) (stored-long 256 m rs x y z w) in
+        let numbers : four_at fin.rings m ≡ x ∷ y ∷ z ∷ w ∷ [] = λ j. here.first j ∷ here.second j ∷ here.third j ∷ here.fourth j ∷ [] in
+        let t : p ++ newline ≡ ring_line x y z w = ring-spelled x y z w p (subst NoNan numbers (sound.rings m below)) h in
         let u : ring_at fin.rings m ≡ ring_line x y z w = λ j. ring_line (here.first j) (here.second j) (here.third j) (here.fourth j) in
         let r = again n (count_to 257 m) (l + 1) cs _ e' top (omega arith) (omega arith) in
         let f : N ≡ n = r.fixed (omega arith) in
@@ -259,10 +258,10 @@ lines-joined f zero k i e = let q : i ≡ k = omega arith in append-nil (lines_t
 lines-joined f (suc j) k i e = sym (append_assoc (lines_to f k) (f k) (lines_from f (suc k) j)) ∙ lines-joined f j (suc k) i (omega arith)
 
 -- what the first line said
-told : (f : First) (r : Reading) → (begun r f).refused ≡ false → (k : ℕ) × (e : ℕ) × (b : Bar) × (f ≡ Says k e b)
+told : (f : Option First) (r : Reading) → (begun r f).refused ≡ false → (k : ℕ) × (e : ℕ) × (b : Bar) × (f ≡ first_says k e b)
 unfolding begun refusing
-told (Says k e b) r h = (k, e, b, refl)
-told NoFirst r h = absurd (true≢false h)
+told (Some f) r h = (f.form, f.edition, f.bar, refl)
+told None r h = absurd (true≢false h)
 
 -- bytes that are the file of what they left, in a form that can say its edition and has so many cell lines
 pub record IsFile (fin : State) (s : List ℕ) : Type 0 where
@@ -295,7 +294,7 @@ bytes-spelled C R s sound numbers few = by (pieces_of s) refl (some 10 s)
         let t = told (first_of p) fresh_reading (ap stopped (sym f) ∙ g) in
         let b : Opening = opening t.0 t.1 t.2 in
         let one : 1 ≡ next fresh_reading = omega arith in
-        let m : on_line st p ≡ state (reading b 1 0 0 1) C R = f ∙ ap (λ (r : Reading). state r C R) (sym (begun-is fresh_reading (first_of p) _ _ _ 1 t.3 one)) in
+        let m : on_line st p ≡ state (reading b 1 0 0 1) C R = f ∙ ap (λ (r : Reading). state r C R) (sym (begun-is fresh_reading (first_of p) _ 1 t.3 one)) in
         let few' : 1 + length (q ∷ ls) < 2 ^ 64 = omega (arith, ap length e) in
         let r = rest b fin sound (q ∷ ls) (omega arith) 0 0 1 C R (ap (λ (x : State). walk x (q ∷ ls)) (sym m) ∙ n) (omega arith) refl few' in
         let w = first-spelled p t.0 t.1 t.2 t.3 in

@@ -1,4 +1,5 @@
 -- A file that tells a stock: what 1 to 4 asked, and so that in its form it is the only file of that stock. Assumes nothing.
+use Rattle.std.specs.Prelude.{Option, Some, None}
 use Prim.Native.Nat.{ℕ, ◌+◌, ◌*◌, ◌/◌, ◌^◌, ◌≤◌, ◌<◌}
 use native.Mathlib.Omega.{arith}
 use native.Mathlib.Nat.{min-le_left, min-le_right}
@@ -25,11 +26,12 @@ use Rattle.rings.specs.Store.{ring_at, rings_of, bar_ring, room_for_rings, ring_
 use Rattle.rings.proofs.Removing.{fits-within}
 use Rattle.rings.proofs.Fitting.{fits-of}
 use Rattle.lines.specs.File.{pieces_of}
-use Rattle.stock_lines.specs.Form.{few_cells, written_form, bar_numbers}
+use Rattle.stock_lines.specs.Form.{few_cells, written_form, bar_numbers, four}
 use Rattle.stock_lines.proofs.Steps.{form-told}
 use Rattle.stock_lines.specs.Reading.{State}
 use Rattle.stock_lines.proofs.Forms.{NoNan, none, more}
-use Rattle.stock_file.specs.Read.{stopped, spec_of, front_of, Stocked, stocked_of, stock_in, told_as, file_in, read_of}
+use Rattle.stock_file.specs.declared.Kept.{Kept}
+use Rattle.stock_file.specs.Read.{stopped, spec_of, front_of, stocked_of, stock_in, told_as, file_in, read_of}
 use Rattle.stock_file.specs.Write.{opening, file_of}
 use Rattle.stock_file.proofs.Ends.{front-short, front_long}
 use Rattle.stock_file.proofs.ReadBack.{four_at}
@@ -92,14 +94,14 @@ front-four cs n i h =
 
 -- ---- what an answer says
 
-pub record Told (st : State) (most : ℕ) (k : Stocked) : Type 0 where
+pub record Told (st : State) (most : ℕ) (k : Kept) : Type 0 where
   pub goes : stopped st ≡ false
   pub count : ℕ
   pub stock : stock_of (spec_of st.reading.bar most) (front_of st.reading.cells st.cells) ≡ answers count
   pub fits : count_fits (bar_ring (clean_spec (spec_of st.reading.bar most))) st.rings st.reading.rings ≡ true
   pub told : stocked_of (spec_of st.reading.bar most) st.reading.edition count st.reading.rings ≡ k
 
-pub tells : (st : State) (most : ℕ) (k : Stocked) → told_as st.reading most st.cells st.rings ≡ answers k → Told st most k
+pub tells : (st : State) (most : ℕ) (k : Kept) → told_as st.reading most st.cells st.rings ≡ answers k → Told st most k
 unfolding told_as stock_in onward
 tells st most k e = by (stopped st) refl
   where
@@ -117,7 +119,7 @@ tells st most k e = by (stopped st) refl
     by true g = absurd (no_answer (at 16 st.reading.lines) k (sym (demand_at-false _ _ _ _ (ap not g)) ∙ e))
     by false g = rest (stock_of s (front_of st.reading.cells st.cells)) refl g (sym (demand_at-true _ _ _ _ (ap not g)) ∙ e)
 
-module _ (st : State) (most : ℕ) (k : Stocked) (t : Told st most k) where
+module _ (st : State) (most : ℕ) (k : Kept) (t : Told st most k) where
   abbrev spec : TurnStockSpec
   spec = spec_of st.reading.bar most
 
@@ -189,13 +191,13 @@ abbrev pub file_as : ℕ → State → List ℕ
 file_as form st = file_of (opening form st.reading.edition st.reading.bar) st.cells st.reading.cells st.rings st.reading.rings
 
 -- bytes that tell a stock, of fewer than 2^64 lines, are the bytes of its file in the form that they name, which can say its edition
-pub told-in-form : (most : ℕ) (C R : List Float) (s : List ℕ) (k : Stocked) → read_of most C R s ≡ answers k → length (pieces_of s) < 2 ^ 64 → IsFile (file_in C R s) s
+pub told-in-form : (most : ℕ) (C R : List Float) (s : List ℕ) (k : Kept) → read_of most C R s ≡ answers k → length (pieces_of s) < 2 ^ 64 → IsFile (file_in C R s) s
 told-in-form most C R s k e few =
     let t = tells (file_in C R s) most k e in
     bytes-spelled C R s (told-sound (file_in C R s) most k t) (bar-numbers (file_in C R s) most k t) few
 
 -- WRITE AFTER READ: they are its file in the form that its number of cells determines, or, where it is of edition 0 and few cells, its file in form 1, and there is no third
-pub told-spelled : (most : ℕ) (C R : List Float) (s : List ℕ) (k : Stocked) → read_of most C R s ≡ answers k → length (pieces_of s) < 2 ^ 64
+pub told-spelled : (most : ℕ) (C R : List Float) (s : List ℕ) (k : Kept) → read_of most C R s ≡ answers k → length (pieces_of s) < 2 ^ 64
     → (s ≡ file_as (written_form (file_in C R s).reading.cells) (file_in C R s)) ⊎ (((file_in C R s).reading.edition ≡ 0) × ((file_in C R s).reading.cells ≤ few_cells) × (s ≡ file_as 1 (file_in C R s)))
 told-spelled most C R s k e few =
     let w = told-in-form most C R s k e few in
@@ -210,7 +212,7 @@ told-spelled most C R s k e few =
     by t (inr f) = inr (f.1, f.2, t ∙ ap (λ (x : ℕ). file_as x fin) f.0)
 
 -- SO NO TWO FILES OF A FORM tell the same: two that leave the same form, edition, bar, counts and numbers, ring order counted, are the same bytes
-pub told-unique : (most : ℕ) (C R : List Float) (s u : List ℕ) (k j : Stocked) → read_of most C R s ≡ answers k → read_of most C R u ≡ answers j → length (pieces_of s) < 2 ^ 64 → length (pieces_of u) < 2 ^ 64
+pub told-unique : (most : ℕ) (C R : List Float) (s u : List ℕ) (k j : Kept) → read_of most C R s ≡ answers k → read_of most C R u ≡ answers j → length (pieces_of s) < 2 ^ 64 → length (pieces_of u) < 2 ^ 64
     → (file_in C R s).reading.form ≡ (file_in C R u).reading.form → (file_in C R s).reading.edition ≡ (file_in C R u).reading.edition
     → (file_in C R s).reading.bar ≡ (file_in C R u).reading.bar → (file_in C R s).cells ≡ (file_in C R u).cells → (file_in C R s).reading.cells ≡ (file_in C R u).reading.cells → (file_in C R s).rings ≡ (file_in C R u).rings
     → (file_in C R s).reading.rings ≡ (file_in C R u).reading.rings → s ≡ u

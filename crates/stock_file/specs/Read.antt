@@ -1,12 +1,10 @@
 -- A stock file read: its bytes as they come, what its end tells, and the rule of a whole file. Assumes nothing.
 use Rattle.std.specs.Prelude.{◌≡◌, ℕ, ◌+◌, ◌*◌, ◌/◌, ◌≤◌, ◌<◌, min, Bool, false, not, List, [], ltb, leb, eqb, length, take, drop, Float}
-use Rattle.refusals.specs.Number.{number_of, reason_of}
-use Rattle.refusals.specs.Paper.{Paper, answers, refuses, at, demand, demand_at, onward}
+use Rattle.refusals.specs.Paper.{Paper, answers, demand, demand_at, onward}
 use Rattle.refusals.specs.Lent.{Lent, over}
 use Rattle.floats.specs.Pick.{pick}
 use Rattle.floats.specs.Numbers.{zero64}
 use Rattle.stock.specs.declared.TurnStockSpec.{TurnStockSpec}
-use Rattle.stock.specs.declared.TurnStock.{TurnStock}
 use Rattle.stock.specs.Spec.{clean_spec}
 use Rattle.stock.specs.Cell.{stock_of}
 use Rattle.stock.specs.Stock.{stock_from}
@@ -20,7 +18,6 @@ use Rattle.stock_lines.specs.Reading.{State, state, refusing, on_line, state_fou
 use Rattle.stock_file.specs.declared.Taken.{Taken}
 use Rattle.stock_file.specs.declared.Run.{Run}
 use Rattle.stock_file.specs.declared.Kept.{Kept}
-use Rattle.stock_file.specs.declared.Kept.TheVariants.{Stock, Refused, RefusedAt}
 
 -- before the first line
 abbrev pub fresh_reading : Reading
@@ -105,31 +102,20 @@ spec_of b most = record { z_min_mm = b.z_min_mm; z_max_mm = b.z_max_mm; outer_ra
 unfoldable pub front_of : ℕ → List Float → List Float
 front_of n xs = pick (leb n (length xs / 4)) (take (4 * n) xs) []
 
--- a stock of so many cells, which stand first in the lent room, as its rings do
-pub record Stocked : Type 0 where
-  pub stock : TurnStock
-  pub cells : ℕ
-
 -- the stock of a file, at generation 0
-abbrev pub stocked_of : TurnStockSpec → ℕ → ℕ → ℕ → Stocked
+abbrev pub stocked_of : TurnStockSpec → ℕ → ℕ → ℕ → Kept
 stocked_of spec edition n m = record { stock = stock_from (clean_spec spec) edition m 0; cells = n }
 
 -- a whole file of an edition, with n cells and m rings; 1, 2, 3 also where n is another number or more than the room, 4
-unfoldable pub stock_in : TurnStockSpec → ℕ → ℕ → List Float → ℕ → List Float → Paper Stocked
+unfoldable pub stock_in : TurnStockSpec → ℕ → ℕ → List Float → ℕ → List Float → Paper Kept
 stock_in spec edition n cs m rs =
     onward (stock_of spec (front_of n cs)) (λ k.
     demand (count_fits (bar_ring (clean_spec spec)) rs m) 4
     (answers (stocked_of spec edition k m)))
 
 -- what a reading tells at its end: 16 at the line that was refused, or else the stock
-unfoldable pub told_as : Reading → ℕ → List Float → List Float → Paper Stocked
+unfoldable pub told_as : Reading → ℕ → List Float → List Float → Paper Kept
 told_as r most cs rs = demand_at (not r.refused) 16 r.lines (stock_in (spec_of r.bar most) r.edition r.cells cs r.rings rs)
-
--- what the answer of `finish` says, case by case
-abbrev pub kept_paper : Kept → Paper Stocked
-kept_paper (Stock k n) = answers (record { stock = k; cells = n })
-kept_paper (Refused c) = refuses (reason_of c)
-kept_paper (RefusedAt c k) = refuses (at (number_of c) k)
 
 -- ---- a whole file, in a lent room
 
@@ -138,5 +124,5 @@ abbrev pub file_in : List Float → List Float → List ℕ → State
 file_in cs rs s = over_pieces stopped on_line on_long on_end (state fresh_reading cs rs) (pieces_of s)
 
 -- what it tells; 16, 1, 2, 3, 4
-abbrev pub read_of : ℕ → List Float → List Float → List ℕ → Paper Stocked
+abbrev pub read_of : ℕ → List Float → List Float → List ℕ → Paper Kept
 read_of most cs rs s = told_as (file_in cs rs s).reading most (file_in cs rs s).cells (file_in cs rs s).rings

@@ -1,8 +1,9 @@
 -- A stock's file in a form: its lines, each ended by a newline. Assumes nothing.
-use Rattle.std.specs.Prelude.{◌≡◌, ℕ, zero, suc, ◌+◌, ◌-◌, ◌*◌, List, [], ◌++◌, ltb, leb, eqb, length, get_or, Float}
+use Rattle.std.specs.Prelude.{◌≡◌, ℕ, zero, suc, ◌+◌, ◌-◌, ◌*◌, List, [], ◌++◌, ltb, leb, eqb, length, get_or, Float, Err, Ok, Result}
 use Rattle.std.proofs.lemmas.List.Edits.{sets}
 use Rattle.std.specs.Float.{nan}
-use Rattle.refusals.specs.Number.{reason_of}
+use Rattle.refusals.specs.declared.Refusal.{Refusal}
+use Rattle.refusals.specs.Number.{reason_of, paper_of}
 use Rattle.refusals.specs.Paper.{Paper, answers, refuses, demand, onward}
 use Rattle.refusals.specs.Lent.{Lent}
 use Rattle.floats.specs.Pick.{pick}
@@ -14,10 +15,6 @@ use Rattle.rings.specs.Store.{bar_ring, count_fits, room_for_rings}
 use Rattle.text.specs.Lines.{ring_line}
 use Rattle.stock_lines.specs.declared.Bar.{Bar}
 use Rattle.stock_lines.specs.Form.{written_form, stock_line, kept_cell_line, end_line}
-use Rattle.stock_file.specs.declared.written.Lines.{Lines}
-use Rattle.stock_file.specs.declared.written.Lines.TheVariants as lines
-use Rattle.stock_file.specs.declared.written.Spelled.{Spelled}
-use Rattle.stock_file.specs.declared.written.Spelled.TheVariants as spelled
 
 -- the numbers of a spec that a file keeps, -0.0 as +0.0
 abbrev pub bar_of : TurnStockSpec → Bar
@@ -76,15 +73,6 @@ line_for stock cs rs k =
     demand (leb stock.rings (room_for_rings (length rs))) 4
     (answers (line_at (opening_of stock n) cs n rs stock.rings k)))
 
--- what the answers say, case by case
-abbrev pub lines_paper : Lines → Paper ℕ
-lines_paper (lines.Count n) = answers n
-lines_paper (lines.Refused c) = refuses (reason_of c)
-
-abbrev pub line_paper : Spelled → Paper ℕ
-line_paper (spelled.Bytes n) = answers n
-line_paper (spelled.Refused c) = refuses (reason_of c)
-
 -- how long a line is
 abbrev pub length_of : Paper (List ℕ) → Paper ℕ
 length_of (answers s) = answers (length s)
@@ -95,9 +83,9 @@ abbrev pub line_over : Paper (List ℕ) → List ℕ → List ℕ
 line_over (answers s) l = sets l 0 s
 line_over (refuses r) l = l
 
-pub record WroteFileLine (l : List ℕ) (p : Paper (List ℕ)) (r : Spelled) (m : List ℕ) : Type 0 where
-  pub answer : line_paper r ≡ length_of p
+pub record WroteFileLine (l : List ℕ) (p : Paper (List ℕ)) (r : Result ℕ Refusal) (m : List ℕ) : Type 0 where
+  pub answer : paper_of r ≡ length_of p
   pub out : m ≡ line_over p l
 
-abbrev pub WritesFileLine : Lent ℕ → Paper (List ℕ) → Spelled → Type 0
+abbrev pub WritesFileLine : Lent ℕ → Paper (List ℕ) → (Result ℕ Refusal) → Type 0
 WritesFileLine out p r = WroteFileLine out.entry.now p r out.exit.now

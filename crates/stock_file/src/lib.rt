@@ -9,16 +9,17 @@
 mod written;
 
 ghost use Rattle.std.specs.Prelude.{◌≡◌, ◌*◌, ◌≤◌, ◌<◌, [], length, set};
+ghost use Rattle.refusals.specs.Number.{placed_of};
 ghost use Rattle.stock.specs.Spec.{clean_spec};
 ghost use Rattle.stock.specs.Stock.{stock_from};
 ghost use Rattle.text.specs.Wrote.{line_room};
-ghost use Rattle.stock_file.specs.Read.{fresh_reading, front_of, spec_of, ended, kept_paper, told_as, ByteTaken, HoldsOn, RunTaken, BytesTaken, TakesPart};
+ghost use Rattle.stock_file.specs.Read.{fresh_reading, front_of, spec_of, ended, told_as, ByteTaken, HoldsOn, RunTaken, BytesTaken, TakesPart};
 
-use refusals::Refusal;
-use stock::{Counted, Stamp, TurnStock, TurnStockSpec};
+use refusals::{Refusal, Refused};
+use stock::{Stamp, TurnStock, TurnStockSpec};
 use stock_lines::{Bar, Reading};
 use text::LINE_ROOM;
-pub use written::{Lines, Spelled, file_line, line_count};
+pub use written::{file_line, line_count};
 
 // A line without its newline has so many bytes at most.
 const LONGEST: usize = LINE_ROOM - 1;
@@ -39,12 +40,11 @@ struct Run {
 }
 
 // What a file told: a stock at generation 0, and how many cells it has, which stand first in the lent
-// room, as its rings do; or that it is refused, with 16 at a line.
+// room, as its rings do.
 #[derive(Clone, Copy)]
-pub enum Kept {
-    Stock(TurnStock, usize),
-    Refused(Refusal),
-    RefusedAt(Refusal, usize),
+pub struct Kept {
+    pub stock: TurnStock,
+    pub cells: usize,
 }
 
 // Before the first byte.
@@ -119,8 +119,7 @@ fn hold_bytes(line: &mut [u8], len: usize, bytes: &[u8], from: usize) -> usize
     requires { (len ≤ 127) × (length line.old ≡ line_room) × (from ≤ length bytes.now) }
     ensures { HoldsOn len line.old bytes.now from result line.new }
 {
-    let mut m: usize = 0;
-    while m < LONGEST - len {
+    for m in 0..LONGEST - len {
         let at = from + m;
         if bytes.len() <= at {
             return m;
@@ -130,9 +129,8 @@ fn hold_bytes(line: &mut [u8], len: usize, bytes: &[u8], from: usize) -> usize
             return m;
         }
         put_byte(line, len + m, b);
-        m += 1;
     }
-    m
+    LONGEST - len
 }
 
 // The bytes from a place on up to the end of their line, and that end; a refused line is the last.
@@ -274,22 +272,26 @@ fn front(xs: &[f64], n: usize) -> &[f64]
 }
 
 // The end of the bytes, where len of an unfinished line are held; 16 at a line, 1, 2, 3, 4.
-pub fn finish(reading: Reading, len: usize, most: usize, cells: &[f64], rings: &[f64]) -> Kept
-    ensures { kept_paper result ≡ told_as (ended reading len) most cells.now rings.now }
+pub fn finish(
+    reading: Reading,
+    len: usize,
+    most: usize,
+    cells: &[f64],
+    rings: &[f64],
+) -> Result<Kept, Refused>
+    ensures { placed_of result ≡ told_as (ended reading len) most cells.now rings.now }
 {
     let last = end(reading, len);
     if last.refused {
-        return Kept::RefusedAt(Refusal::FileMalformed, last.lines as usize);
+        return Err(Refused::at(Refusal::FileMalformed, last.lines as usize));
     }
     let spec = spec_of(last.bar, most);
-    let counted = stock::cells_fit(spec, front(cells, last.cells));
-    match counted {
-        Counted::Refused(r) => Kept::Refused(r),
-        Counted::Cells(n) => {
-            if rings::rings_fit(spec, rings, last.rings) {
-                return Kept::Stock(stock_from(spec, last.edition, last.rings), n);
-            }
-            Kept::Refused(Refusal::StoredRings)
-        }
+    let n = stock::cells_fit(spec, front(cells, last.cells))?;
+    if rings::rings_fit(spec, rings, last.rings) {
+        return Ok(Kept {
+            stock: stock_from(spec, last.edition, last.rings),
+            cells: n,
+        });
     }
+    Err(Refused::from(Refusal::StoredRings))
 }

@@ -1,28 +1,15 @@
 // The lines of a stock's file, one by one: the first with its bar and its edition, one for each cell, one
 // for each ring, and `end` with the count of those before it. The number of cells says the form.
 ghost use Rattle.std.specs.Prelude.{◌≡◌, ◌+◌, ◌*◌, ◌≤◌, length};
-ghost use Rattle.stock_file.specs.Write.{bar_of, opening, lines_paper, line_count, cell_at, ring_at, line_at, line_for, WritesFileLine};
+ghost use Rattle.refusals.specs.Number.{paper_of};
+ghost use Rattle.stock_file.specs.Write.{bar_of, opening, line_count, cell_at, ring_at, line_at, line_for, WritesFileLine};
 ghost use Rattle.stock_lines.specs.Form.{written_form};
 ghost use Rattle.text.specs.Wrote.{WritesLine};
 
 use refusals::{RING_LIMIT, Refusal};
-use stock::{Counted, TurnStock, TurnStockSpec};
+use stock::{TurnStock, TurnStockSpec};
 use stock_lines::Bar;
 use text::LINE_ROOM;
-
-// How many lines a file has, `end` too.
-#[derive(Clone, Copy)]
-pub enum Lines {
-    Count(usize),
-    Refused(Refusal),
-}
-
-// How many bytes a line has, its newline too; 0 behind the last.
-#[derive(Clone, Copy)]
-pub enum Spelled {
-    Bytes(usize),
-    Refused(Refusal),
-}
 
 // The numbers of a spec that a file keeps, -0.0 as +0.0.
 fn bar_of(spec: TurnStockSpec) -> Bar
@@ -39,19 +26,19 @@ fn bar_of(spec: TurnStockSpec) -> Bar
 }
 
 // How many lines the file of a stock has; 1, 2, 3, 4.
-pub fn line_count(spec: TurnStockSpec, cells: &[f64], rings: &[f64], count: usize) -> Lines
-    ensures { lines_paper result ≡ line_count spec cells.now rings.now count }
+pub fn line_count(
+    spec: TurnStockSpec,
+    cells: &[f64],
+    rings: &[f64],
+    count: usize,
+) -> Result<usize, Refusal>
+    ensures { paper_of result ≡ line_count spec cells.now rings.now count }
 {
-    let counted = stock::cells_fit(spec, cells);
-    match counted {
-        Counted::Refused(r) => Lines::Refused(r),
-        Counted::Cells(n) => {
-            if rings::rings_fit(spec, rings, count) {
-                return Lines::Count(n + count + 2);
-            }
-            Lines::Refused(Refusal::StoredRings)
-        }
+    let n = stock::cells_fit(spec, cells)?;
+    if rings::rings_fit(spec, rings, count) {
+        return Ok(n + count + 2);
     }
+    Err(Refusal::StoredRings)
 }
 
 // The line of the cell at i of n.
@@ -119,23 +106,18 @@ pub fn file_line(
     cells: &[f64],
     rings: &[f64],
     k: usize,
-) -> Spelled
+) -> Result<usize, Refusal>
     ensures { WritesFileLine out (line_for stock cells.now rings.now k) result }
 {
     let spec = stock.spec;
     let edition = stock.stamp.edition;
     let m = stock.rings;
-    let counted = stock::validate(spec);
-    match counted {
-        Counted::Refused(r) => Spelled::Refused(r),
-        Counted::Cells(n) => {
-            if cells.len() != 4 * n {
-                return Spelled::Refused(Refusal::CellsDoNotFit);
-            }
-            if numbers::lesser(rings.len() / 4, RING_LIMIT) < m {
-                return Spelled::Refused(Refusal::StoredRings);
-            }
-            Spelled::Bytes(put_line(out, bar_of(spec), edition, cells, n, rings, m, k))
-        }
+    let n = stock::validate(spec)?;
+    if cells.len() != 4 * n {
+        return Err(Refusal::CellsDoNotFit);
     }
+    if numbers::lesser(rings.len() / 4, RING_LIMIT) < m {
+        return Err(Refusal::StoredRings);
+    }
+    Ok(put_line(out, bar_of(spec), edition, cells, n, rings, m, k))
 }

@@ -1,13 +1,14 @@
 -- Each kind of line: read after write, write after read, and no two lines for the same numbers. Assumes nothing.
-use Rattle.std.proofs.Common.{◌≡◌, ℕ, suc, ◌^◌, ◌<◌, true, List, [], ◌∷◌, ◌++◌, length, get_or, take, drop, sym, refl, ap, ◌∙◌, append_assoc, arith, length-append}
+use Rattle.std.proofs.Common.{◌≡◌, ℕ, suc, ◌^◌, ◌<◌, true, List, [], ◌∷◌, ◌++◌, length, get_or, take, drop, sym, refl, ap, ◌∙◌, append_assoc, arith, length-append, Option, Some, None}
 use lib.Ieee.{Float, nan}
+use Rattle.std.proofs.lemmas.Option.{same_Some}
 use Rattle.text.specs.Same.{same_bytes}
 use Rattle.text.specs.Lines.{newline, ring_line}
 use Rattle.text.proofs.Spelling.{digits-length}
 use Rattle.text.proofs.Distinct.{cancel, digits-distinct, decimal-distinct}
-use Rattle.stock_lines.specs.declared.form.Four.TheVariants.{Numbers, NoFour}
-use Rattle.stock_lines.specs.declared.form.Five.TheVariants.{Spec, NoFive}
-use Rattle.stock_lines.specs.Form.{Line, holds, other, form_of, line_of, fields_text, cell_prefix, ring_prefix, end_text, kept_cell_line, end_line, four_of, five_of}
+use Rattle.stock_lines.specs.declared.Bar.{Bar}
+use Rattle.stock_lines.specs.declared.form.Four.{Four}
+use Rattle.stock_lines.specs.Form.{Line, holds, other, form_of, line_of, fields_text, cell_prefix, ring_prefix, end_text, kept_cell_line, end_line, four, four_of, five_of, bar_numbers}
 use Rattle.text.proofs.Compare.{same_self, same_true}
 use Rattle.stock_lines.proofs.Forms.{Keeps, NoNan, line-parted, line-back, line-spelled, fields-count, fields-then}
 
@@ -56,73 +57,62 @@ list-of-five (a ∷ b ∷ c ∷ d ∷ []) e = absurd (omega arith)
 list-of-five (a ∷ b ∷ c ∷ d ∷ f ∷ []) e = refl
 list-of-five (a ∷ b ∷ c ∷ d ∷ f ∷ g ∷ xs) e = absurd (omega arith)
 
-four-holds : (p s : List ℕ) (a b c d : Float) → four_of (line_of p 4 s) ≡ Numbers a b c d → line_of p 4 s ≡ holds (a ∷ b ∷ c ∷ d ∷ [])
+four-holds : (p s : List ℕ) (a b c d : Float) → four_of (line_of p 4 s) ≡ four a b c d → line_of p 4 s ≡ holds (a ∷ b ∷ c ∷ d ∷ [])
 unfolding four_of
 four-holds p s a b c d e = by (line_of p 4 s) refl
   where
     by : (l : Line) → line_of p 4 s ≡ l → line_of p 4 s ≡ holds (a ∷ b ∷ c ∷ d ∷ [])
     by other f =
-        let g : NoFour ≡ Numbers a b c d = sym (ap four_of f) ∙ e in
+        let g : ◌≡◌ {A = Option Four} None (four a b c d) = sym (ap four_of f) ∙ e in
         let z : ◌≡◌ {A = ℕ} 0 1 = cc in
         absurd (omega arith)
     by (holds xs) f =
-        let g : Numbers (get_or xs 0 nan) (get_or xs 1 nan) (get_or xs 2 nan) (get_or xs 3 nan) ≡ Numbers a b c d = sym (ap four_of f) ∙ e in
-        let q0 : get_or xs 0 nan ≡ a = cc in
-        let q1 : get_or xs 1 nan ≡ b = cc in
-        let q2 : get_or xs 2 nan ≡ c = cc in
-        let q3 : get_or xs 3 nan ≡ d = cc in
+        let g : ◌≡◌ {A = Four} (record { a = get_or xs 0 nan; b = get_or xs 1 nan; c = get_or xs 2 nan; d = get_or xs 3 nan }) (record { a = a; b = b; c = c; d = d }) = same_Some _ _ (sym (ap four_of f) ∙ e) in
         let n : length xs ≡ 4 = fields-count 4 _ xs (line-parted p 4 s xs f).fields in
-        let m : xs ≡ a ∷ b ∷ c ∷ d ∷ [] = list-of-four xs n ∙ (cc) in
-        f ∙ ap holds m
+        f ∙ ap holds (list-of-four xs n ∙ ap (λ (x : Four). x.a ∷ x.b ∷ x.c ∷ x.d ∷ []) g)
 
-pub five-holds : (p s : List ℕ) (a b c d h : Float) → five_of (line_of p 5 s) ≡ Spec a b c d h → line_of p 5 s ≡ holds (a ∷ b ∷ c ∷ d ∷ h ∷ [])
+pub five-holds : (p s : List ℕ) (b : Bar) → five_of (line_of p 5 s) ≡ Some b → line_of p 5 s ≡ holds (bar_numbers b)
 unfolding five_of
-five-holds p s a b c d h e = by (line_of p 5 s) refl
+five-holds p s b e = by (line_of p 5 s) refl
   where
-    by : (l : Line) → line_of p 5 s ≡ l → line_of p 5 s ≡ holds (a ∷ b ∷ c ∷ d ∷ h ∷ [])
+    by : (l : Line) → line_of p 5 s ≡ l → line_of p 5 s ≡ holds (bar_numbers b)
     by other f =
-        let g : NoFive ≡ Spec a b c d h = sym (ap five_of f) ∙ e in
+        let g : ◌≡◌ {A = Option Bar} None (Some b) = sym (ap five_of f) ∙ e in
         let z : ◌≡◌ {A = ℕ} 0 1 = cc in
         absurd (omega arith)
     by (holds xs) f =
-        let g : Spec (get_or xs 0 nan) (get_or xs 1 nan) (get_or xs 2 nan) (get_or xs 3 nan) (get_or xs 4 nan) ≡ Spec a b c d h = sym (ap five_of f) ∙ e in
-        let q0 : get_or xs 0 nan ≡ a = cc in
-        let q1 : get_or xs 1 nan ≡ b = cc in
-        let q2 : get_or xs 2 nan ≡ c = cc in
-        let q3 : get_or xs 3 nan ≡ d = cc in
-        let q4 : get_or xs 4 nan ≡ h = cc in
+        let g : ◌≡◌ {A = Bar} (record { z_min_mm = get_or xs 0 nan; z_max_mm = get_or xs 1 nan; outer_radius_mm = get_or xs 2 nan; bore_radius_mm = get_or xs 3 nan; cell_mm = get_or xs 4 nan }) b = same_Some _ _ (sym (ap five_of f) ∙ e) in
         let n : length xs ≡ 5 = fields-count 5 _ xs (line-parted p 5 s xs f).fields in
-        let m : xs ≡ a ∷ b ∷ c ∷ d ∷ h ∷ [] = list-of-five xs n ∙ (cc) in
-        f ∙ ap holds m
+        f ∙ ap holds (list-of-five xs n ∙ ap bar_numbers g)
 
 -- ---- a cell's line
 
 module _ (form : ℕ) (a b c d : Float) where
-  pub cell-reads : (i : ℕ) (s : List ℕ) → Keeps (a ∷ b ∷ c ∷ d ∷ []) → s ++ newline ≡ kept_cell_line form i a b c d → four_of (line_of (cell_prefix form i) 4 s) ≡ Numbers a b c d
+  pub cell-reads : (i : ℕ) (s : List ℕ) → Keeps (a ∷ b ∷ c ∷ d ∷ []) → s ++ newline ≡ kept_cell_line form i a b c d → four_of (line_of (cell_prefix form i) 4 s) ≡ four a b c d
   unfolding kept_cell_line four_of
   cell-reads i s k e = ap four_of (reads (cell_prefix form i) s (a ∷ b ∷ c ∷ d ∷ []) k e)
 
-  pub cell-spelled : (i : ℕ) (s : List ℕ) → NoNan (a ∷ b ∷ c ∷ d ∷ []) → four_of (line_of (cell_prefix form i) 4 s) ≡ Numbers a b c d → s ++ newline ≡ kept_cell_line form i a b c d
+  pub cell-spelled : (i : ℕ) (s : List ℕ) → NoNan (a ∷ b ∷ c ∷ d ∷ []) → four_of (line_of (cell_prefix form i) 4 s) ≡ four a b c d → s ++ newline ≡ kept_cell_line form i a b c d
   unfolding kept_cell_line
   cell-spelled i s n e = spells (cell_prefix form i) 4 s (a ∷ b ∷ c ∷ d ∷ []) n (four-holds (cell_prefix form i) s a b c d e)
 
   pub cell-unique : (i : ℕ) (s t : List ℕ) → NoNan (a ∷ b ∷ c ∷ d ∷ [])
-      → four_of (line_of (cell_prefix form i) 4 s) ≡ Numbers a b c d → four_of (line_of (cell_prefix form i) 4 t) ≡ Numbers a b c d → s ≡ t
+      → four_of (line_of (cell_prefix form i) 4 s) ≡ four a b c d → four_of (line_of (cell_prefix form i) 4 t) ≡ four a b c d → s ≡ t
   cell-unique i s t n e f = same-before s t (cell-spelled i s n e ∙ sym (cell-spelled i t n f))
 
 -- ---- a ring's line, which is a job's
 
 module _ (a b c d : Float) where
-  pub ring-reads : (s : List ℕ) → Keeps (a ∷ b ∷ c ∷ d ∷ []) → s ++ newline ≡ ring_line a b c d → four_of (line_of ring_prefix 4 s) ≡ Numbers a b c d
+  pub ring-reads : (s : List ℕ) → Keeps (a ∷ b ∷ c ∷ d ∷ []) → s ++ newline ≡ ring_line a b c d → four_of (line_of ring_prefix 4 s) ≡ four a b c d
   unfolding ring_line fields_text four_of
   ring-reads s k e = ap four_of (reads ring_prefix s (a ∷ b ∷ c ∷ d ∷ []) k e)
 
-  pub ring-spelled : (s : List ℕ) → NoNan (a ∷ b ∷ c ∷ d ∷ []) → four_of (line_of ring_prefix 4 s) ≡ Numbers a b c d → s ++ newline ≡ ring_line a b c d
+  pub ring-spelled : (s : List ℕ) → NoNan (a ∷ b ∷ c ∷ d ∷ []) → four_of (line_of ring_prefix 4 s) ≡ four a b c d → s ++ newline ≡ ring_line a b c d
   unfolding ring_line fields_text
   ring-spelled s n e = spells ring_prefix 4 s (a ∷ b ∷ c ∷ d ∷ []) n (four-holds ring_prefix s a b c d e)
 
   pub ring-unique : (s t : List ℕ) → NoNan (a ∷ b ∷ c ∷ d ∷ [])
-      → four_of (line_of ring_prefix 4 s) ≡ Numbers a b c d → four_of (line_of ring_prefix 4 t) ≡ Numbers a b c d → s ≡ t
+      → four_of (line_of ring_prefix 4 s) ≡ four a b c d → four_of (line_of ring_prefix 4 t) ≡ four a b c d → s ≡ t
   ring-unique s t n e f = same-before s t (ring-spelled s n e ∙ sym (ring-spelled t n f))
 
 -- ---- the last line

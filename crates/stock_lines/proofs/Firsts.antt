@@ -1,5 +1,6 @@
 -- The first line: how it is read, read after write, write after read, and no two lines of a form for the same edition and bar. Assumes nothing.
-use Rattle.std.proofs.Common.{◌≡◌, ℕ, ◌+◌, ◌-◌, ◌<◌, ◌≤◌, Bool, true, false, eqb, List, [], ◌∷◌, ◌++◌, length, get_or, take, drop, sym, refl, ap, ◌∙◌, subst, true≢false, append_assoc, arith, length-append, length-drop, take-append-drop, length-take, take_all, take_at, drop_at, eq-eqb, ne_eqb, eqb-true}
+use Rattle.std.proofs.Common.{◌≡◌, ℕ, ◌+◌, ◌-◌, ◌<◌, ◌≤◌, Bool, true, false, eqb, List, [], ◌∷◌, ◌++◌, length, get_or, take, drop, sym, refl, ap, ◌∙◌, subst, true≢false, append_assoc, arith, length-append, length-drop, take-append-drop, length-take, take_all, take_at, drop_at, eq-eqb, ne_eqb, eqb-true, None, Option, Some}
+use Rattle.std.proofs.lemmas.Option.{same_Some}
 use lib.Ieee.{Float}
 use lib.ListN.{get_or-eq_default}
 use borrow.Author.Tests.{eqb-false}
@@ -7,16 +8,12 @@ use Rattle.floats.specs.Pick.{pick, pick_true, pick-false}
 use Rattle.text.specs.Digits.{digits}
 use Rattle.text.specs.Lines.{newline}
 use Rattle.text.specs.Hex.{eight_of}
-use Rattle.text.specs.declared.sixteen.Eight.{Eight}
-use Rattle.text.specs.declared.sixteen.Eight.TheVariants.{Of, NoEight}
 use Rattle.text.proofs.Reading.{EightDigits, eight-reads-back, eight-unique}
 use Rattle.text.proofs.Spelling.{digits-length}
 use Rattle.stock_lines.specs.declared.Bar.{Bar}
-use Rattle.stock_lines.specs.declared.form.Five.{Five}
-use Rattle.stock_lines.specs.declared.form.Five.TheVariants.{Spec, NoFive}
-use Rattle.stock_lines.specs.declared.form.First.TheVariants.{Says, NoFirst}
+use Rattle.stock_lines.specs.declared.form.First.{First}
 use Rattle.stock_lines.specs.Form.{Line, holds, other, form_of, line_of, fields_text, five_of, bar_numbers, stock_prefix, edition_text, stock_text, stock_line}
-use Rattle.stock_lines.specs.First.{form_in, edition_field, edition_of, first_from, first_in, first_of, CanSay, one, two, three}
+use Rattle.stock_lines.specs.First.{form_in, edition_field, edition_of, first_says, first_from, first_in, first_of, CanSay, one, two, three}
 use Rattle.stock_lines.proofs.Forms.{Keeps, NoNan, line-back, line-spelled, line-long, fields-then, fields-text-long}
 use Rattle.stock_lines.proofs.Steps.{stock-long}
 use Rattle.stock_lines.proofs.EachLine.{same-before, five-holds}
@@ -46,7 +43,7 @@ module _ (s : List ℕ) where
   unfolding form_in
   form-other e f = sym (pick-false _ _ _ (ne_eqb _ _ e) ∙ pick-false _ _ _ (ne_eqb _ _ f))
 
-  pub field-nothing : length s ≡ 0 → NoEight ≡ edition_field s
+  pub field-nothing : length s ≡ 0 → None ≡ edition_field s
   unfolding edition_field
   field-nothing h =
       let z : get_or s 0 0 ≡ 0 = get_or-eq_default s 0 (omega arith) in
@@ -56,7 +53,7 @@ module _ (s : List ℕ) where
   unfolding edition_field
   field-tab e = sym (pick_true _ _ _ (eq-eqb _ _ e))
 
-  pub field-other : (get_or s 0 0 ≡ 9 → ⊥) → NoEight ≡ edition_field s
+  pub field-other : (get_or s 0 0 ≡ 9 → ⊥) → None ≡ edition_field s
   unfolding edition_field
   field-other e = sym (pick-false _ _ _ (ne_eqb _ _ e))
 
@@ -64,46 +61,45 @@ module _ (s : List ℕ) where
   unfolding edition_of
   edition-there k e = sym (pick_true _ _ _ e)
 
-  pub edition-none : (k : ℕ) → (form_of k).edition ≡ false → length s ≡ 0 → Of 0 ≡ edition_of k s
+  pub edition-none : (k : ℕ) → (form_of k).edition ≡ false → length s ≡ 0 → Some 0 ≡ edition_of k s
   unfolding edition_of
   edition-none k e h = sym (pick-false _ _ _ e ∙ pick_true _ _ _ (eq-eqb _ _ h))
 
-  pub edition-behind : (k : ℕ) → (form_of k).edition ≡ false → (length s ≡ 0 → ⊥) → NoEight ≡ edition_of k s
+  pub edition-behind : (k : ℕ) → (form_of k).edition ≡ false → (length s ≡ 0 → ⊥) → None ≡ edition_of k s
   unfolding edition_of
   edition-behind k e h = sym (pick-false _ _ _ e ∙ pick-false _ _ _ (ne_eqb _ _ h))
 
-module _ (k : ℕ) (x : Eight) (f : Five) where
-  pub from-no-edition : x ≡ NoEight → NoFirst ≡ first_from k x f
+module _ (k : ℕ) (x : Option ℕ) (f : Option Bar) where
+  pub from-no-edition : x ≡ None → None ≡ first_from k x f
   unfolding first_from
-  from-no-edition e = sym (ap (λ (y : Eight). first_from k y f) e)
+  from-no-edition e = sym (ap (λ (y : Option ℕ). first_from k y f) e)
 
-  pub from-no-bar : f ≡ NoFive → NoFirst ≡ first_from k x f
+  pub from-no-bar : f ≡ None → None ≡ first_from k x f
   unfolding first_from
   from-no-bar e = by x ∙ sym (ap (first_from k x) e)
     where
-      by : (y : Eight) → NoFirst ≡ first_from k y NoFive
-      by (Of n) = refl
-      by NoEight = refl
+      by : (y : Option ℕ) → None ≡ first_from k y None
+      by (Some n) = refl
+      by None = refl
 
-  pub from-both : (n : ℕ) (a b c d h : Float) → x ≡ Of n → f ≡ Spec a b c d h
-      → Says k n (record { z_min_mm = a; z_max_mm = b; outer_radius_mm = c; bore_radius_mm = d; cell_mm = h }) ≡ first_from k x f
+  pub from-both : (n : ℕ) (b : Bar) → x ≡ Some n → f ≡ Some b → first_says k n b ≡ first_from k x f
   unfolding first_from
-  from-both n a b c d h e g = sym (ap (λ (y : Eight). first_from k y f) e ∙ ap (first_from k (Of n)) g)
+  from-both n b e g = sym (ap (λ (y : Option ℕ). first_from k y f) e ∙ ap (first_from k (Some n)) g)
 
 -- too few bytes for a bar
-bar-short : (k : ℕ) (s : List ℕ) → length s < 92 → five_of (line_of (stock_prefix k) 5 s) ≡ NoFive
+bar-short : (k : ℕ) (s : List ℕ) → length s < 92 → five_of (line_of (stock_prefix k) 5 s) ≡ None
 unfolding five_of
 bar-short k s h = by (line_of (stock_prefix k) 5 s) refl
   where
-    by : (l : Line) → line_of (stock_prefix k) 5 s ≡ l → five_of (line_of (stock_prefix k) 5 s) ≡ NoFive
+    by : (l : Line) → line_of (stock_prefix k) 5 s ≡ l → five_of (line_of (stock_prefix k) 5 s) ≡ None
     by other e = ap five_of e
     by (holds xs) e = absurd (omega (arith, line-long (stock_prefix k) 5 s xs e, stock-long k))
 
-pub first_short : (s : List ℕ) → length s < 92 → NoFirst ≡ first_of s
+pub first_short : (s : List ℕ) → length s < 92 → None ≡ first_of s
 unfolding first_of first_in
 first_short s h = from-no-bar (form_in s) (edition_of (form_in s) (drop 92 s)) _ (bar-short (form_in s) (take 92 s) (omega (arith, length-take 92 s)))
 
-pub first-parts : (s : List ℕ) (k : ℕ) (x : Eight) (f : Five) → k ≡ form_in s → x ≡ edition_of k (drop 92 s) → f ≡ five_of (line_of (stock_prefix k) 5 (take 92 s)) → first_from k x f ≡ first_of s
+pub first-parts : (s : List ℕ) (k : ℕ) (x : Option ℕ) (f : Option Bar) → k ≡ form_in s → x ≡ edition_of k (drop 92 s) → f ≡ five_of (line_of (stock_prefix k) 5 (take 92 s)) → first_from k x f ≡ first_of s
 unfolding first_of first_in
 first-parts s k x f e g h = rw (g, h, e)
 
@@ -115,7 +111,7 @@ form-back k e t one = refl
 form-back k e t (two h) = refl
 form-back k e t (three h) = refl
 
-edition-back : (k e : ℕ) → CanSay k e → edition_of k (edition_text k e) ≡ Of e
+edition-back : (k e : ℕ) → CanSay k e → edition_of k (edition_text k e) ≡ Some e
 unfolding edition_of edition_text edition_field form_of pick
 edition-back k e one = refl
 edition-back k e (two h) = eight-reads-back e h
@@ -131,41 +127,41 @@ bar-long : (k : ℕ) (b : Bar) → length (stock_prefix k ++ fields_text (bar_nu
 bar-long k b = omega (arith, length-append (stock_prefix k) (fields_text (bar_numbers b) []), stock-long k, fields-text-long (bar_numbers b))
 
 module _ (k e : ℕ) (b : Bar) (says : CanSay k e) where
-  five-back : Keeps (bar_numbers b) → five_of (line_of (stock_prefix k) 5 (stock_prefix k ++ fields_text (bar_numbers b) [])) ≡ Spec b.z_min_mm b.z_max_mm b.outer_radius_mm b.bore_radius_mm b.cell_mm
+  five-back : Keeps (bar_numbers b) → five_of (line_of (stock_prefix k) 5 (stock_prefix k ++ fields_text (bar_numbers b) [])) ≡ Some b
   unfolding five_of
   five-back m = ap five_of (line-back (stock_prefix k) (bar_numbers b) m)
 
-  pub first_reads : (s : List ℕ) → Keeps (bar_numbers b) → s ++ newline ≡ stock_line k b e → first_of s ≡ Says k e b
+  pub first_reads : (s : List ℕ) → Keeps (bar_numbers b) → s ++ newline ≡ stock_line k b e → first_of s ≡ first_says k e b
   unfolding stock_line
   first_reads s m w =
       let p : List ℕ = stock_prefix k ++ fields_text (bar_numbers b) [] in
       let q : List ℕ = edition_text k e in
       let t : s ≡ p ++ q = same-before s (stock_text k b e) w ∙ text-parts k b e in
       let f : form_in s ≡ k = ap form_in (same-before s (stock_text k b e) w) ∙ form-back k e (fields_text (bar_numbers b) q) says in
-      let x : edition_of k (drop 92 s) ≡ Of e = ap (λ (y : List ℕ). edition_of k (drop 92 y)) t ∙ ap (edition_of k) (drop_at p q 92 (bar-long k b)) ∙ edition-back k e says in
-      let y : five_of (line_of (stock_prefix k) 5 (take 92 s)) ≡ Spec b.z_min_mm b.z_max_mm b.outer_radius_mm b.bore_radius_mm b.cell_mm =
+      let x : edition_of k (drop 92 s) ≡ Some e = ap (λ (y : List ℕ). edition_of k (drop 92 y)) t ∙ ap (edition_of k) (drop_at p q 92 (bar-long k b)) ∙ edition-back k e says in
+      let y : five_of (line_of (stock_prefix k) 5 (take 92 s)) ≡ Some b =
       ap (λ (z : List ℕ). five_of (line_of (stock_prefix k) 5 (take 92 z))) t ∙ ap (λ (z : List ℕ). five_of (line_of (stock_prefix k) 5 z)) (take_at p q 92 (bar-long k b)) ∙ five-back m in
-      sym (first-parts s k _ _ (sym f) refl refl) ∙ sym (from-both k _ _ e _ _ _ _ _ x y)
+      sym (first-parts s k _ _ (sym f) refl refl) ∙ sym (from-both k _ _ e b x y)
 
 -- ---- write after read
 
 -- what a first line was put together from
-record Parts (k : ℕ) (x : Eight) (f : Five) (n e : ℕ) (b : Bar) : Type 0 where
+record Parts (k : ℕ) (x : Option ℕ) (f : Option Bar) (n e : ℕ) (b : Bar) : Type 0 where
   form : k ≡ n
-  edition : x ≡ Of e
-  five : f ≡ Spec b.z_min_mm b.z_max_mm b.outer_radius_mm b.bore_radius_mm b.cell_mm
+  edition : x ≡ Some e
+  five : f ≡ Some b
 
-parts : (k : ℕ) (x : Eight) (f : Five) (n e : ℕ) (b : Bar) → first_from k x f ≡ Says n e b → Parts k x f n e b
+parts : (k : ℕ) (x : Option ℕ) (f : Option Bar) (n e : ℕ) (b : Bar) → first_from k x f ≡ first_says n e b → Parts k x f n e b
 unfolding first_from
-parts k (Of i) (Spec p q r s t) n e b h =
-    let w : record { z_min_mm = p; z_max_mm = q; outer_radius_mm = r; bore_radius_mm = s; cell_mm = t } ≡ b = cc in
+parts k (Some i) (Some p) n e b h =
+    let w = same_Some _ _ h in
     record {
-      form = cc;
-      edition = cc;
-      five = ap (λ (y : Bar). Spec y.z_min_mm y.z_max_mm y.outer_radius_mm y.bore_radius_mm y.cell_mm) w;
+      form = ap (λ (f : First). f.form) w;
+      edition = ap (λ (f : First). Some f.edition) w;
+      five = ap (λ (f : First). Some f.bar) w;
     }
-parts k (Of i) NoFive n e b h = let z : ◌≡◌ {A = ℕ} 0 1 = cc in absurd (omega arith)
-parts k NoEight f n e b h = let z : ◌≡◌ {A = ℕ} 0 1 = cc in absurd (omega arith)
+parts k (Some i) None n e b h = let z : ◌≡◌ {A = ℕ} 0 1 = cc in absurd (omega arith)
+parts k None f n e b h = let z : ◌≡◌ {A = ℕ} 0 1 = cc in absurd (omega arith)
 
 -- An edition that is read in form k is spelled there: a number of 32 bits, and 0 where the form has none.
 record Spelt (k : ℕ) (t : List ℕ) (e : ℕ) : Type 0 where
@@ -182,10 +178,10 @@ tabbed [] f = absurd (omega arith)
 tabbed (b ∷ t) f = ap (λ (y : ℕ). y ∷ t) f
 
 -- no edition is none
-no-edition : {A : Type 0} {x : Eight} {e : ℕ} → NoEight ≡ x → x ≡ Of e → A
+no-edition : {A : Type 0} {x : (Option ℕ)} {e : ℕ} → None ≡ x → x ≡ Some e → A
 no-edition {A} {x} {e} f h = let z : ◌≡◌ {A = ℕ} 0 1 = cc in absurd (omega arith)
 
-module _ (k : ℕ) (t : List ℕ) (e : ℕ) (h : edition_of k t ≡ Of e) where
+module _ (k : ℕ) (t : List ℕ) (e : ℕ) (h : edition_of k t ≡ Some e) where
   spelt-there : (form_of k).edition ≡ true → Spelt k t e
   unfolding edition_text
   spelt-there there = by (eqb (get_or t 0 0) 9) refl
@@ -207,7 +203,7 @@ module _ (k : ℕ) (t : List ℕ) (e : ℕ) (h : edition_of k t ≡ Of e) where
     where
       by : (u : Bool) → eqb (length t) 0 ≡ u → Spelt k t e
       by true f =
-          let g : Of 0 ≡ Of e = edition-none t k none (eqb-true _ _ f) ∙ h in
+          let g : Some 0 ≡ Some e = edition-none t k none (eqb-true _ _ f) ∙ h in
           let z : e ≡ 0 = cc in
           record { small = omega arith; none = λ _. z; text = nothing t (eqb-true _ _ f) ∙ sym (pick-false _ _ _ none) }
       by false f = no-edition (edition-behind t k none (eqb-false _ _ f)) h
@@ -237,7 +233,7 @@ pub record FirstSpelled (s : List ℕ) (k e : ℕ) (b : Bar) : Type 0 where
   pub says : CanSay k e
   pub text : NoNan (bar_numbers b) → s ++ newline ≡ stock_line k b e
 
-pub first-spelled : (s : List ℕ) (k e : ℕ) (b : Bar) → first_of s ≡ Says k e b → FirstSpelled s k e b
+pub first-spelled : (s : List ℕ) (k e : ℕ) (b : Bar) → first_of s ≡ first_says k e b → FirstSpelled s k e b
 unfolding first_of first_in stock_line
 first-spelled s k e b h =
     let w = parts (form_in s) _ _ k e b h in
@@ -247,13 +243,13 @@ first-spelled s k e b h =
       says = can-say s (drop 92 s) e v;
       text = λ m. ap (λ (y : List ℕ). y ++ newline)
           (sym (take-append-drop 92 s)
-          ∙ ap (λ (y : List ℕ). y ++ drop 92 s) (line-spelled (stock_prefix (form_in s)) 5 (take 92 s) (bar_numbers b) (five-holds (stock_prefix (form_in s)) (take 92 s) _ _ _ _ _ w.five) m)
+          ∙ ap (λ (y : List ℕ). y ++ drop 92 s) (line-spelled (stock_prefix (form_in s)) 5 (take 92 s) (bar_numbers b) (five-holds (stock_prefix (form_in s)) (take 92 s) b w.five) m)
           ∙ ap (λ (y : List ℕ). (stock_prefix (form_in s) ++ fields_text (bar_numbers b) []) ++ y) v.text
           ∙ sym (text-parts (form_in s) b e));
     })
 
 -- so two lines of one form that say the same are the same bytes
-pub first-unique : (s t : List ℕ) (k e : ℕ) (b : Bar) → NoNan (bar_numbers b) → first_of s ≡ Says k e b → first_of t ≡ Says k e b → s ≡ t
+pub first-unique : (s t : List ℕ) (k e : ℕ) (b : Bar) → NoNan (bar_numbers b) → first_of s ≡ first_says k e b → first_of t ≡ first_says k e b → s ≡ t
 first-unique s t k e b n f g = same-before s t ((first-spelled s k e b f).text n ∙ sym ((first-spelled t k e b g).text n))
 
 -- ---- its length

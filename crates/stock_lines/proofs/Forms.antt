@@ -1,13 +1,11 @@
 -- A line is of the form exactly when it is the writer's line of what is read of it. Assumes nothing.
-use Rattle.std.proofs.Common.{◌≡◌, ℕ, zero, suc, ◌+◌, ◌*◌, ◌≤◌, Bool, true, false, not, T, List, [], ◌∷◌, ◌++◌, map, length, get_or, take, drop, sym, refl, ap, ◌∙◌, subst, append_assoc, arith, length-append, length-drop, take-append-drop, drop-cons, drop-drop, drop_at}
+use Rattle.std.proofs.Common.{◌≡◌, ℕ, zero, suc, ◌+◌, ◌*◌, ◌≤◌, Bool, true, false, not, T, List, [], ◌∷◌, ◌++◌, map, length, get_or, take, drop, sym, refl, ap, ◌∙◌, subst, append_assoc, arith, length-append, length-drop, take-append-drop, drop-cons, drop-drop, drop_at, None, Option, Some}
 use lib.Ieee.{Float, binary64, fits, is_nan, to_bits, of_bits}
 use lib.Seq.{take-append_seam, drop-append_seam}
 use Rattle.floats.specs.Pick.{pick_true, pick-false}
 use Rattle.text.specs.Same.{same_bytes}
 use Rattle.text.specs.Digits.{digits, hex_of}
 use Rattle.text.proofs.Spelling.{hex-long}
-use Rattle.text.specs.declared.sixteen.Hex.{Hex}
-use Rattle.text.specs.declared.sixteen.Hex.TheVariants.{Of, NoHex}
 use Rattle.text.specs.Hex.{field_of}
 use Rattle.stock_lines.specs.Form.{Line, holds, other, with_first, fields_of, line_of, fields_text}
 use Rattle.text.proofs.Compare.{same_self, same_true}
@@ -16,18 +14,18 @@ use Rattle.text.proofs.Reading.{Word, hex-word, hex-fits, hex-plus, field_back, 
 -- ---- k fields
 
 -- what a line of some numbers begins with
-record First (h : Hex) (l : Line) (xs : List Float) : Type 0 where
+record First (h : Option Float) (l : Line) (xs : List Float) : Type 0 where
   x : Float
   ys : List Float
-  head : h ≡ Of x
+  head : h ≡ Some x
   rest : l ≡ holds ys
   both : xs ≡ x ∷ ys
 
-first : (h : Hex) (l : Line) (xs : List Float) → with_first h l ≡ holds xs → First h l xs
+first : (h : Option Float) (l : Line) (xs : List Float) → with_first h l ≡ holds xs → First h l xs
 unfolding with_first
-first (Of x) (holds ys) xs e = record { x = x; ys = ys; head = refl; rest = refl; both = cc }
-first (Of x) other xs e = let z : ◌≡◌ {A = ℕ} 0 1 = cc in absurd (omega arith)
-first NoHex l xs e = let z : ◌≡◌ {A = ℕ} 0 1 = cc in absurd (omega arith)
+first (Some x) (holds ys) xs e = record { x = x; ys = ys; head = refl; rest = refl; both = cc }
+first (Some x) other xs e = let z : ◌≡◌ {A = ℕ} 0 1 = cc in absurd (omega arith)
+first None l xs e = let z : ◌≡◌ {A = ℕ} 0 1 = cc in absurd (omega arith)
 
 -- numbers that a file keeps: of the format, and not -0.0
 pub data Keeps : List Float → Type 0 where
@@ -57,12 +55,12 @@ unfolding fields_of fields_text with_first
 fields_back [] none = refl
 fields_back (x ∷ xs) (more h k m) =
     let t : List ℕ = fields_text xs [] in
-    let f : field_of ((9 ∷ hex_of x) ++ t) ≡ Of x = field_back x t h k in
+    let f : field_of ((9 ∷ hex_of x) ++ t) ≡ Some x = field_back x t h k in
     let d : drop 17 ((9 ∷ hex_of x) ++ t) ≡ t = drop_at (9 ∷ hex_of x) t 17 (ap suc (hex-long x)) in
     let r : fields_of (length xs) t ≡ holds xs = fields_back xs m in
-    ap (λ (h : Hex). with_first h (fields_of (length xs) (drop 17 ((9 ∷ hex_of x) ++ t)))) f
-    ∙ ap (λ (y : List ℕ). with_first (Of x) (fields_of (length xs) y)) d
-    ∙ ap (λ (l : Line). with_first (Of x) l) r
+    ap (λ (h : Option Float). with_first h (fields_of (length xs) (drop 17 ((9 ∷ hex_of x) ++ t)))) f
+    ∙ ap (λ (y : List ℕ). with_first (Some x) (fields_of (length xs) y)) d
+    ∙ ap (λ (l : Line). with_first (Some x) l) r
 
 -- fields have 17 bytes each
 pub fields-long : (k : ℕ) (s : List ℕ) (xs : List Float) → fields_of k s ≡ holds xs → length s ≡ 17 * k
@@ -168,7 +166,7 @@ pub record Words (s : List ℕ) (xs : List Float) : Type 0 where
   pub numbers : xs ≡ map (of_bits binary64) words
   pub text : s ≡ words_text words
 
-field-words : (s : List ℕ) (x : Float) (e : field_of s ≡ Of x) → s ≡ (9 ∷ digits 16 16 (hex-word (drop 1 s) x (field_is s x e)).word) ++ drop 17 s
+field-words : (s : List ℕ) (x : Float) (e : field_of s ≡ Some x) → s ≡ (9 ∷ digits 16 16 (hex-word (drop 1 s) x (field_is s x e)).word) ++ drop 17 s
 field-words s x e =
     let v : Word (drop 1 s) x = hex-word (drop 1 s) x (field_is s x e) in
     let l : 17 ≤ length s = tabbed-long s x e in

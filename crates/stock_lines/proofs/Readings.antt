@@ -1,13 +1,11 @@
 -- What a line does to a reading, case by case. Assumes nothing.
-use Rattle.std.proofs.Common.{◌≡◌, ℕ, ◌+◌, ◌<◌, ◌≤◌, true, false, List, sym, ap, ◌∙◌, le-ltb, lt-ltb, eq-eqb, ne_eqb}
+use Rattle.std.proofs.Common.{◌≡◌, ℕ, ◌+◌, ◌<◌, ◌≤◌, true, false, List, sym, ap, ◌∙◌, le-ltb, lt-ltb, eq-eqb, ne_eqb, Option, Some, None}
 use lib.Ieee.{Float}
 use Rattle.floats.specs.Pick.{pick_true, pick-false}
 use Rattle.stock_lines.specs.declared.Reading.{Reading}
-use Rattle.stock_lines.specs.declared.Bar.{Bar}
 use Rattle.stock_lines.specs.Form.{form_of}
 use Rattle.stock_lines.specs.First.{first_of}
 use Rattle.stock_lines.specs.declared.form.First.{First}
-use Rattle.stock_lines.specs.declared.form.First.TheVariants.{Says, NoFirst}
 use Rattle.stock_lines.specs.declared.room.Took.{Took}
 use Rattle.stock_lines.specs.declared.room.Took.TheVariants.{Cell, Ring, End, NoLine}
 use Rattle.stock_lines.specs.Room.{stored, cell_at, took_of, rings_left_after}
@@ -33,14 +31,14 @@ pub onward-is : (r : Reading) (stage n m l : ℕ) → l ≡ next r
 unfolding onward_to
 onward-is r stage n m l e = rw e
 
-pub begun-none : (r : Reading) (f : First) → f ≡ NoFirst → refusing r ≡ begun r f
+pub begun-none : (r : Reading) (f : Option First) → f ≡ None → refusing r ≡ begun r f
 unfolding begun
 begun-none r f e = sym (ap (begun r) e)
 
-pub begun-is : (r : Reading) (f : First) (k e : ℕ) (b : Bar) (l : ℕ) → f ≡ Says k e b → l ≡ next r
-    → ◌≡◌ {A = Reading} (record { stage = 1; form = k; edition = e; bar = b; cells = r.cells; rings = r.rings; lines = l; refused = false }) (begun r f)
+pub begun-is : (r : Reading) (f : Option First) (x : First) (l : ℕ) → f ≡ Some x → l ≡ next r
+    → ◌≡◌ {A = Reading} (record { stage = 1; form = x.form; edition = x.edition; bar = x.bar; cells = r.cells; rings = r.rings; lines = l; refused = false }) (begun r f)
 unfolding begun
-begun-is r f k e b l h q = rw (h, q)
+begun-is r f x l h q = rw (h, q)
 
 module _ (r : Reading) (t : Took) where
   pub went-cell : (n : ℕ) → t ≡ Cell → n ≡ count_to (form_of r.form).most r.cells → onward_to r 1 n r.rings ≡ went r t

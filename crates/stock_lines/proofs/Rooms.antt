@@ -1,14 +1,13 @@
 -- What a line leaves in the lent room. Assumes nothing.
-use Rattle.std.proofs.Common.{◌≡◌, ℕ, suc, ◌+◌, ◌*◌, ◌/◌, ◌<◌, ◌≤◌, Bool, true, false, T, leb, List, [], ◌∷◌, length, set, sym, refl, ap, ◌∙◌, subst, arith, le-ltb, lt-ltb, eq-eqb, ne_eqb, le-leb, leb-false, leb-true}
+use Rattle.std.proofs.Common.{◌≡◌, ℕ, suc, ◌+◌, ◌*◌, ◌/◌, ◌<◌, ◌≤◌, Bool, true, false, T, leb, List, [], ◌∷◌, length, set, sym, refl, ap, ◌∙◌, subst, arith, le-ltb, lt-ltb, eq-eqb, ne_eqb, le-leb, leb-false, leb-true, Option, Some, None}
 use mathlib.Core.Bool.{false≢true}
 use lib.Ieee.{Float}
 use borrow.Author.Tests.{lt-leb}
 use Rattle.floats.specs.Pick.{pick_true, pick-false}
 use Rattle.text.specs.Same.{same_bytes}
 use Rattle.stock_lines.specs.declared.form.Four.{Four}
-use Rattle.stock_lines.specs.declared.form.Four.TheVariants.{Numbers, NoFour}
 use Rattle.stock_lines.specs.declared.room.Took.TheVariants.{Cell, Ring, End, NoLine}
-use Rattle.stock_lines.specs.Form.{form_of, line_of, four_of, cell_prefix, end_text}
+use Rattle.stock_lines.specs.Form.{form_of, line_of, four, four_of, cell_prefix, end_text}
 use Rattle.stock_lines.specs.Room.{kept, taken, stored, cell_at, ring_at, ring_turn, end_turn, took_of, rings_left_after}
 
 module _ (limit : ℕ) (l : List Float) (k : ℕ) where
@@ -34,25 +33,25 @@ module _ (limit : ℕ) (l : List Float) (k : ℕ) where
   unfolding kept
   kept-past xs h = sym (pick-false _ _ _ (le-ltb _ _ h))
 
-  pub stored-numbers : (f : Four) (a b c d : Float) → f ≡ Numbers a b c d → kept limit l k (a ∷ b ∷ c ∷ d ∷ []) ≡ stored limit l k f
+  pub stored-numbers : (f : Option Four) (x : Four) → f ≡ Some x → kept limit l k (x.a ∷ x.b ∷ x.c ∷ x.d ∷ []) ≡ stored limit l k f
   unfolding stored
-  stored-numbers f a b c d e = sym (ap (stored limit l k) e)
+  stored-numbers f x e = sym (ap (stored limit l k) e)
 
-  pub stored-none : (f : Four) → f ≡ NoFour → l ≡ stored limit l k f
+  pub stored-none : (f : Option Four) → f ≡ None → l ≡ stored limit l k f
   unfolding stored
   stored-none f e = sym (ap (stored limit l k) e)
 
   -- what holds no numbers stores none
-  pub stored_other : (f : Four) → taken f ≡ false → stored limit l k f ≡ l
+  pub stored_other : (f : Option Four) → taken f ≡ false → stored limit l k f ≡ l
   unfolding stored taken
-  stored_other (Numbers a b c d) e = absurd (subst T e tt)
-  stored_other NoFour e = refl
+  stored_other (Some x) e = absurd (subst T e tt)
+  stored_other None e = refl
 
-pub taken-numbers : (f : Four) (a b c d : Float) → f ≡ Numbers a b c d → true ≡ taken f
+pub taken-numbers : (f : Option Four) (x : Four) → f ≡ Some x → true ≡ taken f
 unfolding taken
-taken-numbers f a b c d e = sym (ap taken e)
+taken-numbers f x e = sym (ap taken e)
 
-pub taken_none : (f : Four) → f ≡ NoFour → false ≡ taken f
+pub taken_none : (f : Option Four) → f ≡ None → false ≡ taken f
 unfolding taken
 taken_none f e = sym (ap taken e)
 
@@ -61,11 +60,11 @@ module _ (form n m : ℕ) (s : List ℕ) where
   unfolding cell_at
   cell-turn e h = sym (pick_true _ _ _ (eq-eqb _ _ e) ∙ pick_true _ _ _ (lt-ltb _ _ h))
 
-  pub cell-over : m ≡ 0 → (form_of form).most ≤ n → NoFour ≡ cell_at form n m s
+  pub cell-over : m ≡ 0 → (form_of form).most ≤ n → None ≡ cell_at form n m s
   unfolding cell_at
   cell-over e h = sym (pick_true _ _ _ (eq-eqb _ _ e) ∙ pick-false _ _ _ (le-ltb _ _ h))
 
-  pub cell-after-ring : (m ≡ 0 → ⊥) → NoFour ≡ cell_at form n m s
+  pub cell-after-ring : (m ≡ 0 → ⊥) → None ≡ cell_at form n m s
   unfolding cell_at
   cell-after-ring e = sym (pick-false _ _ _ (ne_eqb _ _ e))
 
@@ -73,7 +72,7 @@ module _ (form n m : ℕ) (s : List ℕ) where
   unfolding ring_turn
   ring-turn h = sym (pick_true _ _ _ (le-leb _ _ h))
 
-  pub ring-early : n < (form_of form).least → NoFour ≡ ring_turn form n s
+  pub ring-early : n < (form_of form).least → None ≡ ring_turn form n s
   unfolding ring_turn
   ring-early h = sym (pick-false _ _ _ (lt-leb _ _ h))
 
@@ -86,12 +85,12 @@ module _ (form n m : ℕ) (s : List ℕ) where
   end-early b h = sym (pick-false _ _ _ (lt-leb _ _ h))
 
   -- what is a ring's line in its turn stands behind enough cell lines
-  pub ring-turned : (x y z w : Float) → ring_turn form n s ≡ Numbers x y z w → ((form_of form).least ≤ n) × (ring_at s ≡ Numbers x y z w)
+  pub ring-turned : (x y z w : Float) → ring_turn form n s ≡ four x y z w → ((form_of form).least ≤ n) × (ring_at s ≡ four x y z w)
   ring-turned x y z w e = by (leb (form_of form).least n) refl
     where
-      by : (t : Bool) → leb (form_of form).least n ≡ t → ((form_of form).least ≤ n) × (ring_at s ≡ Numbers x y z w)
+      by : (t : Bool) → leb (form_of form).least n ≡ t → ((form_of form).least ≤ n) × (ring_at s ≡ four x y z w)
       by true f = let h = leb-true _ _ f in (h, ring-turn h ∙ e)
-      by false f = let g : NoFour ≡ Numbers x y z w = ring-early (leb-false _ _ f) ∙ e in let z : ◌≡◌ {A = ℕ} 0 1 = cc in absurd (omega arith)
+      by false f = let g : ◌≡◌ {A = Option Four} None (four x y z w) = ring-early (leb-false _ _ f) ∙ e in let z : ◌≡◌ {A = ℕ} 0 1 = cc in absurd (omega arith)
 
   -- and so the last line
   pub end-turned : (b : ℕ) → end_turn form n b s ≡ true → ((form_of form).least ≤ n) × (same_bytes s (end_text b) ≡ true)

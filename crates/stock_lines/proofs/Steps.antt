@@ -1,5 +1,5 @@
 -- What the code of a line walks by. Assumes nothing.
-use Rattle.std.proofs.Common.{◌≡◌, ℕ, suc, ◌+◌, ◌*◌, ◌<◌, ◌≤◌, Bool, true, false, T, eqb, leb, ◌⊎◌, List, [], ◌∷◌, ◌++◌, length, take, drop, sym, refl, ap, ◌∙◌, subst, inl, inr, arith, drop_of_length-le, drop-drop, eq-eqb, ne_eqb, eqb-true, le-leb, leb-false, leb-true}
+use Rattle.std.proofs.Common.{◌≡◌, ℕ, suc, ◌+◌, ◌*◌, ◌<◌, ◌≤◌, Bool, true, false, T, eqb, leb, ◌⊎◌, List, [], ◌∷◌, ◌++◌, length, take, drop, sym, refl, ap, ◌∙◌, subst, inl, inr, arith, drop_of_length-le, drop-drop, eq-eqb, ne_eqb, eqb-true, le-leb, leb-false, leb-true, None, Option, Some}
 use lib.Ieee.{Float}
 use lib.Seq.{sets-eq, take-append_seam}
 use borrow.Author.Tests.{lt-leb}
@@ -9,8 +9,6 @@ use Rattle.text.specs.Same.{same_bytes}
 use Rattle.text.specs.Wrote.{line_room, Wrote, Put, WroteLine}
 use Rattle.text.proofs.Sets.{room, and_then, put-wrote}
 use Rattle.text.proofs.Spelling.{digits-length, decimal-short}
-use Rattle.text.specs.declared.sixteen.Hex.{Hex}
-use Rattle.text.specs.declared.sixteen.Hex.TheVariants.{Of, NoHex}
 use Rattle.text.specs.Hex.{field_of}
 use Rattle.stock_lines.specs.declared.form.Form.{Form}
 use Rattle.stock_lines.specs.First.{CanSay, one, two, three}
@@ -24,18 +22,18 @@ next : (k : ℕ) (s : List ℕ) (at to : ℕ) → to ≡ at + 17 → fields_of (
 unfolding fields_of
 next k s at to e = ap (λ (y : List ℕ). with_first (field_of (drop at s)) (fields_of k y)) (drop-drop 17 at s ∙ ap (λ (n : ℕ). drop n s) (sym e))
 
-pub stops : (k : ℕ) (s : List ℕ) (at : ℕ) → field_of (drop at s) ≡ NoHex → fields_of (suc k) (drop at s) ≡ other
+pub stops : (k : ℕ) (s : List ℕ) (at : ℕ) → field_of (drop at s) ≡ None → fields_of (suc k) (drop at s) ≡ other
 unfolding with_first
-stops k s at e = next k s at (at + 17) refl ∙ ap (λ (h : Hex). with_first h (fields_of k (drop (at + 17) s))) e
+stops k s at e = next k s at (at + 17) refl ∙ ap (λ (h : Option Float). with_first h (fields_of k (drop (at + 17) s))) e
 
-pub goes : (k : ℕ) (s : List ℕ) (at to : ℕ) (x : Float) → field_of (drop at s) ≡ Of x → to ≡ at + 17 → fields_of k (drop to s) ≡ other → fields_of (suc k) (drop at s) ≡ other
+pub goes : (k : ℕ) (s : List ℕ) (at to : ℕ) (x : Float) → field_of (drop at s) ≡ Some x → to ≡ at + 17 → fields_of k (drop to s) ≡ other → fields_of (suc k) (drop at s) ≡ other
 unfolding with_first
-goes k s at to x e f r = next k s at to f ∙ ap (λ (h : Hex). with_first h (fields_of k (drop to s))) e ∙ ap (λ (l : Line). with_first (Of x) l) r
+goes k s at to x e f r = next k s at to f ∙ ap (λ (h : Option Float). with_first h (fields_of k (drop to s))) e ∙ ap (λ (l : Line). with_first (Some x) l) r
 
 pub gives : (k : ℕ) (s : List ℕ) (at to : ℕ) (x : Float) (xs : List Float)
-    → field_of (drop at s) ≡ Of x → to ≡ at + 17 → fields_of k (drop to s) ≡ holds xs → fields_of (suc k) (drop at s) ≡ holds (x ∷ xs)
+    → field_of (drop at s) ≡ Some x → to ≡ at + 17 → fields_of k (drop to s) ≡ holds xs → fields_of (suc k) (drop at s) ≡ holds (x ∷ xs)
 unfolding with_first
-gives k s at to x xs e f r = next k s at to f ∙ ap (λ (h : Hex). with_first h (fields_of k (drop to s))) e ∙ ap (λ (l : Line). with_first (Of x) l) r
+gives k s at to x xs e f r = next k s at to f ∙ ap (λ (h : Option Float). with_first h (fields_of k (drop to s))) e ∙ ap (λ (l : Line). with_first (Some x) l) r
 
 pub ends : (s : List ℕ) (at : ℕ) → length s ≤ at → fields_of 0 (drop at s) ≡ holds []
 unfolding fields_of

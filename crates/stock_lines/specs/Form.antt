@@ -1,19 +1,14 @@
 -- The form of a line of a stock file: the writer's own prefix, then exactly k times a tab and 16 digits; the first line goes on with its edition. Assumes nothing.
-use Rattle.std.specs.Prelude.{ℕ, zero, suc, ◌+◌, ◌≤◌, Bool, false, List, [], ◌∷◌, ◌++◌, length, take, drop, ◌==◌, nat_le, slice_index_or, Float}
+use Rattle.std.specs.Prelude.{ℕ, zero, suc, ◌+◌, ◌≤◌, Bool, false, List, [], ◌∷◌, ◌++◌, length, take, drop, ◌==◌, nat_le, slice_index_or, Float, None, Option, Some}
 use Rattle.std.specs.Float.{nan}
 use Rattle.floats.specs.Pick.{pick}
 use Rattle.text.specs.Same.{same_bytes}
 use Rattle.text.specs.Digits.{digits, decimal_of, hex_of}
 use Rattle.text.specs.Lines.{newline}
 use Rattle.text.specs.Hex.{field_of}
-use Rattle.text.specs.declared.sixteen.Hex.{Hex}
-use Rattle.text.specs.declared.sixteen.Hex.TheVariants.{Of, NoHex}
 use Rattle.stock_lines.specs.declared.Bar.{Bar}
 use Rattle.stock_lines.specs.declared.form.Form.{Form}
 use Rattle.stock_lines.specs.declared.form.Four.{Four}
-use Rattle.stock_lines.specs.declared.form.Four.TheVariants.{Numbers, NoFour}
-use Rattle.stock_lines.specs.declared.form.Five.{Five}
-use Rattle.stock_lines.specs.declared.form.Five.TheVariants.{Spec, NoFive}
 
 -- the numbers of a line, or that it is not of the form
 pub data Line : Type 0 where
@@ -21,10 +16,10 @@ pub data Line : Type 0 where
   other : Line
 
 -- a number before those of the rest
-unfoldable pub with_first : Hex → Line → Line
-with_first (Of x) (holds xs) = holds (x ∷ xs)
-with_first (Of x) other = other
-with_first NoHex l = other
+unfoldable pub with_first : Option Float → Line → Line
+with_first (Some x) (holds xs) = holds (x ∷ xs)
+with_first (Some x) other = other
+with_first None l = other
 
 -- exactly k times a tab and 16 digits
 unfoldable pub fields_of : ℕ → List ℕ → Line
@@ -99,12 +94,16 @@ kept_cell_line k i a b c d = cell_prefix k i ++ fields_text (a ∷ b ∷ c ∷ d
 unfoldable pub end_line : ℕ → List ℕ
 end_line n = end_text n ++ newline
 
--- the numbers of a line of four
-unfoldable pub four_of : Line → Four
-four_of (holds xs) = Numbers (slice_index_or xs 0 nan) (slice_index_or xs 1 nan) (slice_index_or xs 2 nan) (slice_index_or xs 3 nan)
-four_of other = NoFour
+-- four numbers, as a line of a cell or of a ring holds them
+abbrev pub four : Float → Float → Float → Float → Option Four
+four a b c d = Some (record { a = a; b = b; c = c; d = d })
 
--- the numbers of a line of five
-unfoldable pub five_of : Line → Five
-five_of (holds xs) = Spec (slice_index_or xs 0 nan) (slice_index_or xs 1 nan) (slice_index_or xs 2 nan) (slice_index_or xs 3 nan) (slice_index_or xs 4 nan)
-five_of other = NoFive
+-- the numbers of a line of four
+unfoldable pub four_of : Line → Option Four
+four_of (holds xs) = four (slice_index_or xs 0 nan) (slice_index_or xs 1 nan) (slice_index_or xs 2 nan) (slice_index_or xs 3 nan)
+four_of other = None
+
+-- the bar of a line of five
+unfoldable pub five_of : Line → Option Bar
+five_of (holds xs) = Some (record { z_min_mm = slice_index_or xs 0 nan; z_max_mm = slice_index_or xs 1 nan; outer_radius_mm = slice_index_or xs 2 nan; bore_radius_mm = slice_index_or xs 3 nan; cell_mm = slice_index_or xs 4 nan })
+five_of other = None

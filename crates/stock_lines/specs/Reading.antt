@@ -1,11 +1,10 @@
 -- A file read line by line: what each line does to the reading and to the lent room. Assumes nothing.
-use Rattle.std.specs.Prelude.{ℕ, ◌+◌, ◌%◌, ◌^◌, true, false, List, ◌==◌, nat_lt, Float}
+use Rattle.std.specs.Prelude.{ℕ, ◌+◌, ◌%◌, ◌^◌, true, false, List, ◌==◌, nat_lt, Float, Option, Some, None}
 use Rattle.refusals.specs.Lent.{Lent}
 use Rattle.refusals.specs.Limits.{ring_limit}
 use Rattle.floats.specs.Pick.{pick}
 use Rattle.stock_lines.specs.declared.Reading.{Reading}
 use Rattle.stock_lines.specs.declared.form.First.{First}
-use Rattle.stock_lines.specs.declared.form.First.TheVariants.{Says, NoFirst}
 use Rattle.stock_lines.specs.declared.room.Took.{Took}
 use Rattle.stock_lines.specs.declared.room.Took.TheVariants.{Cell, Ring, End, NoLine}
 use Rattle.stock_lines.specs.Form.{form_of}
@@ -38,9 +37,9 @@ unfoldable pub refusing : Reading → Reading
 refusing r = record { stage = r.stage; form = r.form; edition = r.edition; bar = r.bar; cells = r.cells; rings = r.rings; lines = next r; refused = true }
 
 -- the first line
-unfoldable pub begun : Reading → First → Reading
-begun r (Says k e b) = record { stage = 1; form = k; edition = e; bar = b; cells = r.cells; rings = r.rings; lines = next r; refused = false }
-begun r NoFirst = refusing r
+unfoldable pub begun : Reading → Option First → Reading
+begun r (Some f) = record { stage = 1; form = f.form; edition = f.edition; bar = f.bar; cells = r.cells; rings = r.rings; lines = next r; refused = false }
+begun r None = refusing r
 
 -- one line more behind the first, with what is known now
 unfoldable pub onward_to : Reading → ℕ → ℕ → ℕ → Reading

@@ -3,10 +3,10 @@ ghost use Rattle.std.specs.Prelude.{◌≡◌, ◌+◌, ◌<◌, length, drop};
 ghost use Rattle.text.specs.Same.{same_bytes};
 ghost use Rattle.text.specs.Wrote.{WritesLine};
 ghost use Rattle.stock_lines.specs.Form.{form_of, written_form, fields_of, begins_with, line_of, four_of, five_of, stock_prefix, cell_prefix, ring_prefix, end_text};
-ghost use Rattle.stock_lines.specs.First.{form_in, edition_field, edition_of, first_from, first_of};
+ghost use Rattle.stock_lines.specs.First.{form_in, edition_field, edition_of, first_of};
 
 use crate::Bar;
-use text::{Eight, Hex, LINE_ROOM};
+use text::LINE_ROOM;
 
 // What a form fixes: the digits of a cell's index, how many cell lines there are at least and at most,
 // and whether the first line has an edition.
@@ -61,68 +61,52 @@ pub fn written_form(n: usize) -> u64
     3
 }
 
-// The numbers of a cell or of a ring.
+// The numbers of a cell or of a ring, in their order.
 #[derive(Clone, Copy)]
-pub enum Four {
-    Numbers(f64, f64, f64, f64),
-    NoFour,
-}
-
-// The numbers of a bar: z_min, z_max, outer, bore, cell.
-#[derive(Clone, Copy)]
-pub enum Five {
-    Spec(f64, f64, f64, f64, f64),
-    NoFive,
+pub struct Four {
+    pub a: f64,
+    pub b: f64,
+    pub c: f64,
+    pub d: f64,
 }
 
 // What a first line says: its form, its edition and its bar.
 #[derive(Clone, Copy)]
-pub enum First {
-    Says(u64, u32, Bar),
-    NoFirst,
+pub struct First {
+    pub form: u64,
+    pub edition: u32,
+    pub bar: Bar,
 }
 
 // Four numbers from a place on, and nothing behind them.
-fn four_from(s: &[u8], at: usize) -> Four
+fn four_from(s: &[u8], at: usize) -> Option<Four>
     requires { at + 68 ≡ length s.now }
     ensures { result ≡ four_of (fields_of 4 (drop at s.now)) }
 {
-    let Hex::Of(a) = text::read_hex(s, at) else {
-        return Four::NoFour;
-    };
-    let Hex::Of(b) = text::read_hex(s, at + 17) else {
-        return Four::NoFour;
-    };
-    let Hex::Of(c) = text::read_hex(s, at + 34) else {
-        return Four::NoFour;
-    };
-    let Hex::Of(d) = text::read_hex(s, at + 51) else {
-        return Four::NoFour;
-    };
-    Four::Numbers(a, b, c, d)
+    let a = text::read_hex(s, at)?;
+    let b = text::read_hex(s, at + 17)?;
+    let c = text::read_hex(s, at + 34)?;
+    let d = text::read_hex(s, at + 51)?;
+    Some(Four { a, b, c, d })
 }
 
-// Five numbers from a place on, and nothing behind them.
-fn five_from(s: &[u8], at: usize) -> Five
+// The five numbers of a bar from a place on, and nothing behind them.
+fn five_from(s: &[u8], at: usize) -> Option<Bar>
     requires { at + 85 ≡ length s.now }
     ensures { result ≡ five_of (fields_of 5 (drop at s.now)) }
 {
-    let Hex::Of(a) = text::read_hex(s, at) else {
-        return Five::NoFive;
-    };
-    let Hex::Of(b) = text::read_hex(s, at + 17) else {
-        return Five::NoFive;
-    };
-    let Hex::Of(c) = text::read_hex(s, at + 34) else {
-        return Five::NoFive;
-    };
-    let Hex::Of(d) = text::read_hex(s, at + 51) else {
-        return Five::NoFive;
-    };
-    let Hex::Of(e) = text::read_hex(s, at + 68) else {
-        return Five::NoFive;
-    };
-    Five::Spec(a, b, c, d, e)
+    let a = text::read_hex(s, at)?;
+    let b = text::read_hex(s, at + 17)?;
+    let c = text::read_hex(s, at + 34)?;
+    let d = text::read_hex(s, at + 51)?;
+    let e = text::read_hex(s, at + 68)?;
+    Some(Bar {
+        z_min_mm: a,
+        z_max_mm: b,
+        outer_radius_mm: c,
+        bore_radius_mm: d,
+        cell_mm: e,
+    })
 }
 
 // A line begins with the prefix, and has so many bytes behind it.
@@ -138,18 +122,18 @@ fn begins(line: &[u8], prefix: &[u8], rest: usize) -> bool
 }
 
 // A line of four numbers behind the prefix.
-fn read_four(line: &[u8], prefix: &[u8]) -> Four
+fn read_four(line: &[u8], prefix: &[u8]) -> Option<Four>
     requires { length prefix.now < 100 }
     ensures { result ≡ four_of (line_of prefix.now 4 line.now) }
 {
     if begins(line, prefix, 68) {
         return four_from(line, prefix.len());
     }
-    Four::NoFour
+    None
 }
 
 // A ring's line, without its newline.
-pub fn read_ring_line(line: &[u8]) -> Four
+pub fn read_ring_line(line: &[u8]) -> Option<Four>
     ensures { result ≡ four_of (line_of ring_prefix 4 line.now) }
 {
     read_four(line, b"ring")
@@ -181,7 +165,7 @@ pub fn put_end(out: &mut [u8; LINE_ROOM], count: u64) -> usize
 }
 
 // The line of the cell at index, without its newline.
-pub fn read_cell_line(line: &[u8], form: u64, index: u64) -> Four
+pub fn read_cell_line(line: &[u8], form: u64, index: u64) -> Option<Four>
     ensures { result ≡ four_of (line_of (cell_prefix form index) 4 line.now) }
 {
     let mut p = [0; LINE_ROOM];
@@ -190,7 +174,7 @@ pub fn read_cell_line(line: &[u8], form: u64, index: u64) -> Four
 }
 
 // `stock`, the form's number and five numbers, and nothing behind them.
-fn read_bar(line: &[u8], form: u64) -> Five
+fn read_bar(line: &[u8], form: u64) -> Option<Bar>
     ensures { result ≡ five_of (line_of (stock_prefix form) 5 line.now) }
 {
     let mut p = [0; LINE_ROOM];
@@ -198,7 +182,7 @@ fn read_bar(line: &[u8], form: u64) -> Five
     if begins(line, &p[..n], 85) {
         return five_from(line, n);
     }
-    Five::NoFive
+    None
 }
 
 // The form that a first line is to have: 2 or 3 where its seventh byte says so, and else 1.
@@ -219,20 +203,20 @@ fn form_in(line: &[u8]) -> u64
 }
 
 // A tab and 8 digits, and nothing behind them.
-fn read_field(s: &[u8]) -> Eight
+fn read_field(s: &[u8]) -> Option<u32>
     ensures { result ≡ edition_field s.now }
 {
     if s.len() == 0 {
-        return Eight::NoEight;
+        return None;
     }
     if s[0] == b'\t' {
         return text::read_eight(&s[1..]);
     }
-    Eight::NoEight
+    None
 }
 
 // The edition behind the bar: 0 where the form has none and nothing stands there.
-fn read_edition(s: &[u8], form: u64) -> Eight
+fn read_edition(s: &[u8], form: u64) -> Option<u32>
     ensures { result ≡ edition_of form s.now }
 {
     let f = form_of(form);
@@ -240,45 +224,22 @@ fn read_edition(s: &[u8], form: u64) -> Eight
         return read_field(s);
     }
     if s.len() == 0 {
-        return Eight::Of(0);
+        return Some(0);
     }
-    Eight::NoEight
-}
-
-// The two parts of a first line.
-fn first_from(form: u64, edition: Eight, five: Five) -> First
-    ensures { result ≡ first_from form edition five }
-{
-    let Eight::Of(edition) = edition else {
-        return First::NoFirst;
-    };
-    let Five::Spec(a, b, c, d, e) = five else {
-        return First::NoFirst;
-    };
-    First::Says(
-        form,
-        edition,
-        Bar {
-            z_min_mm: a,
-            z_max_mm: b,
-            outer_radius_mm: c,
-            bore_radius_mm: d,
-            cell_mm: e,
-        },
-    )
+    None
 }
 
 // The first line, without its newline.
-pub fn read_first_line(line: &[u8]) -> First
+pub fn read_first_line(line: &[u8]) -> Option<First>
     ensures { result ≡ first_of line.now }
 {
     if line.len() < BAR_LONG {
-        return First::NoFirst;
+        return None;
     }
     let form = form_in(line);
-    let five = read_bar(&line[..BAR_LONG], form);
-    let edition = read_edition(&line[BAR_LONG..], form);
-    first_from(form, edition, five)
+    let bar = read_bar(&line[..BAR_LONG], form)?;
+    let edition = read_edition(&line[BAR_LONG..], form)?;
+    Some(First { form, edition, bar })
 }
 
 // The last line, without its newline, after so many lines.

@@ -67,34 +67,27 @@ fn count_to(limit: usize, n: usize) -> usize
 pub fn refuse(reading: Reading) -> Reading
     ensures { result ≡ refusing reading }
 {
-    let bar = reading.bar;
     Reading {
-        stage: reading.stage,
-        form: reading.form,
-        edition: reading.edition,
-        bar,
-        cells: reading.cells,
-        rings: reading.rings,
         lines: std::num::wrapping_add_u64(reading.lines, 1),
         refused: true,
+        ..reading
     }
 }
 
 // The first line, which said this.
-fn begin(reading: Reading, first: First) -> Reading
+fn begin(reading: Reading, first: Option<First>) -> Reading
     ensures { result ≡ begun reading first }
 {
     match first {
-        First::NoFirst => refuse(reading),
-        First::Says(form, edition, bar) => Reading {
+        None => refuse(reading),
+        Some(first) => Reading {
             stage: 1,
-            form,
-            edition,
-            bar,
-            cells: reading.cells,
-            rings: reading.rings,
+            form: first.form,
+            edition: first.edition,
+            bar: first.bar,
             lines: std::num::wrapping_add_u64(reading.lines, 1),
             refused: false,
+            ..reading
         },
     }
 }
@@ -103,16 +96,13 @@ fn begin(reading: Reading, first: First) -> Reading
 fn onward(reading: Reading, stage: u64, cells: usize, rings: usize) -> Reading
     ensures { result ≡ onward_to reading stage cells rings }
 {
-    let bar = reading.bar;
     Reading {
         stage,
-        form: reading.form,
-        edition: reading.edition,
-        bar,
         cells,
         rings,
         lines: std::num::wrapping_add_u64(reading.lines, 1),
         refused: false,
+        ..reading
     }
 }
 

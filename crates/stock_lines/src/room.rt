@@ -17,36 +17,36 @@ pub enum Took {
 }
 
 // Four numbers at place k of a lent list, if its room and the limit reach there.
-fn keep(list: &mut [f64], limit: usize, k: usize, a: f64, b: f64, c: f64, d: f64)
-    ensures { list.new ≡ kept limit list.old k (a ∷ b ∷ c ∷ d ∷ []) }
+fn keep(list: &mut [f64], limit: usize, k: usize, four: Four)
+    ensures { list.new ≡ kept limit list.old k (four.a ∷ four.b ∷ four.c ∷ four.d ∷ []) }
 {
     if k < limit {
         if k < list.len() / 4 {
             let at = 4 * k;
-            list[at] = a;
-            list[at + 1] = b;
-            list[at + 2] = c;
-            list[at + 3] = d;
+            list[at] = four.a;
+            list[at + 1] = four.b;
+            list[at + 2] = four.c;
+            list[at + 3] = four.d;
         }
     }
 }
 
 // Whether a line held numbers; they are stored at place k.
-fn store(list: &mut [f64], limit: usize, k: usize, four: Four) -> bool
+fn store(list: &mut [f64], limit: usize, k: usize, four: Option<Four>) -> bool
     ensures value { result ≡ taken four }
     ensures list_after { list.new ≡ stored limit list.old k four }
 {
     match four {
-        Four::Numbers(a, b, c, d) => {
-            keep(list, limit, k, a, b, c, d);
+        Some(four) => {
+            keep(list, limit, k, four);
             true
         }
-        Four::NoFour => false,
+        None => false,
     }
 }
 
 // The line of the cell at n after m rings: no cell's line stands after a ring's.
-fn cell_in_turn(line: &[u8], form: u64, n: usize, m: usize) -> Four
+fn cell_in_turn(line: &[u8], form: u64, n: usize, m: usize) -> Option<Four>
     ensures { result ≡ cell_at form n m line.now }
 {
     let f = form::form_of(form);
@@ -55,7 +55,7 @@ fn cell_in_turn(line: &[u8], form: u64, n: usize, m: usize) -> Four
             return form::read_cell_line(line, form, n as u64);
         }
     }
-    Four::NoFour
+    None
 }
 
 // Whether a line is the cell's at n after m rings; its numbers are stored.
@@ -68,14 +68,14 @@ fn store_cell(cells: &mut [f64], line: &[u8], form: u64, n: usize, m: usize) -> 
 }
 
 // The line of a ring after n cell lines: there are to be enough.
-fn ring_in_turn(line: &[u8], form: u64, n: usize) -> Four
+fn ring_in_turn(line: &[u8], form: u64, n: usize) -> Option<Four>
     ensures { result ≡ ring_turn form n line.now }
 {
     let f = form::form_of(form);
     if f.least <= n {
         return form::read_ring_line(line);
     }
-    Four::NoFour
+    None
 }
 
 // Whether a line is the last, after n cell lines and `before` lines in all: there are to be enough.

@@ -2,15 +2,13 @@
 // two files that its arguments name, and writes the picture as SVG, or the one refusal.
 #![tactic(auto)]
 
+ghost use Rattle.refusals.specs.Number.{paper_of, placed_of};
 ghost use Rattle.refusals.specs.Limits.{cell_limit};
-ghost use Rattle.stock_file.specs.Read.{kept_paper};
 ghost use Rattle.stock_streams.specs.Read.{ReadsStock};
 ghost use Rattle.stock_streams.specs.Write.{AllPut};
-ghost use Rattle.side_by_side.specs.Compared.{compared_paper};
 ghost use Rattle.side_by_side.specs.Refused.{file_refused, pair_refused};
 
-use refusals::{CELL_LIMIT, RING_LIMIT, Refusal};
-use side_by_side::Compared;
+use refusals::{CELL_LIMIT, RING_LIMIT, Refusal, Refused};
 use stock::TurnStock;
 use stock_file::Kept;
 use streams::{GATHERED, Out};
@@ -27,7 +25,12 @@ const CELL_NUMBERS: usize = 4 * CELL_LIMIT;
 const RING_NUMBERS: usize = 4 * RING_LIMIT;
 
 // What the file of a name tells.
-fn read_named(rt: &HostRuntime, path: &[u8], cells: &mut [f64], rings: &mut [f64]) -> Kept
+fn read_named(
+    rt: &HostRuntime,
+    path: &[u8],
+    cells: &mut [f64],
+    rings: &mut [f64],
+) -> Result<Kept, Refused>
     ensures { ReadsStock cell_limit result cells rings }
 {
     let opened = streams::open(rt, path);
@@ -37,7 +40,7 @@ fn read_named(rt: &HostRuntime, path: &[u8], cells: &mut [f64], rings: &mut [f64
         }
         Err(e) => {
             streams::fail_at(rt, path, e);
-            Kept::RefusedAt(Refusal::FileMalformed, 1)
+            Err(Refused::at(Refusal::FileMalformed, 1))
         }
     }
 }
@@ -52,8 +55,13 @@ fn first_fours(xs: &[f64], n: usize) -> &[f64] {
 }
 
 // Gathers the line of a file that is refused; nothing where it tells a stock.
-fn gather_file(rt: &HostRuntime, gathered: &mut [u8; GATHERED], file: u64, kept: Kept) -> Out
-    ensures { AllPut (file_refused file (kept_paper kept)) result gathered.new }
+fn gather_file(
+    rt: &HostRuntime,
+    gathered: &mut [u8; GATHERED],
+    file: u64,
+    kept: Result<Kept, Refused>,
+) -> Out
+    ensures { AllPut (file_refused file (placed_of kept)) result gathered.new }
 {
     let mut line = [0u8; LINE_ROOM];
     let n = side_by_side::file_refused(&mut line, file, kept);
@@ -67,8 +75,12 @@ fn gather_file(rt: &HostRuntime, gathered: &mut [u8; GATHERED], file: u64, kept:
 }
 
 // Gathers the line of two stocks that are refused; nothing where they are compared.
-fn gather_refused(rt: &HostRuntime, gathered: &mut [u8; GATHERED], compared: Compared) -> Out
-    ensures { AllPut (pair_refused (compared_paper compared)) result gathered.new }
+fn gather_refused(
+    rt: &HostRuntime,
+    gathered: &mut [u8; GATHERED],
+    compared: Result<usize, Refusal>,
+) -> Out
+    ensures { AllPut (pair_refused (paper_of compared)) result gathered.new }
 {
     let mut line = [0u8; LINE_ROOM];
     let n = side_by_side::pair_refused(&mut line, compared);
@@ -147,10 +159,8 @@ fn gather_pair(
         k,
     );
     match compared {
-        Compared::Chunks(_) => {
-            gather_two(rt, gathered, first, cells1, rings1, second, cells2, rings2)
-        }
-        Compared::Refused(_) => gather_refused(rt, gathered, compared),
+        Ok(_) => { gather_two(rt, gathered, first, cells1, rings1, second, cells2, rings2) }
+        Err(_) => gather_refused(rt, gathered, compared),
     }
 }
 
@@ -168,7 +178,12 @@ fn gather_second(
     let mut rings2 = [0.0f64; RING_NUMBERS];
     let kept = read_named(rt, second, &mut cells2, &mut rings2);
     match kept {
-        Kept::Stock(other, m) => gather_pair(
+        Ok(
+            Kept {
+                stock: other,
+                cells: m,
+            },
+        ) => gather_pair(
             rt,
             gathered,
             stock,
@@ -178,8 +193,7 @@ fn gather_second(
             first_fours(&cells2, m),
             first_fours(&rings2, other.rings),
         ),
-        Kept::Refused(_) => gather_file(rt, gathered, 2, kept),
-        Kept::RefusedAt(_, _) => gather_file(rt, gathered, 2, kept),
+        Err(_) => gather_file(rt, gathered, 2, kept),
     }
 }
 
@@ -218,11 +232,10 @@ fn gather_files(
     let mut rings = [0.0f64; RING_NUMBERS];
     let kept = read_named(rt, first, &mut cells, &mut rings);
     match kept {
-        Kept::Stock(stock, n) => gather_stock(
+        Ok(Kept { stock, cells: n }) => gather_stock(
             rt, gathered, stock, n, &cells, &rings, files, second,
         ),
-        Kept::Refused(_) => gather_file(rt, gathered, 1, kept),
-        Kept::RefusedAt(_, _) => gather_file(rt, gathered, 1, kept),
+        Err(_) => gather_file(rt, gathered, 1, kept),
     }
 }
 

@@ -2,7 +2,8 @@
 //
 // On paper a unit is a millimetre. The place 0, 0 is the axis at z_min.
 use crate::pen::{count, count_after, edition, length, number, number_after, say, scale_for};
-use queries::Measured;
+use queries::Volumes;
+use refusals::Refused;
 use stock::{TurnStock, TurnStockSpec};
 use streams::{GATHERED, Out};
 
@@ -262,13 +263,13 @@ fn amount(
     let a = count_after(rt, out, gathered, b"rings: ", k as u64);
     let b = say(rt, a, gathered, b"; volume ");
     match queries::volume(spec, cells, rings, k) {
-        Measured::Between(x, y) => {
-            let c = volume(rt, b, gathered, x);
+        Ok(Volumes { least, greatest }) => {
+            let c = volume(rt, b, gathered, least);
             let d = say(rt, c, gathered, b" to ");
-            let e = volume(rt, d, gathered, y);
+            let e = volume(rt, d, gathered, greatest);
             say(rt, e, gathered, b" mm&#179;")
         }
-        Measured::Refused(_) => say(rt, b, gathered, b"unknown"),
+        Err(_) => say(rt, b, gathered, b"unknown"),
     }
 }
 

@@ -2,7 +2,7 @@
 use crate::page::Frame;
 use crate::pen::{length_after, line, number_after, say};
 use picture::{Look, Stretch};
-use rings::{Left, Ring};
+use rings::Ring;
 use stock::{TurnSide, TurnStockSpec};
 use streams::{GATHERED, Out};
 use text::LINE_ROOM;
@@ -235,8 +235,8 @@ fn left(
     let mut pieces = [0.0f64; 1024];
     let left = rings::left_of(others, others.len() / 4, q, &mut pieces);
     match left {
-        Left::Pieces(n) => pieces_to(rt, out, gathered, z_min, &pieces, n),
-        Left::Refused(_) => out,
+        Ok(n) => pieces_to(rt, out, gathered, z_min, &pieces, n),
+        Err(_) => out,
     }
 }
 

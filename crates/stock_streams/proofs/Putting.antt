@@ -1,4 +1,5 @@
 -- The lines of a stock's file put one behind the other. Assumes nothing.
+use Rattle.std.specs.Prelude.{Err, Ok, Result}
 use Prim.Native.Nat.{ℕ, zero, suc, ◌+◌, ◌-◌, ◌≤◌}
 use native.Mathlib.Numerals.{add-one}
 use native.Mathlib.Omega.{arith}
@@ -10,7 +11,7 @@ use lib.ListN.{length, take, length-append}
 use lib.Seq.{length-sets}
 use lib.Ieee.{Float}
 use Rattle.refusals.specs.declared.Refusal.{Refusal}
-use Rattle.refusals.specs.Number.{reason_of}
+use Rattle.refusals.specs.Number.{reason_of, paper_of}
 use Rattle.refusals.specs.Paper.{Paper, answers, refuses, demand, onward}
 use Rattle.floats.specs.Pick.{pick}
 use Rattle.stock.specs.declared.TurnStock.{TurnStock}
@@ -28,9 +29,7 @@ use Rattle.streams.specs.Moves.{Gathers, Puts}
 use Rattle.stock_lines.specs.Form.{stock_text, stock_line, kept_cell_line, end_line, fields_text}
 use Rattle.stock_lines.proofs.Steps.{few-digits, wrote-front}
 use Rattle.stock_lines.proofs.Firsts.{first-few}
-use Rattle.stock_file.specs.declared.written.Spelled.{Spelled}
-use Rattle.stock_file.specs.declared.written.Spelled.TheVariants as spelled
-use Rattle.stock_file.specs.Write.{Opening, opening_of, line_behind, line_at, lines_to, file_of, line_count, line_for, line_paper, line_over, WroteFileLine}
+use Rattle.stock_file.specs.Write.{Opening, opening_of, line_behind, line_at, lines_to, file_of, line_count, line_for, line_over, WroteFileLine}
 use Rattle.stock_file.proofs.Lined.{for-line}
 use Rattle.stock_streams.specs.Write.{text_in, AllPut, PutsStock}
 
@@ -77,7 +76,7 @@ for-short stock cs rs k s = go (new_of stock.spec (length cs))
 -- ---- what is put
 
 -- a buffer stays as long as it is
-pub over-length : {l l' : List ℕ} {p : Paper (List ℕ)} {r : Spelled} → WroteFileLine l p r l' → length l' ≡ length l
+pub over-length : {l l' : List ℕ} {p : Paper (List ℕ)} {r : (Result ℕ Refusal)} → WroteFileLine l p r l' → length l' ≡ length l
 over-length {l} {l'} {p} w = ap length w.out ∙ by p
   where
     by : (q : Paper (List ℕ)) → length (line_over q l) ≡ length l
@@ -85,27 +84,27 @@ over-length {l} {l'} {p} w = ap length w.out ∙ by p
     by (refuses c) = refl
 
 -- a line's bytes
-pub put-told : (stock : TurnStock) (cs rs : List Float) (k : ℕ) {l l' : List ℕ} {n : ℕ} {x : Spelled} {t : List ℕ} {out r : Out} {buf buf' : List ℕ} → length l ≡ line_room
-    → WroteFileLine l (line_for stock cs rs k) x l' → x ≡ spelled.Bytes n → t ≡ take n l' → Puts out buf t r buf' → Puts out buf (text_in (line_for stock cs rs k)) r buf'
+pub put-told : (stock : TurnStock) (cs rs : List Float) (k : ℕ) {l l' : List ℕ} {n : ℕ} {x : (Result ℕ Refusal)} {t : List ℕ} {out r : Out} {buf buf' : List ℕ} → length l ≡ line_room
+    → WroteFileLine l (line_for stock cs rs k) x l' → x ≡ Ok n → t ≡ take n l' → Puts out buf t r buf' → Puts out buf (text_in (line_for stock cs rs k)) r buf'
 put-told stock cs rs k {l} {l'} {n} {x} {t} {out} {r} {buf} {buf'} room v ex et p = by (line_for stock cs rs k) refl
   where
-    w : WroteFileLine l (line_for stock cs rs k) (spelled.Bytes n) l'
-    w = subst (λ (y : Spelled). WroteFileLine l (line_for stock cs rs k) y l') ex v
+    w : WroteFileLine l (line_for stock cs rs k) (Ok n) l'
+    w = subst (λ (y : Result ℕ Refusal). WroteFileLine l (line_for stock cs rs k) y l') ex v
 
     by : (q : Paper (List ℕ)) → line_for stock cs rs k ≡ q → Puts out buf (text_in (line_for stock cs rs k)) r buf'
     by (answers s) e =
-        let u : WroteFileLine l (answers s) (spelled.Bytes n) l' = subst (λ (x : Paper (List ℕ)). WroteFileLine l x (spelled.Bytes n) l') e w in
+        let u : WroteFileLine l (answers s) (Ok n) l' = subst (λ (x : Paper (List ℕ)). WroteFileLine l x (Ok n) l') e w in
         let h : n ≡ length s = same_answer u.answer in
         let f : Wrote l 0 s l' n = record { text = u.out; end = omega (arith, h) } in
         let g : n ≤ length l = omega (arith, h, room, for-short stock cs rs k s e) in
         subst (λ (x : List ℕ). Puts out buf x r buf') (et ∙ wrote-front f g ∙ sym (ap text_in e)) p
     by (refuses c) e =
-        let u : WroteFileLine l (refuses c) (spelled.Bytes n) l' = subst (λ (x : Paper (List ℕ)). WroteFileLine l x (spelled.Bytes n) l') e w in
+        let u : WroteFileLine l (refuses c) (Ok n) l' = subst (λ (x : Paper (List ℕ)). WroteFileLine l x (Ok n) l') e w in
         absurd (no_answer c n (sym u.answer))
 
 -- of a line that is refused, none
-pub put-nothing : (p : Paper (List ℕ)) {l l' : List ℕ} {x : Spelled} {c : Refusal} (out : Out) (buf : List ℕ) → WroteFileLine l p x l' → x ≡ spelled.Refused c → Puts out buf (text_in p) out buf
-put-nothing (answers s) {c = c} out buf w e = absurd (no_answer (reason_of c) (length s) (sym (ap line_paper e) ∙ w.answer))
+pub put-nothing : (p : Paper (List ℕ)) {l l' : List ℕ} {x : (Result ℕ Refusal)} {c : Refusal} (out : Out) (buf : List ℕ) → WroteFileLine l p x l' → x ≡ Err c → Puts out buf (text_in p) out buf
+put-nothing (answers s) {c = c} out buf w e = absurd (no_answer (reason_of c) (length s) (sym (ap paper_of e) ∙ w.answer))
 put-nothing (refuses r) out buf w e = record { stopped = λ f. f; gathers = λ f. record { handed = []; split = sym (append-nil (take out.len buf)) } }
 
 gathers-more : {a b p p' : List ℕ} → Gathers [] a p → Gathers p b p' → Gathers [] (a ++ b) p'

@@ -8,10 +8,14 @@ use lib.Dec.{ltb}
 use lib.ListN.{length, length-append}
 use lib.Ieee.{Float}
 use borrow.Author.Tests.{ne_eqb}
+use Rattle.std.specs.Prelude.{Result}
+use Rattle.refusals.specs.Number.{placed_of}
+use Rattle.refusals.specs.declared.Refused.{Refused}
 use Rattle.refusals.specs.Lent.{Lent, over}
 use Rattle.text.proofs.Chosen.{yes, no}
 use Rattle.streams.specs.declared.Got.{Got}
 use Rattle.streams.specs.declared.Got.TheVariants as got
+use Rattle.streams.specs.Brought.{held_by}
 use Rattle.lines.specs.File as file
 use Rattle.lines.specs.Hands.{Hand, hand, byte_on, takes}
 use Rattle.lines.proofs.Parts.{parts}
@@ -19,9 +23,9 @@ use Rattle.lines.proofs.OneFile.{whole-file}
 use Rattle.stock_lines.specs.declared.Reading.{Reading}
 use Rattle.stock_lines.specs.Reading.{State, state, refusing, on_line}
 use Rattle.stock_file.specs.declared.Kept.{Kept}
-use Rattle.stock_file.specs.Read.{fresh_reading, stopped, on_long, on_end, held_in, taking, ended, told_as, kept_paper, file_in}
+use Rattle.stock_file.specs.Read.{fresh_reading, stopped, on_long, on_end, held_in, taking, ended, told_as, file_in}
 use Rattle.stock_file.proofs.Cut.{long-stops, takes-few, found-again, end_is}
-use Rattle.stock_streams.specs.Read.{held_by, ReadsOn, StockOfSome}
+use Rattle.stock_streams.specs.Read.{ReadsOn, StockOfSome}
 
 -- some bytes from before the first on
 abbrev pub came : List Float → List Float → List ℕ → Hand State
@@ -75,14 +79,14 @@ one_more r cs rs h = by r.refused refl (ltb (length h) 127) refl
     by false e true f = simp (e, f, yes, no, ne_eqb (length (h ++ (0 ∷ []))) 0 (λ q. omega (arith, q, length-append h (0 ∷ []))))
     by false e false f = simp (e, f, yes, no)
 
-module _ {reading : Reading} {len : ℕ} {cs cs' rs rs' : List Float} {line : List ℕ} (most : ℕ) (r : Kept) (a : SoFar cs rs reading len cs' rs' line) where
+module _ {reading : Reading} {len : ℕ} {cs cs' rs rs' : List Float} {line : List ℕ} (most : ℕ) (r : Result Kept Refused) (a : SoFar cs rs reading len cs' rs' line) where
   hands : hand (state reading cs' rs') (came cs rs a.bytes).held ≡ came cs rs a.bytes
   hands = ap (λ (x : State). hand x (came cs rs a.bytes).held) a.reads
 
   whole : (s : List ℕ) → is_at_end (came cs rs s) ≡ file_in cs rs s
   whole s = whole-file stopped on_line on_long on_end long-stops s (state fresh_reading cs rs)
 
-  told-by : (k : ℕ) (s : List ℕ) → state (ended reading k) cs' rs' ≡ file_in cs rs s → kept_paper r ≡ told_as (ended reading k) most cs' rs' → StockOfSome most r cs cs' rs rs'
+  told-by : (k : ℕ) (s : List ℕ) → state (ended reading k) cs' rs' ≡ file_in cs rs s → placed_of r ≡ told_as (ended reading k) most cs' rs' → StockOfSome most r cs cs' rs rs'
   told-by k s e p = record {
     bytes = s;
     told = p ∙ ap (λ (x : State). told_as x.reading most x.cells x.rings) e;
@@ -90,7 +94,7 @@ module _ {reading : Reading} {len : ℕ} {cs cs' rs rs' : List Float} {line : Li
     rings = ap (λ (x : State). x.rings) e;
   }
 
-  cut : kept_paper r ≡ told_as (ended reading 1) most cs' rs' → StockOfSome most r cs cs' rs rs'
+  cut : placed_of r ≡ told_as (ended reading 1) most cs' rs' → StockOfSome most r cs cs' rs rs'
   unfolding takes
   cut p =
       told-by 1 (a.bytes ++ (0 ∷ []))
@@ -101,7 +105,7 @@ module _ {reading : Reading} {len : ℕ} {cs cs' rs rs' : List Float} {line : Li
       p
 
   -- the input is at its end
-  pub done : (g : Got) (k : ℕ) → k ≡ held_by g len → kept_paper r ≡ told_as (ended reading k) most cs' rs' → StockOfSome most r cs cs' rs rs'
+  pub done : (g : Got) (k : ℕ) → k ≡ held_by g len → placed_of r ≡ told_as (ended reading k) most cs' rs' → StockOfSome most r cs cs' rs rs'
   done got.End k e p =
       told-by k a.bytes
       (ap (λ (i : ℕ). state (ended reading i) cs' rs') (e ∙ a.holds)

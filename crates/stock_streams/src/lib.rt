@@ -5,19 +5,23 @@
 // it were whole. Lines to write are gathered, and a stock that is refused writes none.
 #![tactic(auto)]
 
-ghost use Rattle.std.specs.Prelude.{◌≡◌, ◌≤◌, true};
+ghost use Rattle.std.specs.Prelude.{◌≡◌, true};
 ghost use Rattle.streams.specs.Moves.{Puts};
 ghost use Rattle.stock_file.specs.Write.{line_for, lines_to};
-ghost use Rattle.stock_streams.specs.Read.{brought_by, may_be_more, held_by, ReadsOn, ReadsStock};
+ghost use Rattle.stock_streams.specs.Read.{ReadsOn, ReadsStock};
 ghost use Rattle.stock_streams.specs.Write.{text_in, AllPut, PutsStock, Asked};
 
+use refusals::Refused;
 use std::io::{Read, Write};
 use std::rt::Clock;
 use stock::TurnStock;
-use stock_file::{Kept, Lines, Spelled};
+use stock_file::Kept;
 use stock_lines::Reading;
 use streams::{GATHERED, Got, Out};
 use text::LINE_ROOM;
+
+// So many bytes are read at a time at most.
+pub use streams::PART;
 
 // A reading after a read, with so many bytes of the unfinished line, and what the read told.
 #[derive(Clone, Copy)]
@@ -27,55 +31,7 @@ struct Turn {
     got: Got,
 }
 
-// So many bytes are read at a time at most.
-pub const PART: usize = 65536;
-
 // ---- reading
-
-fn part_size(most: usize) -> usize
-    ensures { (1 ≤ result) × (result ≤ 65536) }
-{
-    if most < 1 {
-        return 1;
-    }
-    if PART < most {
-        return PART;
-    }
-    most
-}
-
-// How many bytes a read brought; at the end, none.
-fn brought(got: Got) -> usize
-    ensures { result ≡ brought_by got }
-{
-    match got {
-        Got::Bytes(n) => n,
-        Got::End => 0,
-        Got::Cut => 0,
-    }
-}
-
-// Whether there may be more after a read.
-fn may_be_more(got: Got) -> bool
-    ensures { result ≡ may_be_more got }
-{
-    match got {
-        Got::Bytes(_) => true,
-        Got::End => false,
-        Got::Cut => false,
-    }
-}
-
-// How many bytes of an unfinished line the file ends with: where it is cut off, there are some.
-fn held_by(got: Got, len: usize) -> usize
-    ensures { result ≡ held_by got len }
-{
-    match got {
-        Got::End => len,
-        Got::Cut => 1,
-        Got::Bytes(_) => 1,
-    }
-}
 
 // Reads once, into lent bytes, and takes what came.
 fn take_once(
@@ -91,11 +47,10 @@ fn take_once(
     ensures { ReadsOn reading len cells rings line result.reading result.len }
 {
     let got = streams::read_some(rt, from, part);
-    let n = brought(got);
-    let taken = stock_file::take_part(reading, cells, rings, line, len, text::front(part, n));
-    let after = taken.reading;
+    let came = text::front(part, got.brought());
+    let taken = stock_file::take_part(reading, cells, rings, line, len, came);
     Turn {
-        reading: after,
+        reading: taken.reading,
         len: taken.len,
         got,
     }
@@ -115,7 +70,7 @@ fn take_some(
     ensures { ReadsOn reading len cells rings line result.reading result.len }
 {
     let mut buf = io::large_buffer();
-    let end = part_size(most);
+    let end = streams::part_size(most);
     take_once(rt, from, &mut buf[..end], reading, cells, rings, line, len)
 }
 
@@ -128,26 +83,21 @@ pub fn read_stock(
     max_cells: usize,
     cells: &mut [f64],
     rings: &mut [f64],
-) -> Kept
+) -> Result<Kept, Refused>
     ensures { ReadsStock max_cells result cells rings }
 {
     let mut line = [0u8; LINE_ROOM];
     let mut reading = stock_file::fresh();
     let mut len: usize = 0;
-    let mut turns = u64::MAX;
-    loop {
+    for _ in 0..u64::MAX {
         let t = take_some(rt, from, most, reading, cells, rings, &mut line, len);
         reading = t.reading;
         len = t.len;
-        let got = t.got;
-        if !may_be_more(got) {
-            return stock_file::finish(reading, held_by(got, len), max_cells, cells, rings);
+        if !t.got.may_be_more() {
+            return stock_file::finish(reading, t.got.held(len), max_cells, cells, rings);
         }
-        if turns == 0 {
-            return stock_file::finish(reading, held_by(got, len), max_cells, cells, rings);
-        }
-        turns -= 1;
     }
+    stock_file::finish(reading, Got::Cut.held(len), max_cells, cells, rings)
 }
 
 // ---- writing
@@ -169,8 +119,8 @@ fn put_line(
     let mut line = [0u8; LINE_ROOM];
     let spelled = stock_file::file_line(&mut line, stock, cells, rings, k);
     match spelled {
-        Spelled::Bytes(n) => streams::put(rt, to, out, gathered, text::front(&line, n)),
-        Spelled::Refused(_) => out,
+        Ok(n) => streams::put(rt, to, out, gathered, text::front(&line, n)),
+        Err(_) => out,
     }
 }
 
@@ -188,10 +138,8 @@ fn gather_lines(
         result gathered.new }
 {
     let mut out = streams::fresh();
-    let mut k: usize = 0;
-    while k < n {
+    for k in 0..n {
         out = put_line(rt, to, out, gathered, stock, cells, rings, k);
-        k += 1;
     }
     out
 }
@@ -210,8 +158,8 @@ fn gather_stock(
     let spec = stock.spec;
     let lines = stock_file::line_count(spec, cells, rings, stock.rings);
     match lines {
-        Lines::Count(n) => gather_lines(rt, to, gathered, stock, cells, rings, n),
-        Lines::Refused(_) => Out {
+        Ok(n) => gather_lines(rt, to, gathered, stock, cells, rings, n),
+        Err(_) => Out {
             len: 0,
             failed: true,
         },

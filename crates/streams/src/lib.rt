@@ -9,8 +9,9 @@
 // No contract can say which bytes the system's `read` and `write` move.
 #![tactic(auto)]
 
-ghost use Rattle.std.specs.Prelude.{◌≡◌, ◌++◌, ◌+◌, ◌≤◌, length, take, true, false};
+ghost use Rattle.std.specs.Prelude.{◌≡◌, ◌++◌, ◌+◌, ◌≤◌, length, take, true, false, max, min};
 ghost use Rattle.io.specs.Counts.{IsPrefixLen};
+ghost use Rattle.streams.specs.Brought.{brought_by, may_be_more, held_by};
 ghost use Rattle.streams.specs.Moves.{Reads, Takes, SameFront, Puts};
 
 use std::io;
@@ -32,6 +33,41 @@ pub enum Got {
     Bytes(usize),
     End,
     Cut,
+}
+
+impl Got {
+    // How many bytes a read brought; at the end, none.
+    pub fn brought(self) -> usize
+        ensures { result ≡ brought_by self }
+    {
+        match self {
+            Got::Bytes(n) => n,
+            Got::End => 0,
+            Got::Cut => 0,
+        }
+    }
+
+    // Whether there may be more after a read.
+    pub fn may_be_more(self) -> bool
+        ensures { result ≡ may_be_more self }
+    {
+        match self {
+            Got::Bytes(_) => true,
+            Got::End => false,
+            Got::Cut => false,
+        }
+    }
+
+    // How many bytes of an unfinished line the input ends with: where it is cut off, there are some.
+    pub fn held(self, len: usize) -> usize
+        ensures { result ≡ held_by self len }
+    {
+        match self {
+            Got::End => len,
+            Got::Cut => 1,
+            Got::Bytes(_) => 1,
+        }
+    }
 }
 
 // What is gathered: so many bytes, and whether a write has failed, after which
@@ -59,12 +95,21 @@ fn is_again(rt: &impl Clock, error: io::Error) -> bool {
 
 // ---- reading
 
+// So many bytes are read at once at most.
+pub const PART: usize = 65536;
+
+// How many bytes are read at once: at least 1.
+pub fn part_size(most: usize) -> usize
+    ensures { (1 ≤ result) × (result ≤ 65536) × (result ≡ max 1 (min most 65536)) }
+{
+    most.min(PART).max(1)
+}
+
 // Reads what comes next. With no room for a byte it finds the end.
 pub fn read_some(rt: &(impl Eprint + Clock), from: &mut impl Read, buf: &mut [u8]) -> Got
     ensures { Reads result buf.new }
 {
-    let mut turns = u64::MAX;
-    while turns > 0 {
+    for _ in 0..u64::MAX {
         match from.read(buf) {
             Ok(0) => return Got::End,
             Ok(n) => return Got::Bytes(n),
@@ -75,7 +120,6 @@ pub fn read_some(rt: &(impl Eprint + Clock), from: &mut impl Read, buf: &mut [u8
                 }
             }
         }
-        turns -= 1;
     }
     Got::Cut
 }
@@ -112,23 +156,17 @@ fn write_some(rt: &(impl Eprint + Clock), to: &mut impl Write, bytes: &[u8]) -> 
 // Writes all the bytes, and answers whether none is left.
 fn write_out(rt: &(impl Eprint + Clock), to: &mut impl Write, bytes: &[u8]) -> bool {
     let mut done: usize = 0;
-    let mut turns = u64::MAX;
-    while done < bytes.len() {
-        if turns == 0 {
-            return false;
+    for _ in 0..u64::MAX {
+        if bytes.len() <= done {
+            return true;
         }
-        turns -= 1;
         match write_some(rt, to, &bytes[done..]) {
-            Took::Bytes(n) => {
-                done += n;
-            }
+            Took::Bytes(n) => done += n,
             Took::Nothing => {}
-            Took::Failed => {
-                return false;
-            }
+            Took::Failed => return false,
         }
     }
-    true
+    bytes.len() <= done
 }
 
 // Writes the first len bytes, all where there are fewer.
@@ -149,18 +187,14 @@ fn copy_in(gathered: &mut [u8], at: usize, bytes: &[u8])
     requires { at + length bytes.now ≤ length gathered.old }
     ensures { take (at + length bytes.now) gathered.new ≡ take at gathered.old ++ bytes.now }
 {
-    let mut i: usize = 0;
-    while i < bytes.len() {
-        gathered[at + i] = bytes[i];
-        i += 1;
-    }
+    gathered[at..at + bytes.len()].copy_from_slice(bytes);
 }
 
 // So many of the bytes gathered are the first len, all where there are fewer.
 fn at_most(len: usize) -> usize
     ensures { (result ≤ 65536) × SameFront result len }
 {
-    if len < GATHERED { len } else { GATHERED }
+    len.min(GATHERED)
 }
 
 // Nothing gathered yet.

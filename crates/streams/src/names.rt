@@ -64,18 +64,15 @@ pub fn argument_count(rt: &impl Env) -> usize {
 pub fn argument(rt: &impl Env, i: usize, buf: &mut [u8]) -> usize
     ensures { IsPrefixLen result buf.new }
 {
-    match rt.arg(i, buf) {
-        Ok(n) => n,
-        Err(_) => 0,
-    }
+    rt.arg(i, buf).unwrap_or(0)
 }
 
 // A name as a path, which is text.
 pub fn path_of(name: &[u8]) -> io::Result<&str> {
-    match str::from_utf8(name) {
-        Ok(path) => Ok(path),
-        Err(_) => Err(io::Error::new(ErrorKind::InvalidInput, "the name is no UTF-8 text")),
-    }
+    str::from_utf8(name).map_err(|_| io::Error::new(
+        ErrorKind::InvalidInput,
+        "the name is no UTF-8 text",
+    ))
 }
 
 // Opens the file of a name to read it.

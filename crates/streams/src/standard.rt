@@ -9,18 +9,12 @@ const NOT_OPEN: i32 = 9;
 // A descriptor that is not open has no copy.
 fn is_closed(number: &impl AsFd) -> bool {
     let copied = number.as_fd().try_clone_to_owned();
-    match copied {
-        Ok(_) => false,
-        Err(e) => e.raw_os_error() == Some(NOT_OPEN),
-    }
+    copied.is_err_and(|e| e.raw_os_error() == Some(NOT_OPEN))
 }
 
 // Leaves a file open under its number, and answers whether that is the one that is wanted.
 fn hold(opened: io::Result<File>, number: RawFd) -> bool {
-    match opened {
-        Ok(file) => file.into_raw_fd() == number,
-        Err(_) => false,
-    }
+    opened.is_ok_and(|file| file.into_raw_fd() == number)
 }
 
 // Takes the numbers of standard input, output and error where the program was started with one of

@@ -8,24 +8,24 @@
 #![tactic(auto)]
 
 ghost use Rattle.std.specs.Prelude.{◌≡◌, replicate};
+ghost use Rattle.refusals.specs.Number.{paper_of};
 ghost use Rattle.refusals.specs.Lent.{over};
-ghost use Rattle.envelope.specs.Envelope.{radius_at_paper, radius_at_of};
+ghost use Rattle.envelope.specs.Envelope.{radius_at_of};
 ghost use Rattle.changes.specs.Change.{written_of};
 ghost use Rattle.changes.specs.Commit.{commit_of, CommitsKept};
 ghost use Rattle.cuts.specs.declared.Tool.TheVariants.{Single};
 ghost use Rattle.cuts.specs.Preview.{preview_cut};
 ghost use Rattle.change_slices.specs.Proposal.{Writes};
 
-use changes::{Applied, Previewed};
+use changes::ChangeList;
 use cuts::{Cut, Tool};
-use envelope::RadiusAt;
 use envelope::held::Envelope;
-use refusals::Refusal;
+use refusals::{Refusal, Refused};
 use stock::{Stamp, TurnChange, TurnStock, TurnStockSpec};
 
 // The highest radius at u, of an envelope that keeps the points.
-fn radius(points: &[f64], u: f64) -> RadiusAt
-    ensures { radius_at_paper result ≡ radius_at_of points.now u }
+fn radius(points: &[f64], u: f64) -> Result<Option<f64>, Refusal>
+    ensures { paper_of result ≡ radius_at_of points.now u }
 {
     Envelope::new(points).radius_at(u)
 }
@@ -38,7 +38,12 @@ fn single(cut: Cut) -> Tool
 }
 
 // A single cut, previewed into records. It has no numbers beside it, and the cells stand for them.
-fn preview_cut(stock: TurnStock, cells: &[f64], cut: Cut, changes: &mut [TurnChange]) -> Previewed
+fn preview_cut(
+    stock: TurnStock,
+    cells: &[f64],
+    cut: Cut,
+    changes: &mut [TurnChange],
+) -> Result<ChangeList, Refusal>
     ensures { Writes stock.stamp (preview_cut stock.spec cells.now cut) result changes }
 {
     let tool = single(cut);
@@ -54,11 +59,11 @@ fn cut_two(
     other: TurnStock,
     cut: Cut,
     blank: TurnChange,
-) -> Applied
+) -> Result<TurnStock, Refused>
     ensures { CommitsKept stock (commit_of stock cells.old blocks.old other.stamp (over (written_of (preview_cut other.spec cells.old cut 2)) (replicate 2 blank))) result cells blocks }
 {
     let mut changes = [blank; 2];
-    preview_cut(other, cells, cut, &mut changes);
+    let _ = preview_cut(other, cells, cut, &mut changes);
     change_slices::apply(stock, cells, blocks, other.stamp, &changes)
 }
 
@@ -69,13 +74,13 @@ fn cut_flat(
     blocks: &mut [f64],
     other: TurnStock,
     cut: Cut,
-) -> Applied {
+) -> Result<TurnStock, Refused> {
     let mut indices = [0usize; 2];
     let mut records = [0.0f64; 16];
     let answer = cuts::preview_cut(other, cells, cut, &mut indices, &mut records);
     match answer {
-        Previewed::Refused(r) => Applied::Refused(r),
-        Previewed::Listed(list) => changes::apply(stock, cells, blocks, list, &indices, &records),
+        Err(r) => Err(Refused::from(r)),
+        Ok(list) => changes::apply(stock, cells, blocks, list, &indices, &records),
     }
 }
 
@@ -85,17 +90,27 @@ fn say_no(r: Refusal) {
     io::write_all(1, b"\n");
 }
 
-fn say(answer: Applied) {
+fn say(answer: Result<TurnStock, Refused>) {
     match answer {
-        Applied::Stock(k) => {
+        Ok(k) => {
             io::write_all(1, b"edition ");
             io::print_decimal(1, k.stamp.edition as u64);
             io::write_all(1, b" generation ");
             io::print_decimal(1, k.stamp.generation);
             io::write_all(1, b"\n");
         }
-        Applied::Refused(r) => say_no(r),
-        Applied::RefusedAt(r, k) => {
+        Err(
+            Refused {
+                why: r,
+                place: None,
+            },
+        ) => say_no(r),
+        Err(
+            Refused {
+                why: r,
+                place: Some(k),
+            },
+        ) => {
             io::write_all(1, b"change ");
             io::print_decimal(1, k as u64);
             io::write_all(1, b" ");
@@ -160,7 +175,7 @@ fn same_number(a: &[f64], b: &[f64], i: usize) -> bool {
 // The kept numbers of a stock are those worked out of its cells, to the bit.
 fn say_kept(spec: TurnStockSpec, cells: &[f64], blocks: &[f64]) {
     let mut fresh = [0.0f64; 2];
-    blocks::renew(spec, cells, &mut fresh);
+    let _ = blocks::renew(spec, cells, &mut fresh);
     say_if(same_number(&fresh, blocks, 0) & same_number(&fresh, blocks, 1));
 }
 
@@ -182,8 +197,8 @@ fn try_both(other: TurnStock, outer: f64, cut: Cut) {
     let mut flat = [0.0f64; 16];
     let mut kept_blocks = [outer, 0.0];
     let mut flat_blocks = [outer, 0.0];
-    stock::fill(stock.spec, 3, &mut kept);
-    stock::fill(stock.spec, 3, &mut flat);
+    let _ = stock::fill(stock.spec, 3, &mut kept);
+    let _ = stock::fill(stock.spec, 3, &mut flat);
     let blank = unchanged(&kept);
     io::write_all(1, b"records ");
     say(cut_two(stock, &mut kept, &mut kept_blocks, other, cut, blank));
@@ -197,8 +212,8 @@ fn try_none(cut: Cut) {
     let mut kept = [0.0f64; 16];
     let mut flat = [0.0f64; 16];
     let mut numbers = [10.0f64, 0.0];
-    stock::fill(stock.spec, 3, &mut kept);
-    stock::fill(stock.spec, 3, &mut flat);
+    let _ = stock::fill(stock.spec, 3, &mut kept);
+    let _ = stock::fill(stock.spec, 3, &mut flat);
     let blank = unchanged(&kept);
     io::write_all(1, b"records ");
     say(cut_two(stock, &mut kept, &mut numbers[..0], stock, cut, blank));
@@ -243,8 +258,8 @@ fn cut_both(cut: Cut) {
     let mut flat = [0.0f64; 16];
     let mut kept_blocks = [10.0f64, -0.0];
     let mut flat_blocks = [10.0f64, -0.0];
-    stock::fill(stock.spec, 3, &mut kept);
-    stock::fill(stock.spec, 3, &mut flat);
+    let _ = stock::fill(stock.spec, 3, &mut kept);
+    let _ = stock::fill(stock.spec, 3, &mut flat);
     let blank = unchanged(&kept);
     io::write_all(1, b"records: ");
     say(cut_two(stock, &mut kept, &mut kept_blocks, stock, cut, blank));
@@ -268,13 +283,13 @@ fn main() {
     io::write_all(1, b"envelope at 2: ");
     let found = radius(&[0.0, 6.0, 4.0, 10.0], 2.0);
     match found {
-        RadiusAt::At(r) => {
+        Ok(Some(r)) => {
             say_if(r == 8.0);
             thread_to(r);
         }
-        RadiusAt::Nowhere => {
+        Ok(None) => {
             io::write_all(1, b"nowhere\n");
         }
-        RadiusAt::Refused(r) => say_no(r),
+        Err(r) => say_no(r),
     }
 }

@@ -14,17 +14,11 @@ const MOST: usize = 4096;
 
 // The bytes before a place, and those from it on; past the end, all and none.
 fn before(bytes: &[u8], at: usize) -> &[u8] {
-    if bytes.len() < at {
-        return bytes;
-    }
-    &bytes[..at]
+    bytes.get(..at).unwrap_or(bytes)
 }
 
 fn behind(bytes: &[u8], at: usize) -> &[u8] {
-    if bytes.len() < at {
-        return before(bytes, 0);
-    }
-    &bytes[at..]
+    bytes.get(at..).unwrap_or(&[])
 }
 
 // A job in two parts, with nothing in a third between them.
@@ -58,36 +52,13 @@ fn by_bytes(bytes: &[u8], cells: &mut [f64; CELL_NUMBERS], rings: &mut [f64; RIN
         run: job_run::fresh(0),
         len: 0,
     };
-    let mut i: usize = 0;
-    while i < MOST {
+    for i in 0..MOST {
         let run = t.run;
         let part = before(behind(bytes, i), 1);
         t = job_run::take_part(run, cells, rings, &mut line, t.len, part);
-        i += 1;
     }
     let run = t.run;
     job_run::finish(run, t.len)
-}
-
-// Whether two lists hold the same number at a place.
-fn same_at(a: &[f64], b: &[f64], i: usize) -> bool {
-    if a.len() <= i {
-        return b.len() <= i;
-    }
-    if b.len() <= i {
-        return false;
-    }
-    a[i] == b[i]
-}
-
-fn same_numbers(a: &[f64], b: &[f64]) -> bool {
-    let mut same = true;
-    let mut i: usize = 0;
-    while i < CELL_NUMBERS {
-        same = same & same_at(a, b, i);
-        i += 1;
-    }
-    same
 }
 
 // Whether two specs are the same; no number of a job is a NaN.
@@ -121,7 +92,7 @@ fn is_whole(
     whole_cells: &[f64; CELL_NUMBERS],
     whole_rings: &[f64; RING_NUMBERS],
 ) -> bool {
-    same_run(run, whole) & same_numbers(cells, whole_cells) & same_numbers(rings, whole_rings)
+    same_run(run, whole) & (cells == whole_cells) & (rings == whole_rings)
 }
 
 // Whether a job leaves the same as whole where it is cut at a place, one behind its last byte too.
@@ -162,10 +133,8 @@ fn all_cuts(
     rings: &[f64; RING_NUMBERS],
 ) -> bool {
     let mut same = bytes_are_whole(bytes, whole, cells, rings);
-    let mut at: usize = 0;
-    while at <= MOST {
+    for at in 0..=MOST {
         same = same & cut_is_whole(bytes, at, whole, cells, rings);
-        at += 1;
     }
     same
 }
@@ -206,10 +175,8 @@ fn cut_open(name: &[u8], file: &mut File) {
 fn cut_file(rt: &HostRuntime, i: usize) {
     let mut path = io::buffer();
     let length = streams::argument(rt, i, &mut path);
-    let opened = streams::open(rt, &path[..length]);
-    match opened {
-        Ok(mut file) => cut_open(&path[..length], &mut file),
-        Err(_) => {}
+    if let Ok(mut file) = streams::open(rt, &path[..length]) {
+        cut_open(&path[..length], &mut file);
     }
 }
 
@@ -218,9 +185,7 @@ fn main(rt: HostRuntime) {
         return;
     }
     let n = streams::argument_count(&rt);
-    let mut i: usize = 1;
-    while i < n {
+    for i in 1..n {
         cut_file(&rt, i);
-        i += 1;
     }
 }

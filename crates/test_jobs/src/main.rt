@@ -26,10 +26,8 @@ fn run_case(rt: &HostRuntime, i: usize) {
     let length = streams::argument(rt, i, &mut path);
     io::write_all(1, &path[..length]);
     io::write_all(1, b"\n");
-    let opened = streams::open(rt, &path[..length]);
-    match opened {
-        Ok(mut file) => run_file(rt, &mut file),
-        Err(_) => {}
+    if let Ok(mut file) = streams::open(rt, &path[..length]) {
+        run_file(rt, &mut file);
     }
 }
 
@@ -47,9 +45,7 @@ fn main(rt: HostRuntime) {
     }
     say_spent();
     let n = streams::argument_count(&rt);
-    let mut i: usize = 1;
-    while i < n {
+    for i in 1..n {
         run_case(&rt, i);
-        i += 1;
     }
 }

@@ -1,7 +1,7 @@
 // Files of thousands of lines, made line by line and read line by line.
 use crate::shown;
 use crate::shown::LENT;
-use refusals::CELL_LIMIT;
+use refusals::{CELL_LIMIT, Refused};
 use stock::TurnStock;
 use stock_file::{Kept, Taken};
 use stock_lines::Bar;
@@ -150,7 +150,7 @@ fn take(
 }
 
 // A file read, a line a part.
-fn read(long: Long, cells: &mut [f64], rings: &mut [f64]) -> Kept {
+fn read(long: Long, cells: &mut [f64], rings: &mut [f64]) -> Result<Kept, Refused> {
     let mut line = [0u8; LINE_ROOM];
     let mut t = Taken {
         reading: stock_file::fresh(),
@@ -185,11 +185,10 @@ fn sum_lines(stock: TurnStock, cells: &[f64], rings: &[f64]) -> u64 {
     s
 }
 
-fn sum_written(kept: Kept, cells: &[f64], rings: &[f64]) -> u64 {
+fn sum_written(kept: Result<Kept, Refused>, cells: &[f64], rings: &[f64]) -> u64 {
     match kept {
-        Kept::Stock(stock, n) => sum_lines(stock, shown::fours(cells, n), rings),
-        Kept::Refused(r) => 0,
-        Kept::RefusedAt(r, line) => 0,
+        Ok(Kept { stock, cells: n }) => sum_lines(stock, shown::fours(cells, n), rings),
+        Err(_) => 0,
     }
 }
 

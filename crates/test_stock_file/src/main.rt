@@ -11,6 +11,7 @@ mod long;
 mod shown;
 mod ways;
 
+use refusals::Refused;
 use shown::LENT;
 use std::fs::File;
 use stock_file::{Kept, Taken};
@@ -49,7 +50,12 @@ fn room(xs: &mut [f64], n: usize) -> &mut [f64] {
 }
 
 // A file in one part.
-fn read_whole(bytes: &[u8], most: usize, cells: &mut [f64], rings: &mut [f64]) -> Kept {
+fn read_whole(
+    bytes: &[u8],
+    most: usize,
+    cells: &mut [f64],
+    rings: &mut [f64],
+) -> Result<Kept, Refused> {
     let mut line = [0u8; LINE_ROOM];
     let t = stock_file::take_part(stock_file::fresh(), cells, rings, &mut line, 0, bytes);
     let reading = t.reading;
@@ -57,7 +63,12 @@ fn read_whole(bytes: &[u8], most: usize, cells: &mut [f64], rings: &mut [f64]) -
 }
 
 // A file in parts of seven bytes; behind its last byte nothing comes any more.
-fn read_in_parts(bytes: &[u8], most: usize, cells: &mut [f64], rings: &mut [f64]) -> Kept {
+fn read_in_parts(
+    bytes: &[u8],
+    most: usize,
+    cells: &mut [f64],
+    rings: &mut [f64],
+) -> Result<Kept, Refused> {
     let mut line = [0u8; LINE_ROOM];
     let mut t = Taken {
         reading: stock_file::fresh(),
@@ -111,7 +122,7 @@ fn say_read(bytes: &[u8], most: usize, cell_room: usize, ring_room: usize) {
 // What a read tells, and the sum of that and of what it leaves.
 #[derive(Clone, Copy)]
 struct Summed {
-    kept: Kept,
+    kept: Result<Kept, Refused>,
     sum: u64,
 }
 

@@ -1,7 +1,7 @@
 // What a read tells and leaves, in words and as a sum.
-use refusals::Refusal;
+use refusals::{Refusal, Refused};
 use stock::TurnStock;
-use stock_file::{Kept, Lines, Spelled};
+use stock_file::Kept;
 use text::LINE_ROOM;
 
 // What stands in a lent room; no file has it.
@@ -91,20 +91,40 @@ fn put_refused_at(out: &mut [u8], at: usize, r: Refusal, line: usize) -> usize {
 }
 
 // What was read, in words.
-fn put_kept(out: &mut [u8], at: usize, kept: Kept) -> usize {
+fn put_kept(out: &mut [u8], at: usize, kept: Result<Kept, Refused>) -> usize {
     match kept {
-        Kept::Stock(stock, n) => put_stock(out, at, stock, n),
-        Kept::Refused(r) => put_refused(out, at, r),
-        Kept::RefusedAt(r, line) => put_refused_at(out, at, r, line),
+        Ok(Kept { stock, cells: n }) => put_stock(out, at, stock, n),
+        Err(
+            Refused {
+                why: r,
+                place: None,
+            },
+        ) => put_refused(out, at, r),
+        Err(
+            Refused {
+                why: r,
+                place: Some(line),
+            },
+        ) => put_refused_at(out, at, r, line),
     }
 }
 
 // What was read, as short as can be: 0, or the refusal, with a point before its line.
-pub fn put_short(out: &mut [u8], at: usize, kept: Kept) -> usize {
+pub fn put_short(out: &mut [u8], at: usize, kept: Result<Kept, Refused>) -> usize {
     match kept {
-        Kept::Stock(stock, n) => text::put_text(out, at, b"0"),
-        Kept::Refused(r) => put_number(out, at, r),
-        Kept::RefusedAt(r, line) => {
+        Ok(Kept { stock, cells: n }) => text::put_text(out, at, b"0"),
+        Err(
+            Refused {
+                why: r,
+                place: None,
+            },
+        ) => put_number(out, at, r),
+        Err(
+            Refused {
+                why: r,
+                place: Some(line),
+            },
+        ) => {
             let a = put_number(out, at, r);
             let b = text::put_text(out, a, b".");
             text::put_count(out, b, line as u64)
@@ -113,7 +133,7 @@ pub fn put_short(out: &mut [u8], at: usize, kept: Kept) -> usize {
 }
 
 // The sum of the words for what was read, of the cells and of the rings.
-pub fn sum_of(kept: Kept, cells: &[f64], rings: &[f64]) -> u64 {
+pub fn sum_of(kept: Result<Kept, Refused>, cells: &[f64], rings: &[f64]) -> u64 {
     let mut words = [0u8; 256];
     let n = put_kept(&mut words, 0, kept);
     let s = sum(0, text::front(&words, n));
@@ -135,7 +155,7 @@ fn put_sum(out: &mut [u8], at: usize, sum: u64) -> usize {
 }
 
 // One line: what was read, how many numbers of each room were written, and the sum.
-pub fn say_kept(kept: Kept, cells: &[f64], rings: &[f64], sum: u64) {
+pub fn say_kept(kept: Result<Kept, Refused>, cells: &[f64], rings: &[f64], sum: u64) {
     let mut out = [0u8; 256];
     let a = put_kept(&mut out, 0, kept);
     let b = put_rooms(&mut out, a, cells, rings);
@@ -161,8 +181,8 @@ pub fn spell(
     k: usize,
 ) -> usize {
     match stock_file::file_line(out, stock, cells, rings, k) {
-        Spelled::Bytes(n) => n,
-        Spelled::Refused(r) => 0,
+        Ok(n) => n,
+        Err(r) => 0,
     }
 }
 
@@ -170,8 +190,8 @@ pub fn spell(
 pub fn lines_of(stock: TurnStock, cells: &[f64], rings: &[f64]) -> usize {
     let spec = stock.spec;
     match stock_file::line_count(spec, cells, rings, stock.rings) {
-        Lines::Count(n) => n,
-        Lines::Refused(r) => 0,
+        Ok(n) => n,
+        Err(r) => 0,
     }
 }
 
@@ -196,16 +216,15 @@ fn say_lines(stock: TurnStock, cells: &[f64], rings: &[f64]) {
 }
 
 // The file of what was read, written back.
-fn say_written(kept: Kept, cells: &[f64], rings: &[f64]) {
+fn say_written(kept: Result<Kept, Refused>, cells: &[f64], rings: &[f64]) {
     match kept {
-        Kept::Stock(stock, n) => say_lines(stock, fours(cells, n), rings),
-        Kept::Refused(r) => {}
-        Kept::RefusedAt(r, line) => {}
+        Ok(Kept { stock, cells: n }) => say_lines(stock, fours(cells, n), rings),
+        Err(_) => {}
     }
 }
 
 // What was read, the room, and the file written back; answers the sum.
-pub fn say(kept: Kept, cells: &[f64], rings: &[f64]) -> u64 {
+pub fn say(kept: Result<Kept, Refused>, cells: &[f64], rings: &[f64]) -> u64 {
     let sum = sum_of(kept, cells, rings);
     say_kept(kept, cells, rings, sum);
     say_written(kept, cells, rings);

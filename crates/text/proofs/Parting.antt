@@ -1,5 +1,7 @@
 -- The parts between the bytes p, found from the left. Assumes nothing.
-use Rattle.std.proofs.Common.{◌≡◌, ℕ, suc, ◌+◌, ◌-◌, ◌<◌, ◌≤◌, Bool, true, false, eqb, List, [], ◌∷◌, length, get_or, take, drop, sym, refl, ap, ◌∙◌, add-one, arith, length-drop, drop_of_length-le, drop-cons, drop-drop, eq-eqb, ne_eqb}
+use Rattle.std.proofs.Common.{◌≡◌, ℕ, suc, ◌+◌, ◌-◌, ◌<◌, ◌≤◌, Bool, true, false, cond, eqb, List, [], ◌∷◌, length, get_or, take, drop, sym, refl, ap, ◌∙◌, add-one, arith, length-drop, drop_of_length-le, drop-cons, drop-drop, eq-eqb, ne_eqb}
+use Rattle.std.specs.List.{count_by}
+use Rattle.std.proofs.lemmas.List.Sums.{sum_by-cons}
 use Rattle.text.proofs.Chosen.{yes, no}
 use Rattle.text.specs.Parts.{into_first, parted_at}
 
@@ -123,15 +125,21 @@ module _ (p : ℕ) where
       let o : e - a ≡ length (first (drop a s)) = omega arith in
       rw (n, o) (sym (first-take (drop a s)))
 
-  pub count-tab : (s : List ℕ) (i : ℕ) → i < length s → get_or s i 0 ≡ p → length (parted_at p (drop i s)) ≡ suc (length (parted_at p (drop (i + 1) s)))
-  count-tab s i h e = rw (add-one i, drop-cons s i 0 h, parted-here (get_or s i 0) (drop (suc i) s) (eq-eqb _ _ e))
+  -- as many as there are, and one
+  pub count-parts : (s : List ℕ) → count_by (λ b. eqb b p) s + 1 ≡ length (parted_at p s)
+  count-parts [] = rw parted-end
+  count-parts (b ∷ s) = by (eqb b p) refl (count-parts s)
+    where
+      first-counted : count_by (λ b. eqb b p) (b ∷ s) ≡ cond {A = ℕ} (eqb b p) 1 0 + count_by (λ b. eqb b p) s
+      first-counted = sum_by-cons (λ b. cond {A = ℕ} (eqb b p) 1 0) b s
 
-  pub count-byte : (s : List ℕ) (i : ℕ) → i < length s → (get_or s i 0 ≡ p → ⊥) → length (parted_at p (drop i s)) ≡ length (parted_at p (drop (i + 1) s))
-  count-byte s i h e =
-      rw (add-one i, drop-cons s i 0 h, parted-on (get_or s i 0) (drop (suc i) s) (ne_eqb _ _ e)) (into-length (get_or s i 0) (parted_at p (drop (suc i) s)))
-
-  pub count-end : (s : List ℕ) (i : ℕ) → length s ≤ i → length (parted_at p (drop i s)) ≡ 1
-  count-end s i h = rw (drop_of_length-le s h, parted-end)
+      by : (t : Bool) → eqb b p ≡ t → count_by (λ b. eqb b p) s + 1 ≡ length (parted_at p s) → count_by (λ b. eqb b p) (b ∷ s) + 1 ≡ length (parted_at p (b ∷ s))
+      by true e h =
+          let k : cond {A = ℕ} (eqb b p) 1 0 ≡ 1 = simp e in
+          rw (parted-here b s e) (omega (arith, first-counted, k, h))
+      by false e h =
+          let k : cond {A = ℕ} (eqb b p) 1 0 ≡ 0 = simp e in
+          rw (parted-on b s e, into-length b (parted_at p s)) (omega (arith, first-counted, k, h))
 
   pub field-start : (s : List ℕ) (i : ℕ) → get_or (parted_at p s) i [] ≡ get_or (parted_at p (drop 0 s)) (i - 0) []
   field-start s i = let e : i ≡ i - 0 = omega arith in ap (λ (n : ℕ). get_or (parted_at p s) n []) e

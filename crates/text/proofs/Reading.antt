@@ -1,7 +1,7 @@
 -- What 16 digits say, and 8, and that no other digits say it. Assumes nothing.
-use Rattle.std.proofs.Common.{◌≡◌, ℕ, zero, suc, ◌+◌, ◌-◌, ◌*◌, ◌/◌, ◌%◌, ◌^◌, ◌<◌, ◌≤◌, Bool, true, false, not, ◌&&◌, T, eqb, ltb, List, [], ◌∷◌, ◌++◌, length, get_or, take, drop, sym, refl, ap, ◌∙◌, subst, append_assoc, append-nil, pow-suc, add-one, arith, length-drop, take-append-drop, get_or-drop, take_all, drop-cons, take-suc, drop-drop, ltb-false, ltb-true, le-ltb, lt-ltb, eq-eqb, ne_eqb, eqb-true}
+use Rattle.std.proofs.Common.{◌≡◌, ℕ, zero, suc, ◌+◌, ◌-◌, ◌*◌, ◌/◌, ◌%◌, ◌^◌, ◌<◌, ◌≤◌, Bool, true, false, not, ◌&&◌, T, eqb, ltb, List, [], ◌∷◌, ◌++◌, length, get_or, take, drop, sym, refl, ap, ◌∙◌, subst, append_assoc, append-nil, pow-suc, add-one, arith, length-drop, take-append-drop, get_or-drop, take_all, drop-cons, take-suc, drop-drop, ltb-false, ltb-true, le-ltb, lt-ltb, eq-eqb, ne_eqb, eqb-true, None, Some}
 use native.Mathlib.Nat.{pow-zero, pow-le-pow_right}
-use lib.Ieee.{Float, nan, inf, fin, binary64, fits, is_nan, to_bits, of_bits, of_fields, odd, div}
+use lib.Ieee.{Float, nan, inf, fin, binary64, fits, is_nan, to_bits, of_bits}
 use lib.Ieee.Bits.{of_bits-to_bits, to_bits-of_bits, to_bits-lt, of_bits-fits, nan_bits_is, nan_bits_above}
 use lib.ListN.{get_or-eq_default}
 use lib.Seq.{get_or_at}
@@ -12,9 +12,6 @@ use Rattle.text.specs.Digits.{glyph_of, digits, hex_of}
 use Rattle.text.specs.Lines.{field}
 use Rattle.text.proofs.Spelling.{digits-length, glyph-low, glyph-high}
 use Rattle.text.proofs.Distinct.{quotient}
-use Rattle.text.specs.declared.sixteen.Hex.TheVariants.{Of, NoHex}
-use Rattle.text.specs.declared.sixteen.Eight.TheVariants as eight
-use Rattle.text.specs.declared.Whole.TheVariants as whole
 use Rattle.text.specs.Hex.{nibble_of, hexes_to, value_to, number_at, hex_at, field_of, eight_of}
 
 -- ---- one digit
@@ -187,11 +184,11 @@ unfolding value_to
 value-more s at i d e = rw (add-one i, e, ← get_or-drop at s i 0)
 
 -- at the end of the walk
-pub digits-read : (k : ℕ) (s : List ℕ) (i n : ℕ) (ok : Bool) → i ≡ k → ok ≡ hexes_to s i → n ≡ value_to s i → ok ≡ true → whole.Of n ≡ number_at k s
+pub digits-read : (k : ℕ) (s : List ℕ) (i n : ℕ) (ok : Bool) → i ≡ k → ok ≡ hexes_to s i → n ≡ value_to s i → ok ≡ true → Some n ≡ number_at k s
 unfolding number_at
-digits-read k s i n ok e f v g = ap whole.Of (v ∙ ap (value_to s) e) ∙ sym (pick_true _ _ _ (ap (hexes_to s) (sym e) ∙ sym f ∙ g))
+digits-read k s i n ok e f v g = ap Some (v ∙ ap (value_to s) e) ∙ sym (pick_true _ _ _ (ap (hexes_to s) (sym e) ∙ sym f ∙ g))
 
-pub digits-none : (k : ℕ) (s : List ℕ) (i : ℕ) (ok : Bool) → i ≡ k → ok ≡ hexes_to s i → ok ≡ false → whole.No ≡ number_at k s
+pub digits-none : (k : ℕ) (s : List ℕ) (i : ℕ) (ok : Bool) → i ≡ k → ok ≡ hexes_to s i → ok ≡ false → None ≡ number_at k s
 unfolding number_at
 digits-none k s i ok e f g = sym (pick-false _ _ _ (ap (hexes_to s) (sym e) ∙ sym f ∙ g))
 
@@ -200,21 +197,21 @@ pub record DigitsOf (k : ℕ) (s : List ℕ) (n : ℕ) : Type 0 where
   pub hexes : hexes_to s k ≡ true
   pub value : n ≡ value_to s k
 
-pub number_spelled : (k : ℕ) (s : List ℕ) (n : ℕ) → number_at k s ≡ whole.Of n → DigitsOf k s n
+pub number_spelled : (k : ℕ) (s : List ℕ) (n : ℕ) → number_at k s ≡ Some n → DigitsOf k s n
 unfolding number_at
 number_spelled k s n e = by (hexes_to s k) refl
   where
     by : (t : Bool) → hexes_to s k ≡ t → DigitsOf k s n
-    by true f = let g : whole.Of (value_to s k) ≡ whole.Of n = sym (pick_true _ _ _ f) ∙ e in record { hexes = f; value = cc }
-    by false f = let g : whole.No ≡ whole.Of n = sym (pick-false _ _ _ f) ∙ e in let z : ◌≡◌ {A = ℕ} 0 1 = cc in absurd (omega arith)
+    by true f = let g : Some (value_to s k) ≡ Some n = sym (pick_true _ _ _ f) ∙ e in record { hexes = f; value = cc }
+    by false f = let g : None ≡ Some n = sym (pick-false _ _ _ f) ∙ e in let z : ◌≡◌ {A = ℕ} 0 1 = cc in absurd (omega arith)
 
-pub number-none : (k : ℕ) (s : List ℕ) → number_at k s ≡ whole.No → hexes_to s k ≡ false
+pub number-none : (k : ℕ) (s : List ℕ) → number_at k s ≡ None → hexes_to s k ≡ false
 unfolding number_at
 number-none k s e = by (hexes_to s k) refl
   where
     by : (t : Bool) → hexes_to s k ≡ t → hexes_to s k ≡ false
     by false f = f
-    by true f = let g : whole.Of (value_to s k) ≡ whole.No = sym (pick_true _ _ _ f) ∙ e in let z : ◌≡◌ {A = ℕ} 0 1 = cc in absurd (omega arith)
+    by true f = let g : Some (value_to s k) ≡ None = sym (pick_true _ _ _ f) ∙ e in let z : ◌≡◌ {A = ℕ} 0 1 = cc in absurd (omega arith)
 
 -- a digit more has room
 pub value_room : (s : List ℕ) (i : ℕ) → i < 16 → value_to s i < 1152921504606846976
@@ -234,19 +231,19 @@ is-nan nan e = refl
 is-nan (inf s) e = absurd (subst T (sym e) tt)
 is-nan (fin s m d) e = absurd (subst T (sym e) tt)
 
-pub no_number : div binary64 (of_bits binary64 0) (of_bits binary64 0) ≡ nan
-unfolding div of_bits of_fields odd
+pub no_number : of_bits binary64 0x7ff8000000000000 ≡ nan
+unfolding of_bits
 no_number = refl
 
-pub hex-none : (s : List ℕ) → hexes_to s 16 ≡ false → hex_at s ≡ NoHex
+pub hex-none : (s : List ℕ) → hexes_to s 16 ≡ false → hex_at s ≡ None
 unfolding hex_at
 hex-none s e = pick-false _ _ _ e
 
-pub hex-minus : (s : List ℕ) → hexes_to s 16 ≡ true → value_to s 16 ≡ 0x8000000000000000 → hex_at s ≡ NoHex
+pub hex-minus : (s : List ℕ) → hexes_to s 16 ≡ true → value_to s 16 ≡ 0x8000000000000000 → hex_at s ≡ None
 unfolding hex_at
 hex-minus s e f = pick_true _ _ _ e ∙ pick_true _ _ _ (eq-eqb _ _ f)
 
-pub hex-of : (s : List ℕ) → hexes_to s 16 ≡ true → (value_to s 16 ≡ 0x8000000000000000 → ⊥) → hex_at s ≡ Of (of_bits binary64 (value_to s 16))
+pub hex-of : (s : List ℕ) → hexes_to s 16 ≡ true → (value_to s 16 ≡ 0x8000000000000000 → ⊥) → hex_at s ≡ Some (of_bits binary64 (value_to s 16))
 unfolding hex_at
 hex-of s e f = pick_true _ _ _ e ∙ pick-false _ _ _ (ne_eqb _ _ f)
 
@@ -259,31 +256,31 @@ pub record Word (s : List ℕ) (x : Float) : Type 0 where
   pub spells : take 16 s ≡ digits 16 16 word
   pub float : x ≡ of_bits binary64 word
 
-pub hex-word : (s : List ℕ) (x : Float) → hex_at s ≡ Of x → Word s x
+pub hex-word : (s : List ℕ) (x : Float) → hex_at s ≡ Some x → Word s x
 hex-word s x e = by (hexes_to s 16) refl (eqb (value_to s 16) 0x8000000000000000) refl
   where
-    never : hex_at s ≡ NoHex → Word s x
+    never : hex_at s ≡ None → Word s x
     never f = let z : ◌≡◌ {A = ℕ} 0 1 = cc in absurd (omega arith)
 
     by : (t : Bool) → hexes_to s 16 ≡ t → (u : Bool) → eqb (value_to s 16) 0x8000000000000000 ≡ u → Word s x
     by false f u g = never (hex-none s f)
     by true f true g = never (hex-minus s f (eqb-true _ _ g))
     by true f false g =
-        let o : hex_at s ≡ Of (of_bits binary64 (value_to s 16)) = hex-of s f (eqb-false _ _ g) in
+        let o : hex_at s ≡ Some (of_bits binary64 (value_to s 16)) = hex-of s f (eqb-false _ _ g) in
         let w : value_to s 16 < 18446744073709551616 = value-lt 16 s in
         record { word = value_to s 16; small = w; plus = eqb-false _ _ g; long = hexes-long 16 s f; spells = value-spells 16 s f; float = cc }
 
 -- hex-reads-back: what is spelled reads as the same value, whatever follows
-pub hex-reads-back : (x : Float) (t : List ℕ) → T (fits binary64 x) → (to_bits binary64 x ≡ 0x8000000000000000 → ⊥) → hex_at (hex_of x ++ t) ≡ Of x
+pub hex-reads-back : (x : Float) (t : List ℕ) → T (fits binary64 x) → (to_bits binary64 x ≡ 0x8000000000000000 → ⊥) → hex_at (hex_of x ++ t) ≡ Some x
 unfolding hex_of
 hex-reads-back x t h k =
     let v : value_to (digits 16 16 (to_bits binary64 x) ++ t) 16 ≡ to_bits binary64 x = spelled-value 16 (to_bits binary64 x) t (to_bits-lt binary64 x h) in
     hex-of (digits 16 16 (to_bits binary64 x) ++ t) (spelled-hexes 16 (to_bits binary64 x) t) (λ e. k (sym v ∙ e))
-    ∙ ap (λ (n : ℕ). Of (of_bits binary64 n)) v
-    ∙ ap Of (of_bits-to_bits binary64 x h)
+    ∙ ap (λ (n : ℕ). Some (of_bits binary64 n)) v
+    ∙ ap Some (of_bits-to_bits binary64 x h)
 
 -- hex-unique: what reads as x, a number or an infinity, is the spelling of x
-pub hex-unique : (s : List ℕ) (x : Float) → hex_at s ≡ Of x → T (not (is_nan x)) → take 16 s ≡ hex_of x
+pub hex-unique : (s : List ℕ) (x : Float) → hex_at s ≡ Some x → T (not (is_nan x)) → take 16 s ≡ hex_of x
 unfolding hex_of
 hex-unique s x e n =
     let w : Word s x = hex-word s x e in
@@ -292,7 +289,7 @@ hex-unique s x e n =
     w.spells ∙ ap (digits 16 16) (sym b ∙ ap (to_bits binary64) (sym w.float))
 
 -- what is read is of the format
-pub hex-fits : (s : List ℕ) (x : Float) → hex_at s ≡ Of x → T (fits binary64 x)
+pub hex-fits : (s : List ℕ) (x : Float) → hex_at s ≡ Some x → T (fits binary64 x)
 hex-fits s x e =
     let w : Word s x = hex-word s x e in
     subst (λ (y : Float). T (fits binary64 y)) (sym w.float) (of_bits-fits binary64 w.word)
@@ -305,7 +302,7 @@ nan-bits-other : to_bits binary64 nan ≡ 0x8000000000000000 → ⊥
 nan-bits-other g = omega (arith, nan-bits-are)
 
 -- and not -0.0
-pub hex-plus : (s : List ℕ) (x : Float) → hex_at s ≡ Of x → to_bits binary64 x ≡ 0x8000000000000000 → ⊥
+pub hex-plus : (s : List ℕ) (x : Float) → hex_at s ≡ Some x → to_bits binary64 x ≡ 0x8000000000000000 → ⊥
 hex-plus s x e f = by (is_nan x) refl
   where
     by : (t : Bool) → is_nan x ≡ t → ⊥
@@ -330,58 +327,58 @@ pub tab-field : (s : List ℕ) (at : ℕ) → get_or s at 0 ≡ 9 → hex_at (dr
 unfolding field_of
 tab-field s at e = ap hex_at (sym (drop-drop 1 at s)) ∙ sym (pick_true _ _ _ (eq-eqb _ _ (at-tab s at ∙ e)))
 
-pub no-tab : (s : List ℕ) (at : ℕ) → (get_or s at 0 ≡ 9 → ⊥) → NoHex ≡ field_of (drop at s)
+pub no-tab : (s : List ℕ) (at : ℕ) → (get_or s at 0 ≡ 9 → ⊥) → None ≡ field_of (drop at s)
 unfolding field_of
 no-tab s at e = sym (pick-false _ _ _ (ne_eqb _ _ (λ f. e (sym (at-tab s at) ∙ f))))
 
 -- fewer than 16 bytes are no number
-hex-short : (s : List ℕ) → length s < 16 → NoHex ≡ hex_at s
+hex-short : (s : List ℕ) → length s < 16 → None ≡ hex_at s
 hex-short s h = by (hexes_to s 16) refl
   where
-    by : (t : Bool) → hexes_to s 16 ≡ t → NoHex ≡ hex_at s
+    by : (t : Bool) → hexes_to s 16 ≡ t → None ≡ hex_at s
     by false e = sym (hex-none s e)
     by true e = let l : 16 ≤ length s = hexes-long 16 s e in absurd (omega arith)
 
-pub field-short : (s : List ℕ) (at : ℕ) → length s < at + 17 → NoHex ≡ field_of (drop at s)
+pub field-short : (s : List ℕ) (at : ℕ) → length s < at + 17 → None ≡ field_of (drop at s)
 unfolding field_of
 field-short s at h = by (eqb (get_or (drop at s) 0 0) 9) refl
   where
-    by : (t : Bool) → eqb (get_or (drop at s) 0 0) 9 ≡ t → NoHex ≡ field_of (drop at s)
+    by : (t : Bool) → eqb (get_or (drop at s) 0 0) 9 ≡ t → None ≡ field_of (drop at s)
     by false e = sym (pick-false _ _ _ e)
     by true e =
         let l : length (drop 1 (drop at s)) < 16 = omega (arith, ap length (drop-drop 1 at s), length-drop (at + 1) s) in
         hex-short (drop 1 (drop at s)) l ∙ sym (pick_true _ _ _ e)
 
 -- what is put is read, whatever follows
-pub field_back : (x : Float) (t : List ℕ) → T (fits binary64 x) → (to_bits binary64 x ≡ 0x8000000000000000 → ⊥) → field_of (field x ++ t) ≡ Of x
+pub field_back : (x : Float) (t : List ℕ) → T (fits binary64 x) → (to_bits binary64 x ≡ 0x8000000000000000 → ⊥) → field_of (field x ++ t) ≡ Some x
 unfolding field_of
 field_back x t h k = yes _ _ ∙ hex-reads-back x t h k
 
 -- a field is a tab and what is read
-pub field_is : (s : List ℕ) (x : Float) → field_of s ≡ Of x → hex_at (drop 1 s) ≡ Of x
+pub field_is : (s : List ℕ) (x : Float) → field_of s ≡ Some x → hex_at (drop 1 s) ≡ Some x
 unfolding field_of
 field_is s x e = by (eqb (get_or s 0 0) 9) refl
   where
-    by : (t : Bool) → eqb (get_or s 0 0) 9 ≡ t → hex_at (drop 1 s) ≡ Of x
+    by : (t : Bool) → eqb (get_or s 0 0) 9 ≡ t → hex_at (drop 1 s) ≡ Some x
     by true f = sym (pick_true _ _ _ f) ∙ e
-    by false f = let g : NoHex ≡ Of x = sym (pick-false _ _ _ f) ∙ e in let z : ◌≡◌ {A = ℕ} 0 1 = cc in absurd (omega arith)
+    by false f = let g : None ≡ Some x = sym (pick-false _ _ _ f) ∙ e in let z : ◌≡◌ {A = ℕ} 0 1 = cc in absurd (omega arith)
 
-pub field-tab : (s : List ℕ) (x : Float) → field_of s ≡ Of x → get_or s 0 0 ≡ 9
+pub field-tab : (s : List ℕ) (x : Float) → field_of s ≡ Some x → get_or s 0 0 ≡ 9
 unfolding field_of
 field-tab s x e = by (eqb (get_or s 0 0) 9) refl
   where
     by : (t : Bool) → eqb (get_or s 0 0) 9 ≡ t → get_or s 0 0 ≡ 9
     by true f = eqb-true _ _ f
-    by false f = let g : NoHex ≡ Of x = sym (pick-false _ _ _ f) ∙ e in let z : ◌≡◌ {A = ℕ} 0 1 = cc in absurd (omega arith)
+    by false f = let g : None ≡ Some x = sym (pick-false _ _ _ f) ∙ e in let z : ◌≡◌ {A = ℕ} 0 1 = cc in absurd (omega arith)
 
 -- it has 17 bytes
-pub tabbed-long : (s : List ℕ) (x : Float) → field_of s ≡ Of x → 17 ≤ length s
+pub tabbed-long : (s : List ℕ) (x : Float) → field_of s ≡ Some x → 17 ≤ length s
 tabbed-long s x e =
     let w : Word (drop 1 s) x = hex-word (drop 1 s) x (field_is s x e) in
     omega (arith, w.long, length-drop 1 s)
 
 -- and its text is the field that is put
-pub field-text : (s : List ℕ) (x : Float) → field_of s ≡ Of x → T (not (is_nan x)) → s ≡ field x ++ drop 17 s
+pub field-text : (s : List ℕ) (x : Float) → field_of s ≡ Some x → T (not (is_nan x)) → s ≡ field x ++ drop 17 s
 field-text s x e n =
     let l : 17 ≤ length s = tabbed-long s x e in
     let a : s ≡ get_or s 0 0 ∷ drop 1 s = drop-cons s 0 0 (omega arith) in
@@ -395,23 +392,23 @@ field-text s x e n =
 
 -- ---- eight digits
 
-pub eight-other : (s : List ℕ) → (length s ≡ 8 → ⊥) → eight.NoEight ≡ eight_of s
+pub eight-other : (s : List ℕ) → (length s ≡ 8 → ⊥) → None ≡ eight_of s
 unfolding eight_of
 eight-other s h = sym (pick-false _ _ _ (ne_eqb _ _ h))
 
-pub eight-none : (s : List ℕ) → length s ≡ 8 → hexes_to s 8 ≡ false → eight.NoEight ≡ eight_of s
+pub eight-none : (s : List ℕ) → length s ≡ 8 → hexes_to s 8 ≡ false → None ≡ eight_of s
 unfolding eight_of
 eight-none s h e = sym (pick_true _ _ _ (eq-eqb _ _ h) ∙ pick-false _ _ _ e)
 
-pub eight-of : (s : List ℕ) (n : ℕ) → length s ≡ 8 → DigitsOf 8 s n → eight.Of n ≡ eight_of s
+pub eight-of : (s : List ℕ) (n : ℕ) → length s ≡ 8 → DigitsOf 8 s n → Some n ≡ eight_of s
 unfolding eight_of
-eight-of s n h w = ap eight.Of w.value ∙ sym (pick_true _ _ _ (eq-eqb _ _ h) ∙ pick_true _ _ _ w.hexes)
+eight-of s n h w = ap Some w.value ∙ sym (pick_true _ _ _ (eq-eqb _ _ h) ∙ pick_true _ _ _ w.hexes)
 
 pub eight-small : (s : List ℕ) → value_to s 8 < 4294967296
 eight-small s = value-lt 8 s
 
 -- eight-reads-back: what is spelled reads as the same number
-pub eight-reads-back : (n : ℕ) → n < 4294967296 → eight_of (digits 16 8 n) ≡ eight.Of n
+pub eight-reads-back : (n : ℕ) → n < 4294967296 → eight_of (digits 16 8 n) ≡ Some n
 eight-reads-back n h =
     let s : List ℕ = digits 16 8 n in
     let e : hexes_to s 8 ≡ true = ap (λ (x : List ℕ). hexes_to x 8) (sym (append-nil s)) ∙ spelled-hexes 8 n [] in
@@ -424,11 +421,11 @@ pub record EightDigits (s : List ℕ) (n : ℕ) : Type 0 where
   pub text : s ≡ digits 16 8 n
 
 -- eight-unique: what reads as n is the spelling of n
-pub eight-unique : (s : List ℕ) (n : ℕ) → eight_of s ≡ eight.Of n → EightDigits s n
+pub eight-unique : (s : List ℕ) (n : ℕ) → eight_of s ≡ Some n → EightDigits s n
 eight-unique s n e = by (eqb (length s) 8) refl (hexes_to s 8) refl
   where
-    never : eight.NoEight ≡ eight_of s → EightDigits s n
-    never f = let g : eight.NoEight ≡ eight.Of n = f ∙ e in let z : ◌≡◌ {A = ℕ} 0 1 = cc in absurd (omega arith)
+    never : None ≡ eight_of s → EightDigits s n
+    never f = let g : None ≡ Some n = f ∙ e in let z : ◌≡◌ {A = ℕ} 0 1 = cc in absurd (omega arith)
 
     by : (t : Bool) → eqb (length s) 8 ≡ t → (u : Bool) → hexes_to s 8 ≡ u → EightDigits s n
     by false f u g = never (eight-other s (eqb-false _ _ f))
@@ -436,7 +433,7 @@ eight-unique s n e = by (eqb (length s) 8) refl (hexes_to s 8) refl
     by true f true g =
         let l : length s ≡ 8 = eqb-true _ _ f in
         let w : DigitsOf 8 s (value_to s 8) = record { hexes = g; value = refl } in
-        let o : eight.Of (value_to s 8) ≡ eight.Of n = eight-of s (value_to s 8) l w ∙ e in
+        let o : Some (value_to s 8) ≡ Some n = eight-of s (value_to s 8) l w ∙ e in
         let v : value_to s 8 ≡ n = cc in
         record {
           small = omega (arith, eight-small s);

@@ -1,6 +1,7 @@
 -- Texts put after one another. Assumes nothing.
-use Rattle.std.proofs.Common.{◌≡◌, ℕ, suc, ◌+◌, ◌-◌, ◌<◌, ◌≤◌, Bool, true, false, leb, List, [], ◌∷◌, ◌++◌, length, get_or, drop, set, sym, refl, ap, ◌∙◌, subst, add-one, arith, length-append, drop_of_length-le, drop-cons, le-leb, leb-false, leb-true}
-use lib.Seq.{sets, length-sets, set_comm}
+use Rattle.std.proofs.Common.{◌≡◌, ℕ, suc, ◌+◌, ◌-◌, ◌<◌, ◌≤◌, Bool, true, false, leb, List, [], ◌∷◌, ◌++◌, length, take, drop, drop-drop, append_assoc, set, sym, refl, ap, ◌∙◌, subst, add-one, arith, length-append, le-leb, leb-false, leb-true}
+use lib.Seq.{sets, sets-eq, length-sets, set_comm}
+use borrow.Rule.Slice.PartMut.{put_mid}
 use borrow.Author.Tests.{lt-leb}
 use Rattle.floats.specs.Pick.{pick_true, pick-false}
 use Rattle.text.specs.Wrote.{Wrote, line_room, Put}
@@ -24,12 +25,12 @@ and_then {l} {m} {o} {s} {t} {i} {j} {k} u v = record {
   end = omega (arith, u.end, v.end, length-append s t);
 }
 
--- one byte more of a text
-pub put_step : (s l : List ℕ) (o j : ℕ) → j < length s → sets l o (drop j s) ≡ sets (set l o (get_or s j 0)) (o + 1) (drop (j + 1) s)
-put_step s l o j h = rw (add-one j, add-one o, drop-cons s j 0 h)
-
-pub put-end : (s l : List ℕ) (o j : ℕ) → length s ≤ j → sets l o (drop j s) ≡ l
-put-end s l o j h = rw (drop_of_length-le s h)
+-- a text over as many bytes at a place
+pub put_over : (g s : List ℕ) (at : ℕ) → at + length s ≤ length g → put_mid at (at + length s - at) g s ≡ sets g at s
+put_over g s at h = sym (sets-eq s g at h ∙ append_assoc (take at g) s (drop (at + length s) g) ∙ ap (λ (r : List ℕ). take at g ++ (s ++ r)) rest)
+  where
+    rest : drop (at + length s) g ≡ drop (at + length s - at) (drop at g)
+    rest = let e : at + length s ≡ at + (at + length s - at) = omega arith in ap (λ (n : ℕ). drop n g) e ∙ sym (drop-drop (at + length s - at) at g)
 
 -- the same text under another name
 pub retext : {l m s t : List ℕ} {i j : ℕ} → s ≡ t → Wrote l i s m j → Wrote l i t m j

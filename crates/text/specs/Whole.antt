@@ -1,7 +1,5 @@
 -- A whole number in decimal. Assumes nothing.
-use Rattle.std.specs.Prelude.{ℕ, ◌+◌, ◌-◌, ◌*◌, Bool, true, false, ◌&&◌, List, [], ◌∷◌, length, nat_le}
-use Rattle.text.specs.declared.Whole.{Whole}
-use Rattle.text.specs.declared.Whole.TheVariants.{Of, No}
+use Rattle.std.specs.Prelude.{ℕ, ◌+◌, ◌-◌, ◌*◌, Bool, true, false, ◌&&◌, List, [], ◌∷◌, length, nat_le, None, Option, Some}
 use Rattle.floats.specs.Pick.{pick}
 
 -- `0` to `9`
@@ -22,5 +20,5 @@ spelt v (b ∷ s) = spelt (v * 10 + (b - 48)) s
 unfoldable pub is_whole : List ℕ → Bool
 is_whole s = pick (nat_le 1 (length s)) (pick (nat_le (length s) 10) (pick (all_digits s) (nat_le (spelt 0 s) 1000000000) false) false) false
 
-unfoldable pub whole_of : List ℕ → Whole
-whole_of s = pick (is_whole s) (Of (spelt 0 s)) No
+unfoldable pub whole_of : List ℕ → (Option ℕ)
+whole_of s = pick (is_whole s) (Some (spelt 0 s)) None

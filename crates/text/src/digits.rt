@@ -30,10 +30,8 @@ fn spell(out: &mut [u8; LINE_ROOM], at: usize, base: u64, k: usize, n: u64) -> u
     requires { (2 ≤ base) × (base ≤ 16) × (at + k ≤ line_room) }
     ensures { Wrote out.old at (digits base k n) out.new result }
 {
-    let mut i = k;
     let mut rest = n;
-    while 0 < i {
-        i -= 1;
+    for i in (0..k).rev() {
         out[at + i] = glyph(rest % base);
         rest /= base;
     }
@@ -44,16 +42,14 @@ fn spell(out: &mut [u8; LINE_ROOM], at: usize, base: u64, k: usize, n: u64) -> u
 fn places(n: u64) -> usize
     ensures { (result ≡ more 19 n) × (result ≤ 19) }
 {
-    let mut k = 0;
     let mut rest = n;
-    while k < 19 {
+    for k in 0..19 {
         if rest == 0 {
             return k;
         }
         rest /= 10;
-        k += 1;
     }
-    k
+    19
 }
 
 // Whether k bytes find room from a place on.
@@ -78,14 +74,9 @@ pub fn put(out: &mut [u8; LINE_ROOM], at: usize, s: &[u8]) -> usize
     if !has_room(at, s.len()) {
         return at;
     }
-    let mut j = 0;
-    let mut o = at;
-    while j < s.len() {
-        out[o] = s[j];
-        o += 1;
-        j += 1;
-    }
-    o
+    let end = at + s.len();
+    out[at..end].copy_from_slice(s);
+    end
 }
 
 // The last k digits of n.

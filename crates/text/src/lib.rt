@@ -19,13 +19,7 @@ pub use digits::{
     LINE_ROOM, put, put_decimal, put_digits, put_eight, put_four, put_hex, ring_line,
 };
 pub use plain::{front, put_count, put_millimetres, put_text};
-pub use sixteen::{Eight, Hex, float, read_eight, read_hex};
-
-#[derive(Clone, Copy)]
-pub enum Whole {
-    Of(u64),
-    No,
-}
+pub use sixteen::{float, read_eight, read_hex};
 
 // A whole number is at most so large.
 const LARGEST: u64 = 1000000000;
@@ -35,14 +29,12 @@ fn part_end(s: &[u8], p: u8, a: usize) -> usize
     requires { a ≤ length s.now }
     ensures { result ≡ a + length (slice_index_or (parted_at p (drop a s.now)) 0 []) }
 {
-    let mut e = a;
-    while e < s.len() {
+    for e in a..s.len() {
         if s[e] == p {
             return e;
         }
-        e += 1;
     }
-    e
+    s.len()
 }
 
 // The part at i, and nothing where there are fewer.
@@ -50,14 +42,12 @@ pub fn part(s: &[u8], p: u8, i: usize) -> &[u8]
     ensures { result.now ≡ slice_index_or (parted_at p s.now) i [] }
 {
     let mut a = 0;
-    let mut k = 0;
-    while k < i {
+    for _ in 0..i {
         let e = part_end(s, p, a);
         if s.len() <= e {
             return &s[..0];
         }
         a = e + 1;
-        k += 1;
     }
     let e = part_end(s, p, a);
     &s[a..e]
@@ -66,65 +56,38 @@ pub fn part(s: &[u8], p: u8, i: usize) -> &[u8]
 pub fn part_count(s: &[u8], p: u8) -> usize
     ensures { result ≡ length (parted_at p s.now) }
 {
-    let mut n = 1;
-    let mut i = 0;
-    while i < s.len() {
-        if s[i] == p {
-            n += 1;
-        }
-        i += 1;
-    }
-    n
+    s.iter().filter(|b| **b == p).count() + 1
 }
 
 // The same bytes.
 pub fn same(a: &[u8], b: &[u8]) -> bool
     ensures { result ≡ same_bytes a.now b.now }
 {
-    let mut i = 0;
-    while i < a.len() {
-        if b.len() <= i {
-            return false;
-        }
-        if a[i] != b[i] {
-            return false;
-        }
-        i += 1;
-    }
-    b.len() <= i
-}
-
-fn wide(x: u8) -> u64
-    ensures { result ≡ x }
-{
-    x as u64
+    a == b
 }
 
 // 1 to 10 digits, at most 1,000,000,000.
-pub fn read_whole(s: &[u8]) -> Whole
+pub fn read_whole(s: &[u8]) -> Option<u64>
     ensures { result ≡ whole_of s.now }
 {
     if s.len() < 1 {
-        return Whole::No;
+        return None;
     }
     if 10 < s.len() {
-        return Whole::No;
+        return None;
     }
     let mut v: u64 = 0;
-    let mut i = 0;
-    while i < s.len() {
-        let b = s[i];
+    for &b in s {
         if b < b'0' {
-            return Whole::No;
+            return None;
         }
         if b'9' < b {
-            return Whole::No;
+            return None;
         }
-        v = v * 10 + wide(b - b'0');
+        v = v * 10 + u64::from(b - b'0');
         if LARGEST < v {
-            return Whole::No;
+            return None;
         }
-        i += 1;
     }
-    Whole::Of(v)
+    Some(v)
 }

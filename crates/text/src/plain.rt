@@ -16,24 +16,17 @@ const UNITS_F: f64 = 4398046511104.0;
 fn within(at: usize, room: usize) -> usize
     ensures { Placed room at result }
 {
-    if at < room { at } else { room }
+    at.min(room)
 }
 
 // Puts bytes at a place, as far as there is room.
 pub fn put_text(out: &mut [u8], at: usize, bytes: &[u8]) -> usize
     ensures { Placed (length out.old) at result }
 {
-    let mut o = within(at, out.len());
-    let mut j = 0;
-    while j < bytes.len() {
-        if out.len() <= o {
-            return o;
-        }
-        out[o] = bytes[j];
-        o += 1;
-        j += 1;
-    }
-    o
+    let place = within(at, out.len());
+    let n = bytes.len().min(out.len() - place);
+    out[place..place + n].copy_from_slice(&bytes[..n]);
+    place + n
 }
 
 // What was put: the first n bytes, all where there are fewer.
@@ -102,14 +95,12 @@ fn nine_digits(high: u64, low: u64) -> u64
     let mut h = high;
     let mut l = low;
     let mut n: u64 = 0;
-    let mut k: u64 = 0;
-    while k < 9 {
+    for _ in 0..9u64 {
         let below = l * 10;
         let above = h * 10 + below / UNITS;
         n = n * 10 + above / UNITS;
         h = above % UNITS;
         l = below % UNITS;
-        k += 1;
     }
     if is_up(h, l, n) {
         return n + 1;

@@ -1,4 +1,5 @@
 -- The numbers that are kept beside the cells, as the calls that make or renew them leave them. Assumes nothing.
+use Rattle.std.specs.Prelude.{Result}
 use mathlib.Core.Path.{◌≡◌, refl, sym, ap, ◌∙◌, subst}
 use mathlib.Core.Bool.{true}
 use mathlib.Core.List.{List}
@@ -9,16 +10,14 @@ use lib.Dec.{eqb}
 use lib.ListN.{length}
 use lib.Ieee.{Float}
 use Rattle.refusals.specs.declared.Refusal.{Refusal}
-use Rattle.refusals.specs.Number.{number_of, reason_of}
+use Rattle.refusals.specs.Number.{number_of, reason_of, paper_of}
 use Rattle.refusals.specs.Paper.{Paper, Reason, answers, refuses, only, demand, onward, papers}
 use Rattle.floats.specs.Pick.{pick_true}
 use Rattle.stock.specs.declared.TurnStockSpec.{TurnStockSpec}
 use Rattle.stock.specs.declared.TurnStock.{TurnStock}
-use Rattle.stock.specs.declared.Made.{Made}
-use Rattle.stock.specs.declared.Counted.{Counted}
-use Rattle.stock.specs.Spec.{clean_spec, cells_of, counted_paper}
+use Rattle.stock.specs.Spec.{clean_spec, cells_of}
 use Rattle.stock.specs.Cell.{new_of, new_cells, fresh_cell, cells_like, stock_of}
-use Rattle.stock.specs.Stock.{new_stock, made_paper, stock_made, Filled}
+use Rattle.stock.specs.Stock.{new_stock, stock_made, Filled}
 use Rattle.stock.proofs.Cells.{length-like}
 use Rattle.stock.proofs.Count.{same_answer, no_answer, demanded, stock-length}
 use Rattle.blocks.specs.Block.{blocks_in, blocks_of}
@@ -59,12 +58,12 @@ module _ (spec : TurnStockSpec) (cells blocks : ℕ) where
 pub no_cells : (spec : TurnStockSpec) (c : Refusal) (r : ℕ) (cs bs : List Float) (g : ℕ) → new_kept spec (length cs) (length bs) ≡ refuses (reason_of c) → r ≡ number_of c → GivesCells spec (new_kept spec (length cs) (length bs)) r cs cs bs bs g g
 no_cells spec c r cs bs g e h = subst (λ (p : Paper ℕ). GivesCells spec p r cs cs bs bs g g) (sym e) (record { code = h; cells = refl; kept = refl; generation = refl })
 
-pub gives-cells : (spec s : TurnStockSpec) (edition n : ℕ) (a : Made) (r : ℕ) (cs cs' bs bs' : List Float) (g g' : ℕ) → new_kept spec (length cs) (length bs) ≡ answers n → Filled spec edition a cs cs' → s ≡ clean_spec spec → bs' ≡ renewed_all s n cs' bs
-    → Gives (generation_in (made_paper a)) r g g' → GivesCells spec (new_kept spec (length cs) (length bs)) r cs cs' bs bs' g g'
+pub gives-cells : (spec s : TurnStockSpec) (edition n : ℕ) (a : Result TurnStock Refusal) (r : ℕ) (cs cs' bs bs' : List Float) (g g' : ℕ) → new_kept spec (length cs) (length bs) ≡ answers n → Filled spec edition a cs cs' → s ≡ clean_spec spec → bs' ≡ renewed_all s n cs' bs
+    → Gives (generation_in (paper_of a)) r g g' → GivesCells spec (new_kept spec (length cs) (length bs)) r cs cs' bs bs' g g'
 unfolding new_kept renewed_all
 gives-cells spec s edition n a r cs cs' bs bs' g g' e f es k h =
     let w = counts (new_of spec (length cs)) (length bs) n e in
-    let made : made_paper a ≡ answers (new_stock spec edition) = f.answer ∙ ap (stock_made spec edition) w.cells in
+    let made : paper_of a ≡ answers (new_stock spec edition) = f.answer ∙ ap (stock_made spec edition) w.cells in
     let fresh : cs' ≡ cells_like (fresh_cell (clean_spec spec)) n = f.cells ∙ ap (λ (p : Paper ℕ). new_cells spec p cs) w.cells in
     let long : length cs' ≡ 4 * n = ap length fresh ∙ length-like (fresh_cell (clean_spec spec)) n in
     let bins : n ≡ length cs' / 4 = omega (arith, long) in
@@ -77,7 +76,7 @@ gives-cells spec s edition n a r cs cs' bs bs' g g' e f es k h =
     })
 
 -- ---- numbers that are renewed
-pub gives-blocks : (spec : TurnStockSpec) (cs : List Float) (a : Counted) (r : ℕ) (bs bs' : List Float) → r ≡ code_of (counted_paper a) → Renewed spec cs a bs bs' → GivesBlocks spec cs (renew_of spec cs (length bs)) r bs bs'
+pub gives-blocks : (spec : TurnStockSpec) (cs : List Float) (a : Result ℕ Refusal) (r : ℕ) (bs bs' : List Float) → r ≡ code_of (paper_of a) → Renewed spec cs a bs bs' → GivesBlocks spec cs (renew_of spec cs (length bs)) r bs bs'
 unfolding renew_of
 gives-blocks spec cs a r bs bs' h q = record { code = h ∙ ap code_of q.answer; kept = q.numbers ∙ by (renew_of spec cs (length bs)) refl }
   where

@@ -1,18 +1,16 @@
 -- However a stock file is cut into parts for the C calls, what they tell and leave is that of the whole file. Assumes nothing.
+use Rattle.std.specs.Prelude.{Option, None, Some}
 use mathlib.Core.Path.{◌≡◌, refl, sym, ap, ◌∙◌, subst}
 use mathlib.Core.Bool.{Bool, true, false, not}
 use mathlib.Core.List.{List, [], ◌∷◌, ◌++◌}
-use Prim.Native.Nat.{ℕ, ◌≤◌, ◌<◌, min, ◌^◌, ◌%◌}
+use Prim.Native.Nat.{ℕ, ◌≤◌, ◌<◌, min, ◌^◌}
 use native.Mathlib.Omega.{arith}
 use native.Mathlib.Nat.{min-le_right, mod-eq_of_lt, mod-lt}
 use lib.Dec.{eqb, ltb}
-use lib.ListN.{length, drop, get_or, take}
+use lib.ListN.{length, drop}
 use lib.Seq.{sets-eq, length-sets, length-take-le}
-use lib.Ieee.{Float}
 use borrow.Author.Tests.{eq-eqb, ne_eqb, eqb-true, eqb-false}
 use Rattle.floats.specs.Pick.{pick, pick_true, pick-false}
-use Rattle.refusals.specs.Lent.{over}
-use Rattle.refusals.specs.Paper.{Paper}
 use Rattle.refusals.proofs.Written.{length_over}
 use Rattle.lines.specs.File.{joined, pieces_of, over_pieces}
 use Rattle.lines.specs.File as file
@@ -23,18 +21,17 @@ use Rattle.lines.proofs.AnyCut.{any-cut}
 use Rattle.stock_lines.specs.declared.Reading.{Reading}
 use Rattle.stock_lines.specs.Form.{bar_numbers}
 use Rattle.stock_lines.specs.declared.form.First.{First}
-use Rattle.stock_lines.specs.declared.form.First.TheVariants.{Says, NoFirst}
 use Rattle.stock_lines.specs.declared.room.Took.{Took}
 use Rattle.stock_lines.specs.declared.room.Took.TheVariants.{Cell, Ring, End, NoLine}
 use Rattle.stock_lines.specs.First.{first_of, CanSay, one, two, three}
 use Rattle.stock_lines.specs.Reading.{State, state, refusing, begun, onward_to, went, on_body, on_line}
 use Rattle.stock_lines.proofs.Firsts.{first-spelled}
-use Rattle.stock_file.specs.Read.{fresh_reading, stopped, on_long, on_end, held_in, ended, Stocked, told_as, file_in, read_of}
+use Rattle.stock_file.specs.Read.{stopped, on_long, on_end, held_in, ended, told_as, file_in, read_of}
 use Rattle.stock_file.proofs.Cut.{long-stops, takes-few, found-again, end_is}
 use Rattle.stock_file.proofs.AnyBar.{fresh, any-bar}
 use Rattle.turning.specs.JobCalls.{Flat}
 use Rattle.turning.specs.Jobs.{word_at}
-use Rattle.turning.specs.Files.{refused_in, held_from, bar_in, reading_from, words_of, taking_in, put_into, after_part, TakesFile, told_from}
+use Rattle.turning.specs.Files.{refused_in, held_from, bar_in, reading_from, words_of, taking_in, put_into, after_part, told_from}
 use Rattle.turning.specs.FileCalls.{TookFile, start, part}
 
 -- eight words, five numbers and a line
@@ -80,15 +77,15 @@ module _ (f : Flat) (s : Sized f) (h : Hand State) where
 
 -- ---- an edition is a number of 32 bits
 
-begun-small : (r : Reading) (s : List ℕ) (a : First) → first_of s ≡ a → r.edition < 2 ^ 32 → (begun r a).edition < 2 ^ 32
+begun-small : (r : Reading) (s : List ℕ) (a : Option First) → first_of s ≡ a → r.edition < 2 ^ 32 → (begun r a).edition < 2 ^ 32
 unfolding begun refusing
-begun-small r s (Says k e b) h w = by (first-spelled s k e b h).says
+begun-small r s (Some f) h w = by (first-spelled s f.form f.edition f.bar h).says
   where
     by : {k e : ℕ} → CanSay k e → e < 2 ^ 32
     by one = omega arith
     by (two v) = v
     by (three v) = v
-begun-small r s NoFirst h w = w
+begun-small r s None h w = w
 
 went-small : (r : Reading) (t : Took) → r.edition < 2 ^ 32 → (went r t).edition < 2 ^ 32
 unfolding went onward_to refusing

@@ -1,4 +1,5 @@
 -- A stock file kept in lent words and numbers between two calls. Assumes nothing.
+use Rattle.std.specs.Prelude.{Result}
 use mathlib.Core.Path.{◌≡◌, refl, sym, ap, ◌∙◌, subst}
 use mathlib.Core.Bool.{Bool, true, false}
 use mathlib.Core.List.{List, [], ◌∷◌}
@@ -9,7 +10,7 @@ use lib.Ieee.{Float}
 use Rattle.floats.specs.Pick.{pick, pick_true, pick-false}
 use Rattle.refusals.specs.Lent.{over}
 use Rattle.refusals.specs.declared.Refusal.{Refusal}
-use Rattle.refusals.specs.Number.{number_of, reason_of, reason_at}
+use Rattle.refusals.specs.Number.{paper_of}
 use Rattle.refusals.specs.Paper.{Paper, answers, refuses}
 use Rattle.stock.specs.declared.TurnStock.{TurnStock}
 use Rattle.lines.specs.Hands.{Hand}
@@ -17,9 +18,9 @@ use Rattle.lines.proofs.Parts.{stopped-takes}
 use Rattle.stock_lines.specs.declared.Reading.{Reading}
 use Rattle.stock_lines.specs.Form.{bar_numbers}
 use Rattle.stock_lines.specs.Reading.{State, state, on_line}
-use Rattle.stock_file.specs.declared.written.Spelled.{Spelled}
-use Rattle.stock_file.specs.Read.{stopped, on_long, held_in, taking, ended, told_as, Stocked}
-use Rattle.stock_file.specs.Write.{line_paper, length_of, line_over, WroteFileLine}
+use Rattle.stock_file.specs.declared.Kept.{Kept}
+use Rattle.stock_file.specs.Read.{stopped, on_long, held_in, taking, ended, told_as}
+use Rattle.stock_file.specs.Write.{length_of, WroteFileLine}
 use Rattle.turning.specs.Boundary.{edition_in, code_of, out_of, Gives}
 use Rattle.turning.specs.Jobs.{word_at}
 use Rattle.turning.specs.JobCalls.{Flat}
@@ -35,25 +36,15 @@ pub kept-reading : (r : Reading) (n : ℕ) (ws : List ℕ) (bar : List Float) (v
     → KeptReading r n ws (sets ws 0 (r.stage ∷ r.cells ∷ r.rings ∷ r.lines ∷ n ∷ v ∷ r.form ∷ r.edition ∷ [])) bar (sets bar 0 (bar_numbers r.bar))
 kept-reading r n ws bar v e = record { words = ap (λ (x : ℕ). sets ws 0 (r.stage ∷ r.cells ∷ r.rings ∷ r.lines ∷ n ∷ x ∷ r.form ∷ r.edition ∷ [])) e; numbers = refl }
 
--- what the end hands out, case by case
-pub kept-given : (p : Paper Stocked) (s : Stocked) (n m e l : ℕ) → p ≡ answers s → GivesKept p 0 n s.cells m s.stock.rings e s.stock.stamp.edition l l
-kept-given p s n m e l h = rw h (record { code = refl; cells = refl; rings = refl; edition = refl; line = refl })
-
-pub kept-refused : (p : Paper Stocked) (c : Refusal) (r n m e l : ℕ) → p ≡ refuses (reason_of c) → r ≡ number_of c → GivesKept p r n n m m e e l l
-kept-refused p c r n m e l h q = rw h (record { code = q; cells = refl; rings = refl; edition = refl; line = refl })
-
-pub kept-refused-at : (p : Paper Stocked) (c : Refusal) (k r n m e l : ℕ) → p ≡ refuses (reason_at c k) → r ≡ number_of c → GivesKept p r n n m m e e l k
-kept-refused-at p c k r n m e l h q = rw h (record { code = q; cells = refl; rings = refl; edition = refl; line = refl })
-
 -- an answer that says what the rule says
-pub gives-kept : (p q : Paper Stocked) (r n n' m m' e e' l l' : ℕ) → p ≡ q → GivesKept p r n n' m m' e e' l l' → GivesKept q r n n' m m' e e' l l'
-gives-kept p q r n n' m m' e e' l l' h g = subst (λ (x : Paper Stocked). GivesKept x r n n' m m' e e' l l') h g
+pub gives-kept : (p q : Paper Kept) (r n n' m m' e e' l l' : ℕ) → p ≡ q → GivesKept p r n n' m m' e e' l l' → GivesKept q r n n' m m' e e' l l'
+gives-kept p q r n n' m m' e e' l l' h g = subst (λ (x : Paper Kept). GivesKept x r n n' m m' e e' l l') h g
 
 -- a line of the file of a stock
-pub same-file-line : (s s' : TurnStock) (f : TurnStock → Paper (List ℕ)) (a : Spelled) (l l' : List ℕ) → s ≡ s' → WroteFileLine l (f s) a l' → WroteFileLine l (f s') a l'
+pub same-file-line : (s s' : TurnStock) (f : TurnStock → Paper (List ℕ)) (a : Result ℕ Refusal) (l l' : List ℕ) → s ≡ s' → WroteFileLine l (f s) a l' → WroteFileLine l (f s') a l'
 same-file-line s s' f a l l' e q = subst (λ (x : TurnStock). WroteFileLine l (f x) a l') e q
 
-pub gives-file-line : (p : Paper (List ℕ)) (a : Spelled) (r n n' : ℕ) (l l' : List ℕ) → Gives (line_paper a) r n n' → WroteFileLine l p a l' → GivesFileLine p r n n' l l'
+pub gives-file-line : (p : Paper (List ℕ)) (a : Result ℕ Refusal) (r n n' : ℕ) (l l' : List ℕ) → Gives (paper_of a) r n n' → WroteFileLine l p a l' → GivesFileLine p r n n' l l'
 gives-file-line p a r n n' l l' g w = record {
   code = g.code ∙ ap code_of w.answer ∙ same_code p;
   len = g.out ∙ ap (λ (z : Paper ℕ). out_of (λ (k : ℕ). k) z n) w.answer ∙ same_length p;
@@ -97,5 +88,5 @@ part-taken ws ws' bar bar' cs cs' rs rs' l l' s a b m n r ea h em reads holds ke
     }
 
 -- what the end tells
-pub told_is : (ws : List ℕ) (bar : List Float) (most : ℕ) (cs rs : List Float) (a : Reading) (n : ℕ) (p : Paper Stocked) → a ≡ reading_from ws bar → n ≡ held_from ws → p ≡ told_as (ended a n) most cs rs → p ≡ told_from ws bar most cs rs
+pub told_is : (ws : List ℕ) (bar : List Float) (most : ℕ) (cs rs : List Float) (a : Reading) (n : ℕ) (p : Paper Kept) → a ≡ reading_from ws bar → n ≡ held_from ws → p ≡ told_as (ended a n) most cs rs → p ≡ told_from ws bar most cs rs
 told_is ws bar most cs rs a n p ea en e = e ∙ (λ j. told_as (ended (ea j) (en j)) most cs rs)

@@ -1,32 +1,29 @@
 -- From a library's answer to a call's number and out-parameters. Assumes nothing.
+use Rattle.std.specs.Prelude.{Bool, true, false, None, Some, Result, Err}
+use Rattle.std.proofs.lemmas.Option.{same_Some}
 use mathlib.Core.Path.{◌≡◌, refl, sym, ap, ◌∙◌, subst}
-use mathlib.Core.Option.{Option}
 use mathlib.Core.List.{List}
 use Prim.Native.Nat.{ℕ, ◌/◌}
 use lib.ListN.{length}
 use lib.Ieee.{Float}
-use borrow.Author.Tests.{eq-eqb, ne_eqb}
-use Rattle.floats.specs.Pick.{picks}
+use Rattle.refusals.specs.declared.Refused.{Refused}
+use lib.Dec.{eqb}
+use Rattle.floats.specs.Pick.{pick}
 use Rattle.refusals.specs.declared.Refusal.{Refusal}
-use Rattle.refusals.specs.Number.{number_of, reason_of, reason_at}
+use Rattle.refusals.specs.Number.{reason_of, paper_of, placed_of}
 use Rattle.refusals.specs.Paper.{Paper, answers, refuses, only, onward}
 use Rattle.stock.specs.declared.TurnStockSpec.{TurnStockSpec}
 use Rattle.stock.specs.declared.Stamp.{Stamp}
 use Rattle.stock.specs.declared.TurnStock.{TurnStock}
 use Rattle.stock.specs.declared.TurnChange.{TurnChange}
-use Rattle.stock.specs.declared.ZRange.{ZRange}
 use Rattle.stock.specs.declared.TurnSide.{TurnSide}
 use Rattle.stock.specs.declared.TurnSide.TheVariants.{Outer, Inner}
 use Rattle.stock.specs.Cell.{stock_of}
 use Rattle.stock.specs.Stock.{stock_from}
-use Rattle.changes.specs.declared.Tally.TheVariants as tally
 use Rattle.changes.specs.declared.ChangeList.{ChangeList}
-use Rattle.changes.specs.declared.Previewed.{Previewed}
-use Rattle.changes.specs.declared.Previewed.TheVariants as previewed
-use Rattle.changes.specs.Change.{previewed_paper, Proposed}
+use Rattle.changes.specs.Change.{Proposed}
 use Rattle.changes.proofs.Proposals.{left, as-list}
-use Rattle.changes.specs.declared.Applied.{Applied}
-use Rattle.changes.specs.Commit.{Committed, applied_paper, generation_of, stock_at, apply_of, cells_after, kept_after, AppliesKept}
+use Rattle.changes.specs.Commit.{Committed, generation_of, stock_at, apply_of, cells_after, kept_after, AppliesKept}
 use Rattle.changes.specs.Difference.{difference_of}
 use Rattle.cuts.specs.declared.Cut.{Cut}
 use Rattle.cuts.specs.Preview.{preview_cut}
@@ -35,61 +32,21 @@ use Rattle.rings.specs.declared.Ring.{Ring}
 use Rattle.rings.specs.Remove as Remove
 use Rattle.rings.specs.Remove.{RingStore, counts_of, stock_after, Removes}
 use Rattle.rings.specs.Tests.{list_tests}
-use Rattle.profile.specs.declared.Chopped.{Chopped}
 use Rattle.profile.specs.Chords as Profile
-use Rattle.profile.specs.Chords.{Chord, chopped_paper, segments_of, Segmented}
-use Rattle.moves.specs.declared.Moved.{Moved}
+use Rattle.profile.specs.Chords.{Chord, segments_of, Segmented}
 use Rattle.moves.specs.Move as Move
-use Rattle.moves.specs.declared.Rebuilt.{Rebuilt}
-use Rattle.moves.specs.Move.{Left, moved_paper, moved_cells, moved_kept, told_tests, MovesTold, stock_stored, parts_of, rebuilt_paper, rebuilt_kept, RebuildsTold}
-use Rattle.turning.specs.Boundary.{code_of, out_of, place_out, kept_out, Gives, GivesPlace, GivesBin, GivesList, GivesChanges, GivesStock, by_side, GivesTwo, GivesTwoPlace, generation_in, GivesRemoved, GivesRings, GivesMove, GivesStore, GivesChords, GivesFound, GivesFoundTwo}
-
--- a refusal hands out its number and nothing else, whatever its number is
-pub gives-refused : {A : Type 0} (p : Paper A) (c : Refusal) (r : ℕ) (x : A) → p ≡ refuses (reason_of c) → r ≡ number_of c → Gives p r x x
-gives-refused {A} p c r x e h = record { code = h ∙ ap code_of (sym e); out = ap (λ (q : Paper A). out_of (λ (a : A). a) q x) (sym e) }
-
--- the same of a call that has a place for a refusal: of a number that has none it stays
-pub place-refused : {A : Type 0} (p : Paper A) (c : Refusal) (r : ℕ) (x : A) (k : ℕ) → p ≡ refuses (reason_of c) → r ≡ number_of c → GivesPlace p r x x k k
-place-refused {A} p c r x k e h = record { code = h ∙ ap code_of (sym e); out = ap (λ (q : Paper A). out_of (λ (a : A). a) q x) (sym e); position = ap (λ (q : Paper A). place_out q k) (sym e) }
-
-pub place-given : {A : Type 0} (p : Paper A) (c : Refusal) (j r : ℕ) (x : A) (k : ℕ) → p ≡ refuses (reason_at c j) → r ≡ number_of c → GivesPlace p r x x k j
-place-given {A} p c j r x k e h = record { code = h ∙ ap code_of (sym e); out = ap (λ (q : Paper A). out_of (λ (a : A). a) q x) (sym e); position = ap (λ (q : Paper A). place_out q k) (sym e) }
-
-module _ {A B C : Type 0} (f : A → B) (g : A → C) where
-  pub two-answered : (p : Paper A) (a : A) (x : B) (y : C) (k : ℕ) → p ≡ answers a → GivesTwoPlace f g p 0 x (f a) y (g a) k k
-  two-answered p a x y k e =
-      record { code = ap code_of (sym e); one = ap (λ (q : Paper A). out_of f q x) (sym e); other = ap (λ (q : Paper A). out_of g q y) (sym e); position = ap (λ (q : Paper A). place_out q k) (sym e) }
-
-  pub two-refused : (p : Paper A) (c : Refusal) (r : ℕ) (x : B) (y : C) (k : ℕ) → p ≡ refuses (reason_of c) → r ≡ number_of c → GivesTwoPlace f g p r x x y y k k
-  two-refused p c r x y k e h =
-      record { code = h ∙ ap code_of (sym e); one = ap (λ (q : Paper A). out_of f q x) (sym e); other = ap (λ (q : Paper A). out_of g q y) (sym e); position = ap (λ (q : Paper A). place_out q k) (sym e) }
-
-  pub two-given : (p : Paper A) (c : Refusal) (j r : ℕ) (x : B) (y : C) (k : ℕ) → p ≡ refuses (reason_at c j) → r ≡ number_of c → GivesTwoPlace f g p r x x y y k j
-  two-given p c j r x y k e h =
-      record { code = h ∙ ap code_of (sym e); one = ap (λ (q : Paper A). out_of f q x) (sym e); other = ap (λ (q : Paper A). out_of g q y) (sym e); position = ap (λ (q : Paper A). place_out q k) (sym e) }
-
--- a list that is answered hands out its count and its stamp, a refusal its number alone
-pub list-given : (p : Paper ChangeList) (l : ChangeList) (k e g : ℕ) → p ≡ answers l → GivesList p 0 k l.count e l.stamp.edition g l.stamp.generation
-list-given p l k e g h = rw h (record { code = refl; count = refl; edition = refl; generation = refl })
-
-pub list-refused : (p : Paper ChangeList) (c : Refusal) (r k e g : ℕ) → p ≡ refuses (reason_of c) → r ≡ number_of c → GivesList p r k k e e g g
-list-refused p c r k e g h n = rw h (record { code = n; count = refl; edition = refl; generation = refl })
+use Rattle.moves.specs.Move.{Left, moved_cells, moved_kept, told_tests, MovesTold, stock_stored, parts_of, rebuilt_kept, RebuildsTold}
+use Rattle.turning.specs.Boundary.{code_of, out_of, place_out, kept_out, Gives, GivesPlace, GivesList, GivesChanges, GivesStock, side_from, by_side, GivesTwoPlace, generation_in, GivesRemoved, GivesRings, GivesMove, GivesStore, GivesChords}
 
 -- an answer that says what the rule says
-pub gives : {A : Type 0} (p q : Paper A) (r : ℕ) (x x' : A) → p ≡ q → Gives p r x x' → Gives q r x x'
-gives p q r x x' e g = subst (λ z. Gives z r x x') e g
-
-pub gives_bin : (p q : Paper ZRange) (r : ℕ) (za za' zb zb' : Float) → p ≡ q → GivesBin p r za za' zb zb' → GivesBin q r za za' zb zb'
-gives_bin p q r za za' zb zb' e g = subst (λ z. GivesBin z r za za' zb zb') e g
-
-pub gives-changes : (st : Stamp) (p : Paper (List TurnChange)) (a : Previewed) (r k k' e e' g g' : ℕ) (is is' : List ℕ) (xs xs' : List Float) → GivesList (previewed_paper a) r k k' e e' g g' → Proposed st p a is is' xs xs' → GivesChanges st p r k k' e e' g g' is is' xs xs'
+pub gives-changes : (st : Stamp) (p : Paper (List TurnChange)) (a : Result ChangeList Refusal) (r k k' e e' g g' : ℕ) (is is' : List ℕ) (xs xs' : List Float) → GivesList (paper_of a) r k k' e e' g g' → Proposed st p a is is' xs xs' → GivesChanges st p r k k' e e' g g' is is' xs xs'
 gives-changes st p a r k k' e e' g g' is is' xs xs' h q = record {
   list = subst (λ (z : Paper ChangeList). GivesList z r k k' e e' g g') q.answer h;
   indices = q.indices;
   numbers = q.numbers;
 }
 
-pub gives-stock : (s : TurnStock) (p : Paper Committed) (a : Applied) (r : ℕ) (cs cs' bs bs' : List Float) (g g' j j' : ℕ) → GivesPlace (generation_in (applied_paper a)) r g g' j j' → AppliesKept s p a cs cs' bs bs' → GivesStock s.spec p r cs cs' bs bs' g g' j j'
+pub gives-stock : (s : TurnStock) (p : Paper Committed) (a : Result TurnStock Refused) (r : ℕ) (cs cs' bs bs' : List Float) (g g' j j' : ℕ) → GivesPlace (generation_in (placed_of a)) r g g' j j' → AppliesKept s p a cs cs' bs bs' → GivesStock s.spec p r cs cs' bs bs' g g' j j'
 gives-stock s p a r cs cs' bs bs' g g' j j' h q = record {
   code = h.code ∙ ap (λ (z : Paper TurnStock). code_of (generation_in z)) q.left.answer ∙ same_code p;
   cells = q.left.cells;
@@ -114,16 +71,7 @@ gives-stock s p a r cs cs' bs bs' g g' j j' h q = record {
     same-generation (answers k) = refl
     same-generation (refuses n) = refl
 
-pub gives-two : {A B C : Type 0} (f : A → B) (h : A → C) (p q : Paper A) (r : ℕ) (x x' : B) (y y' : C) → p ≡ q → GivesTwo f h p r x x' y y' → GivesTwo f h q r x x' y y'
-gives-two f h p q r x x' y y' e g = subst (λ z. GivesTwo f h z r x x' y y') e g
-
-pub gives_found : {A : Type 0} (p q : Paper (Option A)) (r f f' : ℕ) (x x' : A) → p ≡ q → GivesFound p r f f' x x' → GivesFound q r f f' x x'
-gives_found p q r f f' x x' e g = subst (λ z. GivesFound z r f f' x x') e g
-
-pub gives-found-two : {A : Type 0} (first second : A → Float) (p q : Paper (Option A)) (r f f' : ℕ) (x x' y y' : Float) → p ≡ q → GivesFoundTwo first second p r f f' x x' y y' → GivesFoundTwo first second q r f f' x x' y y'
-gives-found-two first second p q r f f' x x' y y' e g = subst (λ z. GivesFoundTwo first second z r f f' x x' y y') e g
-
-pub gives-rings : (s : TurnStock) (p : Paper RingStore) (a : Removed) (r : ℕ) (xs xs' : List Float) (k k' g g' t t' j j' m : ℕ) → GivesRemoved a r k k' g g' t t' j j' → Removes s xs p m a xs' → GivesRings p m r xs xs' k k' g g' t t' j j'
+pub gives-rings : (s : TurnStock) (p : Paper RingStore) (a : Result Removed Refused) (r : ℕ) (xs xs' : List Float) (k k' g g' t t' j j' m : ℕ) → GivesRemoved a r k k' g g' t t' j j' → Removes s xs p m a xs' → GivesRings p m r xs xs' k k' g g' t t' j j'
 unfolding counts_of onward
 gives-rings s p a r xs xs' k k' g g' t t' j j' m h q = record {
   code = h.stock.code ∙ ap code_of q.answer ∙ same_code p;
@@ -154,7 +102,7 @@ gives-rings s p a r xs xs' k k' g g' t t' j j' m h q = record {
     same-generation (answers a) = refl
     same-generation (refuses n) = refl
 
-pub gives_move : (s : TurnStock) (p : Paper Left) (a : Moved) (r : ℕ) (cs cs' bs bs' xs xs' removed : List Float) (k k' g g' j j' : ℕ) (ts ts' : List ℕ) → GivesTwoPlace (λ (k : TurnStock). k.rings) (λ (k : TurnStock). k.stamp.generation) (moved_paper a) r k k' g g' j j' → MovesTold s p removed a cs cs' bs bs' xs xs' ts ts'
+pub gives_move : (s : TurnStock) (p : Paper Left) (a : Result TurnStock Refused) (r : ℕ) (cs cs' bs bs' xs xs' removed : List Float) (k k' g g' j j' : ℕ) (ts ts' : List ℕ) → GivesTwoPlace (λ (k : TurnStock). k.rings) (λ (k : TurnStock). k.stamp.generation) (placed_of a) r k k' g g' j j' → MovesTold s p removed a cs cs' bs bs' xs xs' ts ts'
     → GivesMove s.spec p (list_tests s.spec xs s.rings removed ts) r cs cs' bs bs' xs xs' k k' g g' ts ts' j j'
 gives_move s p a r cs cs' bs bs' xs xs' removed k k' g g' j j' ts ts' h q = record {
   code = h.code ∙ ap code_of q.moves.left.answer ∙ same_code p;
@@ -191,7 +139,7 @@ gives_move s p a r cs cs' bs bs' xs xs' removed k k' g g' j j' ts ts' h q = reco
     same-generation (answers a) = refl
     same-generation (refuses n) = refl
 
-pub gives-store : (spec : TurnStockSpec) (edition : ℕ) (cs : List Float) (p : Paper (List Ring)) (a : Rebuilt) (r : ℕ) (bs bs' xs xs' given : List Float) (k k' g g' j j' : ℕ) (ts ts' : List ℕ) → GivesTwoPlace (λ (k : TurnStock). k.rings) (λ (k : TurnStock). k.stamp.generation) (rebuilt_paper a) r k k' g g' j j' → RebuildsTold spec edition cs p given a bs bs' xs xs' ts ts'
+pub gives-store : (spec : TurnStockSpec) (edition : ℕ) (cs : List Float) (p : Paper (List Ring)) (a : Result TurnStock Refused) (r : ℕ) (bs bs' xs xs' given : List Float) (k k' g g' j j' : ℕ) (ts ts' : List ℕ) → GivesTwoPlace (λ (k : TurnStock). k.rings) (λ (k : TurnStock). k.stamp.generation) (placed_of a) r k k' g g' j j' → RebuildsTold spec edition cs p given a bs bs' xs xs' ts ts'
     → GivesStore spec cs p (list_tests spec xs 0 given ts) r bs bs' xs xs' k k' g g' ts ts' j j'
 unfolding Remove.count_of onward
 gives-store spec edition cs p a r bs bs' xs xs' given k k' g g' j j' ts ts' h q = record {
@@ -228,7 +176,7 @@ gives-store spec edition cs p a r bs bs' xs xs' given k k' g g' j j' ts ts' h q 
     same-generation (answers l) = refl
     same-generation (refuses n) = refl
 
-pub gives-chords : (ps : List Float) (tol : Float) (a : Chopped) (r : ℕ) (xs xs' : List Float) (k k' : ℕ) → Gives (chopped_paper a) r k k' → Segmented ps tol a xs xs' → GivesChords (segments_of ps tol (length xs / 5)) r xs xs' k k'
+pub gives-chords : (ps : List Float) (tol : Float) (a : Result ℕ Refusal) (r : ℕ) (xs xs' : List Float) (k k' : ℕ) → Gives (paper_of a) r k k' → Segmented ps tol a xs xs' → GivesChords (segments_of ps tol (length xs / 5)) r xs xs' k k'
 unfolding Profile.count_of
 gives-chords ps tol a r xs xs' k k' h q = record {
   code = h.code ∙ ap code_of q.answer ∙ same_code (segments_of ps tol (length xs / 5));
@@ -246,21 +194,27 @@ gives-chords ps tol a r xs xs' k k' h q = record {
 
 -- ---- a side's number
 module _ (spec : TurnStockSpec) (cs : List Float) (side : ℕ) (p : TurnSide → Paper (List TurnChange)) where
-  pub by-outer : side ≡ 0 → by_side spec cs side p ≡ p Outer
-  unfolding by_side
-  by-outer e = simp (picks, eq-eqb side 0 e)
+  pub by-some : (t : TurnSide) → side_from side ≡ Some t → by_side spec cs side p ≡ p t
+  unfolding by_side pick
+  by-some t e = by (eqb side 0) (eqb side 1) e
+    where
+      by : (a b : Bool) → pick a (Some Outer) (pick b (Some Inner) None) ≡ Some t → pick a (p Outer) (pick b (p Inner) (onward (stock_of spec cs) (λ n. refuses (only 5)))) ≡ p t
+      by true b e = ap p (same_Some Outer t e)
+      by false true e = ap p (same_Some Inner t e)
+      by false false e = cc
 
-  pub by-inner : (side ≡ 0 → ⊥) → side ≡ 1 → by_side spec cs side p ≡ p Inner
-  unfolding by_side
-  by-inner e f = simp (picks, ne_eqb side 0 e, eq-eqb side 1 f)
-
-  pub by-none : (side ≡ 0 → ⊥) → (side ≡ 1 → ⊥) → by_side spec cs side p ≡ onward (stock_of spec cs) (λ n. refuses (only 5))
-  unfolding by_side
-  by-none e f = simp (picks, ne_eqb side 0 e, ne_eqb side 1 f)
+  pub by-none : side_from side ≡ None → by_side spec cs side p ≡ onward (stock_of spec cs) (λ n. refuses (only 5))
+  unfolding by_side pick
+  by-none e = by (eqb side 0) (eqb side 1) e
+    where
+      by : (a b : Bool) → pick a (Some Outer) (pick b (Some Inner) None) ≡ None → pick a (p Outer) (pick b (p Inner) (onward (stock_of spec cs) (λ n. refuses (only 5)))) ≡ onward (stock_of spec cs) (λ n. refuses (only 5))
+      by true b e = cc
+      by false true e = cc
+      by false false e = refl
 
 -- ---- the spec that a call makes of its six numbers, and the stock of it
 module _ (s s' : TurnStockSpec) where
-  pub same_store : (edition : ℕ) (cs given : List Float) (a : Rebuilt) (bs bs' xs xs' : List Float) (ts ts' : List ℕ) → s ≡ s' → RebuildsTold s edition cs (parts_of s cs (length bs) given xs) given a bs bs' xs xs' ts ts' → RebuildsTold s' edition cs (parts_of s' cs (length bs) given xs) given a bs bs' xs xs' ts ts'
+  pub same_store : (edition : ℕ) (cs given : List Float) (a : Result TurnStock Refused) (bs bs' xs xs' : List Float) (ts ts' : List ℕ) → s ≡ s' → RebuildsTold s edition cs (parts_of s cs (length bs) given xs) given a bs bs' xs xs' ts ts' → RebuildsTold s' edition cs (parts_of s' cs (length bs) given xs) given a bs bs' xs xs' ts ts'
   same_store edition cs given a bs bs' xs xs' ts ts' e q = subst (λ (x : TurnStockSpec). RebuildsTold x edition cs (parts_of x cs (length bs) given xs) given a bs bs' xs xs' ts ts') e q
 
   pub same-stock : (k : TurnStock) (edition rings g : ℕ) → k ≡ stock_from s edition rings g → s ≡ s' → k ≡ stock_from s' edition rings g
@@ -268,24 +222,24 @@ module _ (s s' : TurnStockSpec) where
 
 -- ---- what is said of one stock is said of the same
 module _ (k k' : TurnStock) where
-  pub same-preview : (cs : List Float) (u : Cut) (room : ℕ) (a : Previewed) (is is' : List ℕ) (xs xs' : List Float) → k ≡ k' → Proposed k.stamp (preview_cut k.spec cs u room) a is is' xs xs' → Proposed k'.stamp (preview_cut k'.spec cs u room) a is is' xs xs'
+  pub same-preview : (cs : List Float) (u : Cut) (room : ℕ) (a : Result ChangeList Refusal) (is is' : List ℕ) (xs xs' : List Float) → k ≡ k' → Proposed k.stamp (preview_cut k.spec cs u room) a is is' xs xs' → Proposed k'.stamp (preview_cut k'.spec cs u room) a is is' xs xs'
   same-preview cs u room a is is' xs xs' e q = subst (λ (x : TurnStock). Proposed x.stamp (preview_cut x.spec cs u room) a is is' xs xs') e q
 
-  pub same_by : (f : TurnStockSpec → Paper (List TurnChange)) (a : Previewed) (is is' : List ℕ) (xs xs' : List Float) → k ≡ k' → Proposed k.stamp (f k.spec) a is is' xs xs' → Proposed k'.stamp (f k'.spec) a is is' xs xs'
+  pub same_by : (f : TurnStockSpec → Paper (List TurnChange)) (a : Result ChangeList Refusal) (is is' : List ℕ) (xs xs' : List Float) → k ≡ k' → Proposed k.stamp (f k.spec) a is is' xs xs' → Proposed k'.stamp (f k'.spec) a is is' xs xs'
   same_by f a is is' xs xs' e q = subst (λ (x : TurnStock). Proposed x.stamp (f x.spec) a is is' xs xs') e q
 
-  pub same-difference : (cs ds : List Float) (room : ℕ) (a : Previewed) (is is' : List ℕ) (xs xs' : List Float) → k ≡ k' → Proposed k.stamp (difference_of k.spec cs ds room) a is is' xs xs' → Proposed k'.stamp (difference_of k'.spec cs ds room) a is is' xs xs'
+  pub same-difference : (cs ds : List Float) (room : ℕ) (a : Result ChangeList Refusal) (is is' : List ℕ) (xs xs' : List Float) → k ≡ k' → Proposed k.stamp (difference_of k.spec cs ds room) a is is' xs xs' → Proposed k'.stamp (difference_of k'.spec cs ds room) a is is' xs xs'
   same-difference cs ds room a is is' xs xs' e q = subst (λ (x : TurnStock). Proposed x.stamp (difference_of x.spec cs ds room) a is is' xs xs') e q
 
-  pub same-commit : (l l' : ChangeList) (is : List ℕ) (xs : List Float) (a : Applied) (cs cs' bs bs' : List Float) → k ≡ k' → l ≡ l' → AppliesKept k (apply_of k cs bs l is xs) a cs cs' bs bs' → AppliesKept k' (apply_of k' cs bs l' is xs) a cs cs' bs bs'
+  pub same-commit : (l l' : ChangeList) (is : List ℕ) (xs : List Float) (a : Result TurnStock Refused) (cs cs' bs bs' : List Float) → k ≡ k' → l ≡ l' → AppliesKept k (apply_of k cs bs l is xs) a cs cs' bs bs' → AppliesKept k' (apply_of k' cs bs l' is xs) a cs cs' bs bs'
   same-commit l l' is xs a cs cs' bs bs' e f q = subst (λ (y : ChangeList). AppliesKept k' (apply_of k' cs bs y is xs) a cs cs' bs bs') f (subst (λ (x : TurnStock). AppliesKept x (apply_of x cs bs l is xs) a cs cs' bs bs') e q)
 
-  pub same_move : (l l' : ChangeList) (f : TurnStock → ChangeList → Paper Left) (removed : List Float) (a : Moved) (cs cs' bs bs' xs xs' : List Float) (ts ts' : List ℕ) → k ≡ k' → l ≡ l' → MovesTold k (f k l) removed a cs cs' bs bs' xs xs' ts ts' → MovesTold k' (f k' l') removed a cs cs' bs bs' xs xs' ts ts'
+  pub same_move : (l l' : ChangeList) (f : TurnStock → ChangeList → Paper Left) (removed : List Float) (a : Result TurnStock Refused) (cs cs' bs bs' xs xs' : List Float) (ts ts' : List ℕ) → k ≡ k' → l ≡ l' → MovesTold k (f k l) removed a cs cs' bs bs' xs xs' ts ts' → MovesTold k' (f k' l') removed a cs cs' bs bs' xs xs' ts ts'
   same_move l l' f removed a cs cs' bs bs' xs xs' ts ts' e h q = subst (λ (y : ChangeList). MovesTold k' (f k' y) removed a cs cs' bs bs' xs xs' ts ts') h (subst (λ (x : TurnStock). MovesTold x (f x l) removed a cs cs' bs bs' xs xs' ts ts') e q)
 
-  pub same-ring : (f : TurnStock → Paper RingStore) (m : TurnStock → ℕ) (a : Removed) (xs xs' : List Float) → k ≡ k' → Removes k xs (f k) (m k) a xs' → Removes k' xs (f k') (m k') a xs'
+  pub same-ring : (f : TurnStock → Paper RingStore) (m : TurnStock → ℕ) (a : Result Removed Refused) (xs xs' : List Float) → k ≡ k' → Removes k xs (f k) (m k) a xs' → Removes k' xs (f k') (m k') a xs'
   same-ring f m a xs xs' e q = subst (λ (x : TurnStock). Removes x xs (f x) (m x) a xs') e q
 
 -- a refusal in place of a list
-pub no-list : (st : Stamp) (p : Paper (List TurnChange)) (r : Refusal) (is : List ℕ) (xs : List Float) → p ≡ refuses (reason_of r) → Proposed st p (previewed.Refused r) is is xs xs
-no-list st p r is xs e = as-list {t = tally.Refused r} refl (left p r is xs e)
+pub no-list : (st : Stamp) (p : Paper (List TurnChange)) (r : Refusal) (is : List ℕ) (xs : List Float) → p ≡ refuses (reason_of r) → Proposed st p (Err r) is is xs xs
+no-list st p r is xs e = as-list {t = Err r} refl (left p r is xs e)

@@ -2,13 +2,12 @@
 -- other than 0 is refused, with that number (`refused`), and all that it was lent to write is as it was. What it is lent to read alone it cannot write.
 -- `turning_read_part` alone writes where it is refused: beside the caller's own reading state (state, bar, held line) the lent room, into which the lines before the refused one were read, is the only place where a refusal
 -- writes. What that call leaves is said of it below (`part_left`), and of the room by `file-room-left` (`demands`, `proofs/Files`). Assumes nothing.
+use Rattle.std.specs.Prelude.{Option}
 use mathlib.Core.Path.{◌≡◌, refl, sym, ap, ◌∙◌}
-use mathlib.Core.Bool.{Bool, true, false}
-use mathlib.Core.List.{List, [], ◌∷◌}
-use mathlib.Core.Option.{Option}
-use Prim.Native.Nat.{ℕ, ◌≤◌, ◌<◌}
+use mathlib.Core.Bool.{true}
+use mathlib.Core.List.{List}
+use Prim.Native.Nat.{ℕ, ◌<◌}
 use native.Mathlib.Omega.{arith}
-use lib.ListN.{length}
 use lib.Ieee.{Float}
 use Rattle.floats.specs.Pick.{pick_true}
 use Rattle.refusals.specs.Paper.{Paper, Reason, answers, refuses, only, at, onward}
@@ -30,11 +29,12 @@ use Rattle.passes.specs.Propose.{sixes}
 use Rattle.lines.specs.Hands.{Hand}
 use Rattle.lines.proofs.Parts.{stopped-takes}
 use Rattle.stock_lines.specs.Reading.{State, state, on_line}
-use Rattle.stock_file.specs.Read.{stopped, on_long, held_in, Stocked}
+use Rattle.stock_file.specs.declared.Kept.{Kept}
+use Rattle.stock_file.specs.Read.{stopped, on_long, held_in}
 use Rattle.turning.specs.JobCalls.{Flat}
 use Rattle.turning.specs.Files.{refused_in, held_from, reading_from, taking_in, after_part, TakesFile, GivesKept, GivesFileLine}
 use Rattle.turning.specs.Passes.{GivesChecked, GivesPasses}
-use Rattle.turning.specs.Boundary.{code_of, place_out, Gives, GivesBin, GivesCells, GivesBlocks, GivesChanges, GivesStock, GivesTwo, GivesTwoPlace, GivesRings, GivesMove, GivesStore, GivesChords, GivesFound, GivesFoundTwo}
+use Rattle.turning.specs.Boundary.{code_of, place_out, Gives, GivesBin, GivesCells, GivesBlocks, GivesChanges, GivesStock, GivesTwo, GivesRings, GivesMove, GivesStore, GivesChords, GivesFound, GivesFoundTwo}
 
 no_code : {r : ℕ} → r ≡ 0 → 0 < r → ⊥
 no_code e h = omega arith
@@ -139,7 +139,7 @@ file-line-left (answers s) r n n' l l' g h = absurd (no_code g.code h)
 file-line-left (refuses c) r n n' l l' g h = (g.len, g.line)
 
 -- `turning_read_end`: both counts and the edition; *line is its place
-pub kept-left : (p : Paper Stocked) (r n n' m m' e e' l l' : ℕ) → GivesKept p r n n' m m' e e' l l' → 0 < r → (n' ≡ n) × (m' ≡ m) × (e' ≡ e)
+pub kept-left : (p : Paper Kept) (r n n' m m' e e' l l' : ℕ) → GivesKept p r n n' m m' e e' l l' → 0 < r → (n' ≡ n) × (m' ≡ m) × (e' ≡ e)
 kept-left (answers s) r n n' m m' e e' l l' g h = absurd (no_code g.code h)
 kept-left (refuses c) r n n' m m' e e' l l' g h = (g.cells, g.rings, g.edition)
 

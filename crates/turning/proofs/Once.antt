@@ -26,9 +26,9 @@
 --   takes-file-once       turning_read_part
 --   gives-kept-once       turning_read_end
 -- A buffer that is lent to be read only is as it was.
+use Rattle.std.specs.Prelude.{Option}
 use mathlib.Core.Path.{◌≡◌, sym, ap, ◌∙◌}
 use mathlib.Core.List.{List}
-use mathlib.Core.Option.{Option}
 use Prim.Native.Nat.{ℕ}
 use lib.Ieee.{Float}
 use Rattle.refusals.specs.Paper.{Paper}
@@ -47,12 +47,12 @@ use Rattle.passes.specs.declared.propose.Level.{Level}
 use Rattle.passes.specs.Check.{Verdict}
 use Rattle.job_run.specs.declared.Run.{Run}
 use Rattle.job_run.specs.Run.{State, Hold}
-use Rattle.stock_file.specs.Read.{Stocked}
+use Rattle.stock_file.specs.declared.Kept.{Kept}
 use Rattle.turning.specs.Jobs.{TakesJob, EndsJob, WritesJob}
 use Rattle.turning.specs.JobCalls.{Flat}
 use Rattle.turning.specs.Files.{TakesFile, GivesKept, GivesFileLine}
 use Rattle.turning.specs.Passes.{GivesChecked, GivesPasses}
-use Rattle.turning.specs.Boundary.{kept_out, Gives, GivesTwo, GivesTwoPlace, GivesBin, GivesCells, GivesBlocks, GivesList, GivesChanges, GivesStock, GivesRings, GivesMove, GivesStore, GivesChords, GivesFound, GivesFoundTwo}
+use Rattle.turning.specs.Boundary.{kept_out, Gives, GivesTwo, GivesBin, GivesCells, GivesBlocks, GivesList, GivesChanges, GivesStock, GivesRings, GivesMove, GivesStore, GivesChords, GivesFound, GivesFoundTwo}
 
 -- the number of the header
 pub header-once : (r r' : ℕ) → r ≡ 7 → r' ≡ 7 → r ≡ r'
@@ -168,5 +168,5 @@ pub takes-file-once : (f g g' : Flat) (s : List ℕ) (r r' : ℕ) → TakesFile 
 takes-file-once f g g' s r r' a b = (a.code ∙ sym b.code, a.left ∙ sym b.left)
 
 -- what a file tells: two counts, an edition, and the line of a refusal
-pub gives-kept-once : (p : Paper Stocked) (r r' n n₁ n₂ m m₁ m₂ e e₁ e₂ l l₁ l₂ : ℕ) → GivesKept p r n n₁ m m₁ e e₁ l l₁ → GivesKept p r' n n₂ m m₂ e e₂ l l₂ → (r ≡ r') × (n₁ ≡ n₂) × (m₁ ≡ m₂) × (e₁ ≡ e₂) × (l₁ ≡ l₂)
+pub gives-kept-once : (p : Paper Kept) (r r' n n₁ n₂ m m₁ m₂ e e₁ e₂ l l₁ l₂ : ℕ) → GivesKept p r n n₁ m m₁ e e₁ l l₁ → GivesKept p r' n n₂ m m₂ e e₂ l l₂ → (r ≡ r') × (n₁ ≡ n₂) × (m₁ ≡ m₂) × (e₁ ≡ e₂) × (l₁ ≡ l₂)
 gives-kept-once p r r' n n₁ n₂ m m₁ m₂ e e₁ e₂ l l₁ l₂ a b = (a.code ∙ sym b.code, a.cells ∙ sym b.cells, a.rings ∙ sym b.rings, a.edition ∙ sym b.edition, a.line ∙ sym b.line)

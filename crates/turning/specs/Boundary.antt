@@ -1,12 +1,12 @@
 -- What a call of the C boundary returns, and what it leaves in its out-parameters. Assumes nothing.
-use Rattle.std.specs.Prelude.{◌≡◌, List, ℕ, ◌*◌, ◌/◌, ◌%◌, ◌^◌, length, Float, eqb}
-use Rattle.std.proofs.Math.Option.{Option, none, some}
+use Rattle.std.specs.Prelude.{◌≡◌, List, ℕ, ◌*◌, ◌/◌, ◌%◌, ◌^◌, length, Float, eqb, Option, None, Some, Result}
 use Rattle.std.specs.Borrow.{MutBor}
 use denote.Triple.Both.{Both}
 use Rattle.floats.specs.Pick.{pick}
 use Rattle.refusals.specs.declared.Refusal.{Refusal}
+use Rattle.refusals.specs.declared.Refused.{Refused}
 use Rattle.refusals.specs.Number.{reason_of}
-use Rattle.refusals.specs.Paper.{Paper, answers, refuses, demand, only, place_or, onward}
+use Rattle.refusals.specs.Paper.{Paper, Reason, answers, refuses, demand, only, place_or, onward}
 use Rattle.refusals.specs.Lent.{Lent, over}
 use Rattle.stock.specs.declared.TurnStockSpec.{TurnStockSpec}
 use Rattle.stock.specs.declared.Stamp.{Stamp}
@@ -82,6 +82,11 @@ pub record GivesPlace {A : Type 0} (p : Paper A) (r : ℕ) (x x' : A) (q q' : �
   pub out : x' ≡ out_of (λ (a : A). a) p x
   pub position : q' ≡ place_out p q
 
+-- a refusal's number, and its place out where it has one
+pub record GivesReason (n : Reason) (r q q' : ℕ) : Type 0 where
+  pub code : r ≡ n.number
+  pub position : q' ≡ place_or q n.place
+
 -- a bin's two ends out
 pub record GivesBin (p : Paper ZRange) (r : ℕ) (za za' zb zb' : Float) : Type 0 where
   pub code : r ≡ code_of p
@@ -127,7 +132,11 @@ pub record GivesStock (spec : TurnStockSpec) (p : Paper Committed) (r : ℕ) (cs
 
 -- ---- a side's number
 
--- 0 is outside, 1 inside; any other is an argument outside its domain, asked for after 1, 2, 3
+-- 0 is outside, 1 inside; any other is none
+abbrev pub side_from : ℕ → Option TurnSide
+side_from side = pick (eqb side 0) (Some Outer) (pick (eqb side 1) (Some Inner) None)
+
+-- and so an argument outside its domain, asked for after 1, 2, 3
 unfoldable pub by_side : TurnStockSpec → List Float → ℕ → (TurnSide → Paper (List TurnChange)) → Paper (List TurnChange)
 by_side spec cs side p = pick (eqb side 0) (p Outer) (pick (eqb side 1) (p Inner) (onward (stock_of spec cs) (λ n. refuses (only 5))))
 
@@ -163,7 +172,7 @@ generation_in (answers k) = answers k.stamp.generation
 generation_in (refuses r) = refuses r
 
 -- the count of rings and the generation that one ring leaves, the tests that it took, and the place of a refusal
-pub record GivesRemoved (a : Removed) (r k k' g g' t t' q q' : ℕ) : Type 0 where
+pub record GivesRemoved (a : Result Removed Refused) (r k k' g g' t t' q q' : ℕ) : Type 0 where
   pub stock : GivesTwoPlace (λ (k : TurnStock). k.rings) (λ (k : TurnStock). k.stamp.generation) (removed_paper a) r k k' g g' q q'
   pub tests : t' ≡ out_of (λ (n : ℕ). n) (removed_tests a) t
 
@@ -207,13 +216,13 @@ pub record GivesChords (p : Paper (List Chord)) (r : ℕ) (xs xs' : List Float) 
 
 -- 1 where something is found, else 0
 abbrev pub found_of : {A : Type 0} → Option A → ℕ
-found_of (some a) = 1
-found_of none = 0
+found_of (Some a) = 1
+found_of None = 0
 
 -- an out-parameter: a part of what is found, or as it was
 abbrev pub out_found : {A B : Type 0} → (A → B) → Paper (Option A) → B → B
-out_found f (answers (some a)) b = f a
-out_found f (answers none) b = b
+out_found f (answers (Some a)) b = f a
+out_found f (answers None) b = b
 out_found f (refuses n) b = b
 
 -- one number out, if it is found
@@ -240,6 +249,9 @@ Hands p r x = Gives p r x.entry.now x.exit.now
 
 abbrev pub HandsPlace : {A : Type 0} → Paper A → ℕ → Out A → Out ℕ → Type 0
 HandsPlace p r x q = GivesPlace p r x.entry.now x.exit.now q.entry.now q.exit.now
+
+abbrev pub HandsReason : Reason → ℕ → Out ℕ → Type 0
+HandsReason n r q = GivesReason n r q.entry.now q.exit.now
 
 abbrev pub HandsTwo : {A B C : Type 0} → (A → B) → (A → C) → Paper A → ℕ → Out B → Out C → Type 0
 HandsTwo first second p r x y = GivesTwo first second p r x.entry.now x.exit.now y.entry.now y.exit.now
@@ -270,7 +282,7 @@ abbrev pub HandsStock : TurnStock → (TurnStock → Paper Committed) → ℕ �
 HandsStock k rule r cells blocks generation q =
     GivesStock k.spec (rule k) r cells.entry.now cells.exit.now blocks.entry.now blocks.exit.now generation.entry.now generation.exit.now q.entry.now q.exit.now
 
-abbrev pub HandsRemoved : Removed → ℕ → Out ℕ → Out ℕ → Out ℕ → Out ℕ → Type 0
+abbrev pub HandsRemoved : Result Removed Refused → ℕ → Out ℕ → Out ℕ → Out ℕ → Out ℕ → Type 0
 HandsRemoved a r count generation tests q =
     GivesRemoved a r count.entry.now count.exit.now generation.entry.now generation.exit.now tests.entry.now tests.exit.now q.entry.now q.exit.now
 

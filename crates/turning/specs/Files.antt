@@ -10,7 +10,8 @@ use Rattle.stock_lines.specs.declared.Bar.{Bar}
 use Rattle.stock_lines.specs.declared.Reading.{Reading}
 use Rattle.stock_lines.specs.Form.{bar_numbers}
 use Rattle.stock_lines.specs.Reading.{State, state}
-use Rattle.stock_file.specs.Read.{held_in, taking, ended, told_as, Stocked}
+use Rattle.stock_file.specs.Read.{held_in, taking, ended, told_as}
+use Rattle.stock_file.specs.declared.Kept.{Kept}
 use Rattle.stock_file.specs.Write.{line_over}
 use Rattle.turning.specs.Boundary.{Out, edition_in, code_of, out_of, place_out}
 use Rattle.turning.specs.Jobs.{word_at}
@@ -79,15 +80,15 @@ pub record TakesFile (f g : Flat) (s : List ℕ) (r : ℕ) : Type 0 where
 -- ---- the end
 
 -- what a reading tells as if its bytes ended here
-abbrev pub told_from : List ℕ → List Float → ℕ → List Float → List Float → Paper Stocked
+abbrev pub told_from : List ℕ → List Float → ℕ → List Float → List Float → Paper Kept
 told_from ws bar most cs rs = told_as (ended (reading_from ws bar) (held_from ws)) most cs rs
 
 -- what the end hands out: how many cells and rings the room holds and the edition, or the refusal, and its line where it has one
-pub record GivesKept (p : Paper Stocked) (r n n' m m' e e' l l' : ℕ) : Type 0 where
+pub record GivesKept (p : Paper Kept) (r n n' m m' e e' l l' : ℕ) : Type 0 where
   pub code : r ≡ code_of p
-  pub cells : n' ≡ out_of (λ (s : Stocked). s.cells) p n
-  pub rings : m' ≡ out_of (λ (s : Stocked). s.stock.rings) p m
-  pub edition : e' ≡ out_of (λ (s : Stocked). s.stock.stamp.edition) p e
+  pub cells : n' ≡ out_of (λ (s : Kept). s.cells) p n
+  pub rings : m' ≡ out_of (λ (s : Kept). s.stock.rings) p m
+  pub edition : e' ≡ out_of (λ (s : Kept). s.stock.stamp.edition) p e
   pub line : l' ≡ place_out p l
 
 -- ---- a line of the file of a stock, and its length
@@ -110,7 +111,7 @@ HandsPart r ws bar cells rings line s =
     TakesFile (flat_of ws.entry.now bar.entry.now cells.entry.now rings.entry.now line.entry.now)
     (flat_of ws.exit.now bar.exit.now cells.exit.now rings.exit.now line.exit.now) s r
 
-abbrev pub HandsKept : Paper Stocked → ℕ → Out ℕ → Out ℕ → Out ℕ → Out ℕ → Type 0
+abbrev pub HandsKept : Paper Kept → ℕ → Out ℕ → Out ℕ → Out ℕ → Out ℕ → Type 0
 HandsKept p r n m e line = GivesKept p r n.entry.now n.exit.now m.entry.now m.exit.now e.entry.now e.exit.now line.entry.now line.exit.now
 
 abbrev pub HandsFileLine : Paper (List ℕ) → ℕ → Lent ℕ → Out ℕ → Type 0

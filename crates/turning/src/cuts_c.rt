@@ -1,29 +1,31 @@
 // Previews, commits and the difference of two stocks.
 ghost use Rattle.std.specs.Prelude.{◌≡◌};
+ghost use Rattle.refusals.specs.Number.{paper_of, placed_of};
 ghost use Rattle.stock.specs.Stock.{stamp_of, stock_from};
-ghost use Rattle.changes.specs.Change.{previewed_paper};
-ghost use Rattle.changes.specs.Commit.{applied_paper, apply_of};
+ghost use Rattle.changes.specs.Commit.{apply_of};
 ghost use Rattle.changes.specs.Difference.{difference_of};
 ghost use Rattle.cuts.specs.declared.Cut.TheVariants.{Thread, ThreadInner, Drill};
 ghost use Rattle.cuts.specs.Preview.{preview_cut};
 ghost use Rattle.turning.specs.Boundary.{spec_from, list_from, generation_in, HandsPlace, HandsList, HandsChanges, HandsStock};
 
+use crate::out::give_place;
 use crate::stock_c;
-use changes::{Applied, ChangeList, Previewed};
-use stock::Stamp;
+use changes::ChangeList;
+use refusals::{Refusal, Refused};
+use stock::{Stamp, TurnStock};
 
 // How many changes were written and the stamp of their list, or the number of the refusal.
 pub fn give_changes(
-    answer: Previewed,
+    answer: Result<ChangeList, Refusal>,
     count: &mut usize,
     edition: &mut u32,
     generation: &mut u64,
 ) -> u32
-    ensures { HandsList (previewed_paper answer) result count edition generation }
+    ensures { HandsList (paper_of answer) result count edition generation }
 {
     match answer {
-        Previewed::Refused(r) => refusals::number(r),
-        Previewed::Listed(list) => {
+        Err(r) => refusals::number(r),
+        Ok(list) => {
             *count = list.count;
             *edition = list.stamp.edition;
             *generation = list.stamp.generation;
@@ -46,16 +48,16 @@ pub fn list_of(count: usize, edition: u32, generation: u64) -> ChangeList
 }
 
 // The generation after a commit, or the number of the refusal, with its place where it has one.
-fn give_generation(answer: Applied, generation: &mut u64, position: &mut usize) -> u32
-    ensures { HandsPlace (generation_in (applied_paper answer)) result generation position }
+fn give_generation(
+    answer: Result<TurnStock, Refused>,
+    generation: &mut u64,
+    position: &mut usize,
+) -> u32
+    ensures { HandsPlace (generation_in (placed_of answer)) result generation position }
 {
     match answer {
-        Applied::Refused(r) => refusals::number(r),
-        Applied::RefusedAt(r, k) => {
-            *position = k;
-            refusals::number(r)
-        }
-        Applied::Stock(after) => {
+        Err(refused) => give_place(refused, position),
+        Ok(after) => {
             *generation = after.stamp.generation;
             0
         }

@@ -6,16 +6,17 @@
 // read as they stand: of the held bytes 127 at most, of the edition its lower half, and any number but 0
 // is a refusal.
 ghost use Rattle.std.specs.Prelude.{◌≡◌};
+ghost use Rattle.refusals.specs.Number.{placed_of};
 ghost use Rattle.floats.specs.Pick.{pick};
 ghost use Rattle.stock.specs.Stock.{stock_from};
-ghost use Rattle.stock_file.specs.Read.{kept_paper};
-ghost use Rattle.stock_file.specs.Write.{line_count, lines_paper, line_paper, line_for};
+ghost use Rattle.stock_file.specs.Write.{line_count, line_for};
 ghost use Rattle.turning.specs.Boundary.{spec_from, Hands};
 ghost use Rattle.turning.specs.Files.{reading_from, refused_in, held_from, KeepsReading, HandsPart, told_from, HandsKept, HandsFileLine};
 
+use crate::out::{give, give_place};
 use crate::stock_c;
-use refusals::Refusal;
-use stock_file::{Kept, Lines, Spelled};
+use refusals::{Refusal, Refused};
+use stock_file::Kept;
 use stock_lines::{Bar, Reading};
 use text::LINE_ROOM;
 
@@ -23,19 +24,6 @@ use text::LINE_ROOM;
 const WORDS: usize = 8;
 
 const BAR: usize = 5;
-
-// A count of lines handed out, or the number of the refusal.
-fn give_lines(answer: Lines, lines: &mut usize) -> u32
-    ensures { Hands (lines_paper answer) result lines }
-{
-    match answer {
-        Lines::Refused(r) => refusals::number(r),
-        Lines::Count(k) => {
-            *lines = k;
-            0
-        }
-    }
-}
 
 pub fn turning_stock_lines(
     z_min: f64,
@@ -54,20 +42,7 @@ pub fn turning_stock_lines(
 {
     let spec = stock_c::spec_of(z_min, z_max, outer, bore, cell, max_cells);
     let answer = stock_file::line_count(spec, cells, rings, rings_count);
-    give_lines(answer, lines)
-}
-
-// A line's length handed out, or the number of the refusal.
-fn give_length(answer: Spelled, len: &mut usize) -> u32
-    ensures { Hands (line_paper answer) result len }
-{
-    match answer {
-        Spelled::Refused(r) => refusals::number(r),
-        Spelled::Bytes(k) => {
-            *len = k;
-            0
-        }
-    }
+    give(answer, lines)
 }
 
 pub fn turning_stock_line(
@@ -91,7 +66,7 @@ pub fn turning_stock_line(
     let spec = stock_c::spec_of(z_min, z_max, outer, bore, cell, max_cells);
     let stock = stock_c::stock_of(spec, edition, 0, rings_count);
     let answer = stock_file::file_line(line, stock, cells, rings, k);
-    give_length(answer, len)
+    give(answer, len)
 }
 
 // Whether the words say that a line was refused.
@@ -186,21 +161,17 @@ pub fn turning_read_part(
 
 // The counts and the edition of a stock handed out, or the number of the refusal, with its line where it has one.
 fn give_kept(
-    answer: Kept,
+    answer: Result<Kept, Refused>,
     n: &mut usize,
     rings_count: &mut usize,
     edition: &mut u32,
     line: &mut usize,
 ) -> u32
-    ensures { HandsKept (kept_paper answer) result n rings_count edition line }
+    ensures { HandsKept (placed_of answer) result n rings_count edition line }
 {
     match answer {
-        Kept::Refused(r) => refusals::number(r),
-        Kept::RefusedAt(r, k) => {
-            *line = k;
-            refusals::number(r)
-        }
-        Kept::Stock(stock, cells) => {
+        Err(refused) => give_place(refused, line),
+        Ok(Kept { stock, cells }) => {
             *n = cells;
             *rings_count = stock.rings;
             *edition = stock.stamp.edition;

@@ -93,10 +93,7 @@ fn end_of(words: &[u64; WORDS]) -> Run
 fn short(refused: u64) -> u32
     ensures { result ≡ min refused 4294967295 }
 {
-    if refused < 4294967295 {
-        return refused as u32;
-    }
-    4294967295
+    refused.min(4294967295) as u32
 }
 
 pub fn turning_job_finish(state: &[u64; WORDS], line: &mut u64) -> u32

@@ -16,6 +16,7 @@ mod header_c;
 mod insert_c;
 mod job_c;
 mod numbers_c;
+mod out;
 mod passes_c;
 mod profile_c;
 mod queries_c;

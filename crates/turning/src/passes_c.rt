@@ -3,18 +3,19 @@ ghost use Rattle.std.specs.Prelude.{◌≡◌};
 ghost use Rattle.stock.specs.Stock.{stock_from};
 ghost use Rattle.passes.specs.Cuts.{cuts_of};
 ghost use Rattle.passes.specs.Check.{checked_paper, check_of};
-ghost use Rattle.passes.specs.Propose.{proposal_paper, propose_of};
+ghost use Rattle.passes.specs.Propose.{propose_of};
 ghost use Rattle.turning.specs.Boundary.{spec_from, Hands};
 ghost use Rattle.turning.specs.Passes.{HandsSaid, HandsChecked, HandsPasses};
 
+use crate::out::give;
 use crate::stock_c;
-use passes::Checked;
-use passes::propose::Proposal;
+use passes::Verdict;
+use refusals::Refusal;
 
 // What a check says of a stock at that generation: the verdict, the place and the reason where it has
 // them, and the generation afterwards; or the number of the refusal.
 fn give_checked(
-    answer: Checked,
+    answer: Result<Verdict, Refusal>,
     before: u64,
     verdict: &mut u32,
     place: &mut usize,
@@ -24,20 +25,20 @@ fn give_checked(
     ensures { HandsSaid before (checked_paper answer) result verdict place reason generation }
 {
     match answer {
-        Checked::Refused(r) => refusals::number(r),
-        Checked::Yes(k) => {
+        Err(r) => refusals::number(r),
+        Ok(Verdict::Yes(k)) => {
             *verdict = 1;
             *generation = k.stamp.generation;
             0
         }
-        Checked::CutFails(k, r) => {
+        Ok(Verdict::CutFails(k, r)) => {
             *verdict = 2;
             *place = k;
             *reason = refusals::number(r);
             *generation = before;
             0
         }
-        Checked::BinFails(i) => {
+        Ok(Verdict::BinFails(i)) => {
             *verdict = 3;
             *place = i;
             *generation = before;
@@ -92,19 +93,6 @@ pub fn turning_check_passes(
     give_checked(answer, generation, verdict, place, reason, after_generation)
 }
 
-// How many passes, or the number of the refusal.
-fn give_passes(answer: Proposal, count: &mut usize) -> u32
-    ensures { Hands (proposal_paper answer) result count }
-{
-    match answer {
-        Proposal::Refused(r) => refusals::number(r),
-        Proposal::Passes(k) => {
-            *count = k;
-            0
-        }
-    }
-}
-
 pub fn turning_propose_passes(
     z_min: f64,
     z_max: f64,
@@ -125,5 +113,5 @@ pub fn turning_propose_passes(
 {
     let spec = stock_c::spec_of(z_min, z_max, outer, bore, cell, max_cells);
     let answer = passes::propose::propose(spec, cells, targets, rn, kinds, numbers, parts);
-    give_passes(answer, count)
+    give(answer, count)
 }

@@ -2,24 +2,26 @@
 ghost use Rattle.std.specs.Prelude.{◌≡◌};
 ghost use Rattle.queries.specs.declared.Band.{Band};
 ghost use Rattle.queries.specs.declared.Volumes.{Volumes};
-ghost use Rattle.queries.specs.Envelope.{envelope_at, seen_paper};
-ghost use Rattle.queries.specs.Volume.{volume_of, measured_paper};
+ghost use Rattle.queries.specs.Envelope.{envelope_at};
+ghost use Rattle.queries.specs.Volume.{volume_of};
+ghost use Rattle.refusals.specs.Number.{paper_of};
 ghost use Rattle.blocks.specs.Range.{range_of};
 ghost use Rattle.turning.specs.Boundary.{spec_from, HandsTwo, HandsFoundTwo};
 
 use crate::stock_c;
-use queries::{Measured, Seen};
+use queries::{Band, Volumes};
+use refusals::Refusal;
 
 // The two volumes, or the number of the refusal.
-fn give_volumes(answer: Measured, least: &mut f64, greatest: &mut f64) -> u32
-    ensures { HandsTwo (λ (v : Volumes). v.least) (λ (v : Volumes). v.greatest) (measured_paper answer) result
+fn give_volumes(answer: Result<Volumes, Refusal>, least: &mut f64, greatest: &mut f64) -> u32
+    ensures { HandsTwo (λ (v : Volumes). v.least) (λ (v : Volumes). v.greatest) (paper_of answer) result
         least greatest }
 {
     match answer {
-        Measured::Refused(r) => refusals::number(r),
-        Measured::Between(a, b) => {
-            *least = a;
-            *greatest = b;
+        Err(r) => refusals::number(r),
+        Ok(v) => {
+            *least = v.least;
+            *greatest = v.greatest;
             0
         }
     }
@@ -48,20 +50,25 @@ pub fn turning_volume(
 }
 
 // The two radii if there is material, or the number of the refusal.
-fn give_seen(answer: Seen, found: &mut u32, bore_lower: &mut f64, outer_upper: &mut f64) -> u32
-    ensures { HandsFoundTwo (λ (b : Band). b.bore) (λ (b : Band). b.outer) (seen_paper answer) result found
+fn give_seen(
+    answer: Result<Option<Band>, Refusal>,
+    found: &mut u32,
+    bore_lower: &mut f64,
+    outer_upper: &mut f64,
+) -> u32
+    ensures { HandsFoundTwo (λ (b : Band). b.bore) (λ (b : Band). b.outer) (paper_of answer) result found
         bore_lower outer_upper }
 {
     match answer {
-        Seen::Refused(r) => refusals::number(r),
-        Seen::Nothing => {
+        Err(r) => refusals::number(r),
+        Ok(None) => {
             *found = 0;
             0
         }
-        Seen::Radii(b, o) => {
+        Ok(Some(b)) => {
             *found = 1;
-            *bore_lower = b;
-            *outer_upper = o;
+            *bore_lower = b.bore;
+            *outer_upper = b.outer;
             0
         }
     }

@@ -1,21 +1,24 @@
 // Rings, moves, rebuilding.
 ghost use Rattle.std.specs.Prelude.{◌≡◌};
+ghost use Rattle.refusals.specs.Number.{placed_of};
 ghost use Rattle.rings.specs.Ring.{ring};
 ghost use Rattle.stock.specs.declared.TurnStock.{TurnStock};
 ghost use Rattle.stock.specs.Stock.{stock_from};
 ghost use Rattle.rings.specs.Remove.{remove_ring};
 ghost use Rattle.rings.specs.Tests.{ring_tests};
-ghost use Rattle.moves.specs.Move.{moved_paper, move_of, rebuilt_paper};
+ghost use Rattle.moves.specs.Move.{move_of};
 ghost use Rattle.turning.specs.Boundary.{spec_from, list_from, HandsTwoPlace, HandsRemoved, HandsRings, HandsMove, HandsStore};
 
+use crate::out::give_place;
 use crate::{cuts_c, stock_c};
-use moves::{Moved, Rebuilt};
+use refusals::Refused;
 use rings::{Removed, Ring};
+use stock::TurnStock;
 
 // The count of rings and the generation afterwards and the tests, or the number of the refusal, with its
 // place where it has one.
 fn give_removed(
-    answer: Removed,
+    answer: Result<Removed, Refused>,
     count: &mut usize,
     generation: &mut u64,
     tests: &mut usize,
@@ -24,12 +27,13 @@ fn give_removed(
     ensures { HandsRemoved answer result count generation tests position }
 {
     match answer {
-        Removed::Refused(r) => refusals::number(r),
-        Removed::RefusedAt(r, k) => {
-            *position = k;
-            refusals::number(r)
-        }
-        Removed::Stock(left, made) => {
+        Err(refused) => give_place(refused, position),
+        Ok(
+            Removed {
+                stock: left,
+                tests: made,
+            },
+        ) => {
             *count = left.rings;
             *generation = left.stamp.generation;
             *tests = made;
@@ -69,19 +73,20 @@ pub fn turning_remove_ring(
     give_removed(answer, rings_count, generation, tests, position)
 }
 
-// The count of rings and the generation after a move, or the number of the refusal, with its place
-// where it has one.
-fn give_moved(answer: Moved, count: &mut usize, generation: &mut u64, position: &mut usize) -> u32
-    ensures { HandsTwoPlace (λ (k : TurnStock). k.rings) (λ (k : TurnStock). k.stamp.generation) (moved_paper answer) result
+// The count of rings and the generation of a moved or a rebuilt stock, or the number of the refusal, with
+// its place where it has one.
+fn give_stock(
+    answer: Result<TurnStock, Refused>,
+    count: &mut usize,
+    generation: &mut u64,
+    position: &mut usize,
+) -> u32
+    ensures { HandsTwoPlace (λ (k : TurnStock). k.rings) (λ (k : TurnStock). k.stamp.generation) (placed_of answer) result
         count generation position }
 {
     match answer {
-        Moved::Refused(r) => refusals::number(r),
-        Moved::RefusedAt(r, k) => {
-            *position = k;
-            refusals::number(r)
-        }
-        Moved::Stock(after) => {
+        Err(refused) => give_place(refused, position),
+        Ok(after) => {
             *count = after.rings;
             *generation = after.stamp.generation;
             0
@@ -125,32 +130,7 @@ pub fn turning_apply_move(
     let answer = moves::apply_move(
         stock, cells, blocks, rings, list, indices, records, removed, tests,
     );
-    give_moved(answer, rings_count, generation, position)
-}
-
-// The count of rings and the generation of a rebuilt stock, or the number of the refusal, with its
-// place where it has one.
-fn give_rebuilt(
-    answer: Rebuilt,
-    count: &mut usize,
-    generation: &mut u64,
-    position: &mut usize,
-) -> u32
-    ensures { HandsTwoPlace (λ (k : TurnStock). k.rings) (λ (k : TurnStock). k.stamp.generation) (rebuilt_paper answer) result
-        count generation position }
-{
-    match answer {
-        Rebuilt::Refused(r) => refusals::number(r),
-        Rebuilt::RefusedAt(r, k) => {
-            *position = k;
-            refusals::number(r)
-        }
-        Rebuilt::Stock(kept) => {
-            *count = kept.rings;
-            *generation = kept.stamp.generation;
-            0
-        }
-    }
+    give_stock(answer, rings_count, generation, position)
 }
 
 pub fn turning_from_parts(
@@ -175,5 +155,5 @@ pub fn turning_from_parts(
 {
     let spec = stock_c::spec_of(z_min, z_max, outer, bore, cell, max_cells);
     let answer = moves::from_parts(spec, edition, cells, blocks, given, rings, tests);
-    give_rebuilt(answer, rings_count, generation, position)
+    give_stock(answer, rings_count, generation, position)
 }

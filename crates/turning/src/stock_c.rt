@@ -1,12 +1,14 @@
 // Spec, stamp, bins, cells, and the numbers that are kept beside them.
 ghost use Rattle.std.specs.Prelude.{◌≡◌};
-ghost use Rattle.stock.specs.Spec.{cells_of, counted_paper};
-ghost use Rattle.stock.specs.Bin.{bin_for, binned_paper};
-ghost use Rattle.stock.specs.Stock.{stock_from, made_paper};
+ghost use Rattle.refusals.specs.Number.{paper_of};
+ghost use Rattle.stock.specs.Spec.{cells_of};
+ghost use Rattle.stock.specs.Bin.{bin_for};
+ghost use Rattle.stock.specs.Stock.{stock_from};
 ghost use Rattle.turning.specs.Boundary.{code_of, spec_from, edition_in, generation_in, new_kept, Hands, HandsBin, HandsCells, HandsBlocks};
 
+use crate::out::give;
 use refusals::Refusal;
-use stock::{Binned, Counted, Made, Stamp, TurnStock, TurnStockSpec};
+use stock::{Stamp, TurnStock, TurnStockSpec, ZRange};
 
 // A spec's six numbers.
 pub fn spec_of(
@@ -50,36 +52,23 @@ pub fn edition_in(word: u64) -> u32
     (word % 4294967296) as u32
 }
 
-// A count handed out, or the number of the refusal.
-fn give_count(answer: Counted, n: &mut usize) -> u32
-    ensures { Hands (counted_paper answer) result n }
-{
-    match answer {
-        Counted::Refused(r) => refusals::number(r),
-        Counted::Cells(k) => {
-            *n = k;
-            0
-        }
-    }
-}
-
 // 0, or the number of the refusal.
-fn number_in(answer: Counted) -> u32
-    ensures { result ≡ code_of (counted_paper answer) }
+fn number_in(answer: Result<usize, Refusal>) -> u32
+    ensures { result ≡ code_of (paper_of answer) }
 {
     match answer {
-        Counted::Refused(r) => refusals::number(r),
-        Counted::Cells(_) => 0,
+        Err(r) => refusals::number(r),
+        Ok(_) => 0,
     }
 }
 
 // A bin's ends handed out, or the number of the refusal.
-fn give_bin(answer: Binned, za: &mut f64, zb: &mut f64) -> u32
-    ensures { HandsBin (binned_paper answer) result za zb }
+fn give_bin(answer: Result<ZRange, Refusal>, za: &mut f64, zb: &mut f64) -> u32
+    ensures { HandsBin (paper_of answer) result za zb }
 {
     match answer {
-        Binned::Refused(r) => refusals::number(r),
-        Binned::At(z) => {
+        Err(r) => refusals::number(r),
+        Ok(z) => {
             *za = z.za;
             *zb = z.zb;
             0
@@ -88,12 +77,12 @@ fn give_bin(answer: Binned, za: &mut f64, zb: &mut f64) -> u32
 }
 
 // The generation of a new stock, or the number of the refusal.
-fn give_new(answer: Made, generation: &mut u64) -> u32
-    ensures { Hands (generation_in (made_paper answer)) result generation }
+fn give_new(answer: Result<TurnStock, Refusal>, generation: &mut u64) -> u32
+    ensures { Hands (generation_in (paper_of answer)) result generation }
 {
     match answer {
-        Made::Refused(r) => refusals::number(r),
-        Made::Stock(k) => {
+        Err(why) => refusals::number(why),
+        Ok(k) => {
             *generation = k.stamp.generation;
             0
         }
@@ -112,7 +101,7 @@ pub fn turning_validate(
     ensures { Hands (cells_of (spec_from z_min z_max outer bore cell max_cells)) result n }
 {
     let spec = spec_of(z_min, z_max, outer, bore, cell, max_cells);
-    give_count(stock::validate(spec), n)
+    give(stock::validate(spec), n)
 }
 
 pub fn turning_bin(
@@ -133,22 +122,17 @@ pub fn turning_bin(
 }
 
 // How many cells so many lent numbers are to hold, with so many kept numbers beside them; 1, 2, 3, 20.
-fn room_for(spec: TurnStockSpec, cells_len: usize, blocks_len: usize) -> Counted
-    ensures { counted_paper result ≡ new_kept spec cells_len blocks_len }
+fn room_for(spec: TurnStockSpec, cells_len: usize, blocks_len: usize) -> Result<usize, Refusal>
+    ensures { paper_of result ≡ new_kept spec cells_len blocks_len }
 {
-    let counted = stock::validate(spec);
-    match counted {
-        Counted::Refused(r) => Counted::Refused(r),
-        Counted::Cells(n) => {
-            if cells_len != 4 * n {
-                return Counted::Refused(Refusal::CellsDoNotFit);
-            }
-            if blocks_len != 2 * blocks::blocks_in(n) {
-                return Counted::Refused(Refusal::BlocksDoNotMatch);
-            }
-            Counted::Cells(n)
-        }
+    let n = stock::validate(spec)?;
+    if cells_len != 4 * n {
+        return Err(Refusal::CellsDoNotFit);
     }
+    if blocks_len != 2 * blocks::blocks_in(n) {
+        return Err(Refusal::BlocksDoNotMatch);
+    }
+    Ok(n)
 }
 
 pub fn turning_new(
@@ -168,8 +152,8 @@ pub fn turning_new(
     let spec = spec_of(z_min, z_max, outer, bore, cell, max_cells);
     let counted = room_for(spec, cells.len(), blocks.len());
     match counted {
-        Counted::Refused(r) => refusals::number(r),
-        Counted::Cells(n) => {
+        Err(r) => refusals::number(r),
+        Ok(n) => {
             let made = stock::fill(spec, edition, cells);
             blocks::renew_all(stock::clean_spec(spec), n, cells, blocks);
             give_new(made, generation)

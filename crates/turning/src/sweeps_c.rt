@@ -4,21 +4,31 @@ ghost use Rattle.refusals.specs.Paper.{refuses, only, onward};
 ghost use Rattle.stock.specs.Cell.{stock_of};
 ghost use Rattle.stock.specs.Stock.{stamp_of};
 ghost use Rattle.changes.specs.Change.{Proposes};
-ghost use Rattle.turning.specs.Boundary.{spec_from, nose_by_side, polygon_by_side, no_changes, HandsChanges};
+ghost use Rattle.turning.specs.Boundary.{spec_from, side_from, nose_by_side, polygon_by_side, no_changes, HandsChanges};
 
 use crate::{cuts_c, stock_c};
-use changes::Previewed;
+use changes::ChangeList;
 use refusals::Refusal;
-use stock::{Counted, TurnSide, TurnStock, TurnStockSpec};
+use stock::{TurnSide, TurnStock, TurnStockSpec};
 
 // How a number that is no side is refused: 1, 2, 3, then 5.
 fn no_side(spec: TurnStockSpec, cells: &[f64]) -> Refusal
     ensures { onward (stock_of spec cells.now) (λ n. refuses (only 5)) ≡ no_changes result }
 {
-    let counted = stock::cells_fit(spec, cells);
-    match counted {
-        Counted::Refused(r) => r,
-        Counted::Cells(_) => Refusal::ArgumentOutside,
+    match stock::cells_fit(spec, cells) {
+        Err(r) => r,
+        Ok(_) => Refusal::ArgumentOutside,
+    }
+}
+
+// The side of a number: 0 is outside, 1 inside, any other none.
+fn side_of(side: u32) -> Option<TurnSide>
+    ensures { result ≡ side_from side }
+{
+    match side {
+        0 => Some(TurnSide::Outer),
+        1 => Some(TurnSide::Inner),
+        _ => None,
     }
 }
 
@@ -30,33 +40,14 @@ fn nose_by(
     segments: &[f64],
     indices: &mut [usize],
     records: &mut [f64],
-) -> Previewed
+) -> Result<ChangeList, Refusal>
     ensures { Proposes stock.stamp
         (nose_by_side stock.spec cells.now side rn segments.now) result indices records }
 {
-    if side == 0 {
-        return cuts::preview(
-            stock,
-            cells,
-            TurnSide::Outer,
-            rn,
-            segments,
-            indices,
-            records,
-        );
+    match side_of(side) {
+        Some(s) => cuts::preview(stock, cells, s, rn, segments, indices, records),
+        None => Err(no_side(stock.spec, cells)),
     }
-    if side == 1 {
-        return cuts::preview(
-            stock,
-            cells,
-            TurnSide::Inner,
-            rn,
-            segments,
-            indices,
-            records,
-        );
-    }
-    Previewed::Refused(no_side(stock.spec, cells))
 }
 
 fn polygon_by(
@@ -67,33 +58,14 @@ fn polygon_by(
     points: &[f64],
     indices: &mut [usize],
     records: &mut [f64],
-) -> Previewed
+) -> Result<ChangeList, Refusal>
     ensures { Proposes stock.stamp
         (polygon_by_side stock.spec cells.now side excess points.now) result indices records }
 {
-    if side == 0 {
-        return cuts::preview_polygon(
-            stock,
-            cells,
-            TurnSide::Outer,
-            excess,
-            points,
-            indices,
-            records,
-        );
+    match side_of(side) {
+        Some(s) => cuts::preview_polygon(stock, cells, s, excess, points, indices, records),
+        None => Err(no_side(stock.spec, cells)),
     }
-    if side == 1 {
-        return cuts::preview_polygon(
-            stock,
-            cells,
-            TurnSide::Inner,
-            excess,
-            points,
-            indices,
-            records,
-        );
-    }
-    Previewed::Refused(no_side(stock.spec, cells))
 }
 
 pub fn turning_preview(

@@ -1,7 +1,8 @@
 // The envelope of a profile.
 ghost use Rattle.std.specs.Prelude.{◌-◌};
 ghost use Rattle.envelope.specs.declared.Span.{Span};
-ghost use Rattle.envelope.specs.Envelope.{Radii, ordered_of, within_of, radius_at_of, radius_range_of};
+ghost use Rattle.envelope.specs.declared.Radii.{Radii};
+ghost use Rattle.envelope.specs.Envelope.{ordered_of, within_of, radius_at_of, radius_range_of};
 ghost use Rattle.turning.specs.Boundary.{Hands, HandsTwo, HandsFound, HandsFoundTwo};
 
 #[unsafe(no_mangle)]

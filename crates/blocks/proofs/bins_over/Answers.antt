@@ -1,5 +1,4 @@
 -- `blocks::bins_over` meets its contract. Assumes nothing.
-use borrow.Author.Rules.{rules}
 use Rattle.blocks.proofs.Ranges.{span-over}
 use Rattle.blocks.proofs.bins_over.Goals as goal
 

@@ -1,7 +1,6 @@
 -- `blocks::block_at` meets its contract. Assumes nothing.
 use mathlib.Core.Path.{sym}
 use native.Mathlib.Omega.{arith}
-use borrow.Author.Rules.{rules}
 use borrow.Author.Tests.{le-ltb}
 use lib.Ieee.{div, of_bits}
 use Rattle.floats.specs.Pick.{pick-false}

@@ -1,7 +1,5 @@
 -- `blocks::block_matches` meets its contract. Assumes nothing.
 use mathlib.Core.Path.{refl, sym, ap, ◌∙◌}
-use native.Mathlib.Omega.{arith}
-use borrow.Author.Rules.{rules}
 use Rattle.queries.specs.declared.Band.{Band}
 use Rattle.blocks.specs.Block.{same_block}
 use Rattle.blocks.proofs.Lots.{block-is}

@@ -1,5 +1,4 @@
 -- `blocks::block_of` meets its contract. Assumes nothing.
-use borrow.Author.Rules.{rules}
 use Rattle.blocks.proofs.Steps.{block-is}
 use Rattle.blocks.proofs.block_of.Goals as goal
 

@@ -1,13 +1,8 @@
 -- `blocks::join_kept` meets its contract. The loop's invariant: what is found is said of the blocks passed. Assumes nothing.
-use mathlib.Core.Path.{◌≡◌, ap, ◌∙◌}
-use Prim.Native.Nat.{ℕ, ◌≤◌, ◌-◌, max}
-use native.Mathlib.Omega.{arith}
+use mathlib.Core.Path.{◌≡◌}
+use Prim.Native.Nat.{◌≤◌, ◌-◌, max}
 use Rattle.blocks.specs.Way.{join_from}
-use Rattle.blocks.proofs.Steps.{join_more, join-none}
 use Rattle.blocks.proofs.join_kept.Given as goal
 
 abbrev pub invariant-loop-j : goal.invariant-loop-j
-invariant-loop-j l = (l.a ≤ l.j) × (l.j ≤ max l.a l.e) × (l.found ≡ join_from l.initial.found l.blocks l.a (l.j - l.a))
-
-abbrev pub decreases-loop-j : goal.decreases-loop-j
-decreases-loop-j l = l.e - l.j
+invariant-loop-j l = (l.j ≤ max l.a l.e) × (l.found ≡ join_from l.initial.found l.blocks l.a (l.j - l.a))

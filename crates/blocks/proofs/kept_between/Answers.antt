@@ -1,6 +1,5 @@
 -- `blocks::kept_between` meets its contract. Assumes nothing.
 use native.Mathlib.Omega.{arith}
-use borrow.Author.Rules.{rules}
 use borrow.Author.Tests.{not-true, not-false}
 use Rattle.blocks.proofs.Ranges.{over-room, kept-none, kept-some}
 use Rattle.blocks.proofs.kept_between.Goals as goal

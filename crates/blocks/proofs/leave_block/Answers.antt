@@ -1,5 +1,4 @@
 -- `blocks::leave_block` meets its contract. Assumes nothing.
-use borrow.Author.Rules.{rules}
 use Rattle.blocks.proofs.Steps.{stays_open, leaves-open}
 use Rattle.blocks.proofs.leave_block.Goals as goal
 

@@ -1,5 +1,4 @@
 -- `blocks::matches` meets its contract. Assumes nothing.
-use borrow.Author.Rules.{rules}
 use Rattle.blocks.proofs.Steps.{match-short, match-all}
 use Rattle.blocks.proofs.matches.Goals as goal
 

@@ -1,5 +1,4 @@
 -- `blocks::most_kept` meets its contract. Assumes nothing.
-use borrow.Author.Rules.{rules}
 use Rattle.blocks.proofs.Steps.{kept_whole, kept-cells}
 use Rattle.blocks.proofs.most_kept.Goals as goal
 

@@ -1,13 +1,12 @@
 -- `blocks::range` meets its contract. Assumes nothing.
 use mathlib.Core.Path.{sym, ap, ◌∙◌}
-use borrow.Author.Rules.{rules}
-use Rattle.refusals.specs.Number.{reason_of}
-use Rattle.stock.specs.Spec.{counted_paper}
+use Rattle.refusals.specs.Number.{paper_of}
+use Rattle.refusals.proofs.Exits.{same_exit}
 use Rattle.blocks.proofs.Ranges.{range-refused}
 use Rattle.blocks.proofs.range.Goals as goal
 
-pub returns-in-Refused : goal.returns-in-Refused
-returns-in-Refused c = range-refused _ _ _ _ _ (reason_of c.in-Refused.r) (sym c.kept_cells-counted.ensures ∙ ap counted_paper c.in-Refused.is)
+pub returns-in_err-n : goal.returns-in_err-n
+returns-in_err-n c = same_exit _ _ c.from_residual.ensures.1 ∙ range-refused _ _ _ _ _ _ (sym c.kept_cells.ensures ∙ ap paper_of c.in_err-n.was)
 
-pub returns-in-Cells : goal.returns-in-Cells
-returns-in-Cells c = c.range_kept.ensures.ruled (sym c.kept_cells-counted.ensures ∙ ap counted_paper c.in-Cells.is)
+pub returns : goal.returns
+returns c = c.range_kept.ensures.ruled (sym c.kept_cells.ensures ∙ ap paper_of c.in_ok-n.was)

@@ -1,5 +1,4 @@
 -- `blocks::renew_all` meets its contract. Assumes nothing.
-use borrow.Author.Rules.{rules}
 use Rattle.blocks.proofs.Steps.{all-renewed, none-renewed}
 use Rattle.blocks.proofs.renew_all.Goals as goal
 

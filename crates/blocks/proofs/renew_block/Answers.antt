@@ -1,6 +1,5 @@
 -- `blocks::renew_block` meets its contract. Assumes nothing.
 use native.Mathlib.Omega.{arith}
-use borrow.Author.Rules.{rules}
 use Rattle.blocks.proofs.Steps.{no_block, new-block}
 use Rattle.blocks.proofs.renew_block.Goals as goal
 

@@ -1,5 +1,4 @@
 -- `blocks::renew_changed` meets its contract. Assumes nothing.
-use borrow.Author.Rules.{rules}
 use Rattle.blocks.proofs.Steps.{changed-done}
 use Rattle.blocks.proofs.renew_changed.Goals as goal
 

@@ -2,7 +2,6 @@
 use mathlib.Core.Path.{◌≡◌, ap, ◌∙◌}
 use Prim.Native.Nat.{ℕ, ◌+◌, ◌-◌}
 use native.Mathlib.Omega.{arith}
-use borrow.Author.Rules.{rules}
 use Rattle.blocks.specs.Block.{block_to, same_block}
 use Rattle.blocks.proofs.Lots.{whole-found}
 use Rattle.blocks.proofs.whole_matches.Goals as goal

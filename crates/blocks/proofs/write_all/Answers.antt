@@ -1,8 +1,7 @@
 -- `blocks::write_all` meets its contract. The loop's invariant: the blocks passed are those of the cells, the rest as they were. Assumes nothing.
 use mathlib.Core.Path.{◌≡◌, sym, ap, ◌∙◌}
-use Prim.Native.Nat.{ℕ, ◌≤◌, ◌-◌, ◌*◌}
+use Prim.Native.Nat.{ℕ}
 use native.Mathlib.Omega.{arith}
-use borrow.Author.Rules.{rules}
 use lib.ListN.{length}
 use Rattle.refusals.specs.Lent.{over}
 use Rattle.refusals.proofs.Written.{over_none, over-all, length_over}
@@ -12,22 +11,21 @@ use Rattle.blocks.proofs.write_all.Goals as goal
 
 pub loop-j-init : goal.loop-j-init
 unfolding blocks_to
-loop-j-init c = (omega arith, omega arith, omega arith, sym (over_none _))
+loop-j-init c = (omega arith, omega arith, sym (over_none _))
 
 pub loop-j-preserved : goal.loop-j-preserved
 loop-j-preserved c = (
-  omega arith,
+  c.loop-j.invariant.0,
   c.loop-j.invariant.1,
-  c.loop-j.invariant.2,
-  c.put_block.ensures ∙ blocks_more c.args.s c.args.n c.args.cells.now c.loop-j.blocks c.args.blocks.now c.loop-j.j _ c.loop-j.invariant.3 c.block_of.ensures (omega arith),
+  c.put_block.ensures ∙ blocks_more c.args.s c.args.n c.args.cells.now c.loop-j.blocks c.args.blocks.now c.loop-j.j _ c.loop-j.invariant.2 c.block_of.ensures (omega arith),
 )
 
 pub shape_of-blocks : goal.shape_of-blocks
-shape_of-blocks c = ap length c.loop-j.invariant.3 ∙ length_over (blocks_to c.args.s c.args.n c.args.cells.now c.loop-j.j) c.args.blocks.now (omega (arith, length-blocks c.args.s c.args.n c.args.cells.now c.loop-j.j))
+shape_of-blocks c = ap length c.loop-j.invariant.2 ∙ length_over (blocks_to c.args.s c.args.n c.args.cells.now c.loop-j.j) c.args.blocks.now (omega (arith, length-blocks c.args.s c.args.n c.args.cells.now c.loop-j.j))
 
 pub returns : goal.returns
 returns c = let e : c.loop-j.j ≡ blocks_in c.args.n = omega arith in
     let l = length-blocks c.args.s c.args.n c.args.cells.now (blocks_in c.args.n) in
-    c.loop-j.invariant.3
+    c.loop-j.invariant.2
     ∙ ap (λ (k : ℕ). over (blocks_to c.args.s c.args.n c.args.cells.now k) c.args.blocks.now) e
     ∙ over-all (blocks_to c.args.s c.args.n c.args.cells.now (blocks_in c.args.n)) c.args.blocks.now (omega arith)

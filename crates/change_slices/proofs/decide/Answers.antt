@@ -9,5 +9,5 @@ use Rattle.change_slices.proofs.decide.Goals as goal
 pub returns : goal.returns
 returns c = let a = c.args in
     let few : length a.changes.now ≤ last_place = omega arith in
-    let all : steps_of a.cells.now (on_cells a.s a.n) a.changes.now ≡ deciding_paper c.loop-i.st = sym c.loop-i.invariant ∙ at_drop_all (steps_of a.cells.now (deciding_paper c.loop-i.st)) a.changes.now c.loop-i.i c.loop-i-test.false in
+    let all : steps_of a.cells.now (on_cells a.s a.n) a.changes.now ≡ deciding_paper c.loop-change.st = sym c.loop-change.invariant ∙ at_drop_all (steps_of a.cells.now (deciding_paper c.loop-change.st)) a.changes.now c.loop-change.change-index (omega arith) in
     c.outcome.ensures ∙ (ap outcome_of (sym all) ∙ outcome-is a.cells.now a.s a.n a.changes.now few)

@@ -1,13 +1,14 @@
 -- `change_slices::propose` meets its contract. Assumes nothing.
-use Rattle.std.proofs.Common.{◌≡◌, ℕ, ◌*◌, List, length, replicate, subst}
+use Rattle.std.proofs.Common.{◌≡◌, ℕ, ◌*◌, List, length, replicate, subst, Result}
 use lib.ListN.{length-replicate}
 use lib.Ieee.{Float}
+use Rattle.refusals.specs.declared.Refusal.{Refusal}
 use Rattle.refusals.specs.Limits.{cell_limit}
 use Rattle.floats.specs.Numbers.{zero64}
 use Rattle.stock.specs.declared.TurnStockSpec.{TurnStockSpec}
 use Rattle.stock.specs.declared.TurnChange.{TurnChange}
 use Rattle.stock.specs.declared.Stamp.{Stamp}
-use Rattle.changes.specs.declared.Previewed.{Previewed}
+use Rattle.changes.specs.declared.ChangeList.{ChangeList}
 use Rattle.changes.specs.Change.{room_of}
 use Rattle.cuts.specs.declared.Tool.{Tool}
 use Rattle.cuts.specs.Tool.{preview_tool}
@@ -17,7 +18,7 @@ use Rattle.change_slices.proofs.Rooms.{lists-enough-for, records-hold}
 use Rattle.change_slices.proofs.propose.Goals as goal
 
 -- what is listed in flat lists with room for every cell, and read from there
-read_listed : (st : Stamp) (spec : TurnStockSpec) (cs : List Float) (t : Tool) (ys : List Float) (is₀ is : List ℕ) (xs₀ xs : List Float) (r : Previewed) (k j : ℕ) (l l' : List TurnChange)
+read_listed : (st : Stamp) (spec : TurnStockSpec) (cs : List Float) (t : Tool) (ys : List Float) (is₀ is : List ℕ) (xs₀ xs : List Float) (r : Result ChangeList Refusal) (k j : ℕ) (l l' : List TurnChange)
     → length is₀ ≡ cell_limit → length xs₀ ≡ 8 * cell_limit
     → ListsRecords st (length l) (narrowed (length l) (preview_tool spec cs t ys (room_of (length is₀) (length xs₀)))) r is xs
     → k ≡ count_in r → Reads is xs k j l l' → Written st (preview_tool spec cs t ys (length l)) r l l'

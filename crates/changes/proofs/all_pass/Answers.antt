@@ -1,13 +1,11 @@
 -- `changes::all_pass` meets its contract. The loop's invariant: where the changes passed by all pass, so says the rule. Assumes nothing.
 use mathlib.Core.Path.{◌≡◌, refl, sym, ap, ◌∙◌}
-use mathlib.Core.Bool.{true, ◌&&◌}
-use Prim.Native.Nat.{ℕ, ◌≤◌, ◌-◌}
+use mathlib.Core.Bool.{◌&&◌}
+use Prim.Native.Nat.{ℕ}
 use native.Mathlib.Omega.{arith}
 use borrow.Author.Rules.{rules}
-use lib.ListN.{length}
-use Rattle.refusals.specs.Paper.{answers}
 use Rattle.stock.proofs.Count.{and_both}
-use Rattle.changes.specs.Change.{changes_from, room_of}
+use Rattle.changes.specs.Change.{changes_from}
 use Rattle.changes.specs.Commit.{each_from}
 use Rattle.changes.proofs.Decided.{each-passes}
 use Rattle.changes.proofs.all_pass.Goals as goal

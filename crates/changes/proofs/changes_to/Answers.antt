@@ -1,5 +1,4 @@
 -- `changes::changes_to` meets its contract. Assumes nothing.
-use borrow.Author.Rules.{rules}
 use Rattle.changes.proofs.Proposals.{as-list}
 use Rattle.changes.proofs.changes_to.Goals as goal
 

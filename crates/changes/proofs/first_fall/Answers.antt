@@ -1,14 +1,12 @@
 -- `changes::first_fall` meets its contract. Assumes nothing.
+use Rattle.std.specs.Prelude.{None, Some}
 use mathlib.Core.Path.{◌≡◌, sym, ap, ap₂, ◌∙◌}
-use mathlib.Core.Option.{none, some}
-use Prim.Native.Nat.{ℕ, ◌+◌, ◌≤◌, ◌<◌, ◌-◌}
+use Prim.Native.Nat.{ℕ, ◌+◌}
 use native.Mathlib.Omega.{arith}
-use borrow.Author.Rules.{rules}
 use borrow.Author.Tests.{lt-ltb, le-ltb}
-use lib.ListN.{length}
 use Rattle.refusals.specs.Paper.{first_of, place_or}
 use Rattle.floats.specs.Pick.{pick_true, pick-false}
-use Rattle.changes.specs.Change.{changes_from, room_of}
+use Rattle.changes.specs.Change.{changes_from}
 use Rattle.changes.specs.Commit.{first_fall}
 use Rattle.changes.proofs.Falls.{fall-one, fall-next, fall-stops}
 use Rattle.changes.proofs.first_fall.Goals as goal
@@ -28,7 +26,7 @@ returns-then-indices-i c = let a = c.args in
     (ap (place_or a.k)
     (fall-stops a.indices.now a.records.now (i + 1) a.k i (omega arith)
     (fall-next a.indices.now a.records.now i (omega arith)
-    ∙ ap₂ first_of c.loop-i.invariant.3 (pick-false _ none (some i) (le-ltb _ _ c.if-indices-i.true)))))
+    ∙ ap₂ first_of c.loop-i.invariant.3 (pick-false _ None (Some i) (le-ltb _ _ c.if-indices-i.true)))))
 
 pub loop-i-preserved : goal.loop-i-preserved
 loop-i-preserved c = let a = c.args in
@@ -37,7 +35,7 @@ loop-i-preserved c = let a = c.args in
       omega arith,
       omega arith,
       fall-next a.indices.now a.records.now i (omega arith)
-          ∙ ap₂ first_of c.loop-i.invariant.3 (pick_true _ none (some i) (lt-ltb _ _ c.if-indices-i.false)),
+          ∙ ap₂ first_of c.loop-i.invariant.3 (pick_true _ None (Some i) (lt-ltb _ _ c.if-indices-i.false)),
     )
 
 pub returns : goal.returns

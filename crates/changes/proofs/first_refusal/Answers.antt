@@ -3,12 +3,14 @@ use mathlib.Core.Path.{◌≡◌, sym, ap, ◌∙◌}
 use mathlib.Core.Bool.{true}
 use mathlib.Core.List.{List}
 use Prim.Native.Nat.{ℕ}
-use borrow.Author.Rules.{rules}
+use Rattle.refusals.specs.declared.Refused.{Refused}
+use Rattle.refusals.specs.Number.{reason_in}
+use Rattle.refusals.specs.Paper.{refuses}
 use borrow.Author.Tests.{not-true, not-false}
 use lib.Ieee.{Float}
 use Rattle.stock.specs.declared.TurnStockSpec.{TurnStockSpec}
 use Rattle.changes.specs.Change.{changes_from}
-use Rattle.changes.specs.Commit.{each_from, pass_all, passing_paper}
+use Rattle.changes.specs.Commit.{each_from, pass_all}
 use Rattle.changes.specs.Decide.{rises}
 use Rattle.changes.proofs.Falls.{falls_at}
 use Rattle.changes.proofs.Decided.{rising-is}
@@ -19,14 +21,13 @@ risen : (s : TurnStockSpec) (n : ℕ) (cs : List Float) (is : List ℕ) (xs : Li
 risen s n cs is xs held k r e = rising-is s n cs (changes_from is xs held) r ∙ ap (λ (j : ℕ). pass_all s n cs (changes_from is xs j)) e
 
 pub returns-then-not-indices_rise : goal.returns-then-not-indices_rise
-unfolding passing_paper
 returns-then-not-indices_rise c = let a = c.args in
     let held = c.held_of-held.result in
-    falls_at a.s a.n a.cells.now (changes_from a.indices.now a.records.now held) held c.first_fall-at.result (sym c.indices_rise.ensures ∙ not-true _ c.if-not-indices_rise.true-raw) c.first_fall-at.ensures
+    ap (λ (x : Refused). refuses (reason_in x)) c.at.ensures
+    ∙ falls_at a.s a.n a.cells.now (changes_from a.indices.now a.records.now held) held c.first_fall-at.result (sym c.indices_rise.ensures ∙ not-true _ c.if-not-indices_rise.true-raw) c.first_fall-at.ensures
     ∙ ap (λ (k : ℕ). pass_all a.s a.n a.cells.now (changes_from a.indices.now a.records.now k)) c.held_of-held.ensures
 
 pub returns-then-all_pass : goal.returns-then-all_pass
-unfolding passing_paper
 returns-then-all_pass c = let a = c.args in
     sym (c.all_pass.ensures c.if-all_pass.true) ∙ risen a.s a.n a.cells.now a.indices.now a.records.now c.held_of-held.result _ (sym c.indices_rise.ensures ∙ not-false _ c.if-not-indices_rise.false-raw) c.held_of-held.ensures
 

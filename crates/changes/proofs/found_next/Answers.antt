@@ -1,17 +1,10 @@
 -- `changes::found_next` meets its contract. Assumes nothing.
-use borrow.Author.Rules.{rules}
-use Rattle.refusals.specs.Paper.{onward-answers, onward-refuses}
-use Rattle.changes.specs.Commit.{passing_paper}
+use Rattle.refusals.proofs.Exits.{placed_exit}
+use Rattle.refusals.specs.Paper.{papers}
 use Rattle.changes.proofs.found_next.Goals as goal
 
-pub returns-in-Refused : goal.returns-in-Refused
-unfolding passing_paper
-returns-in-Refused c = search (onward-refuses, c.in-Refused.is)
+pub returns-in_err-before : goal.returns-in_err-before
+returns-in_err-before c = search (papers, placed_exit _ _ c.from_residual.ensures.1, c.in_err-before.was)
 
-pub returns-in-RefusedAt : goal.returns-in-RefusedAt
-unfolding passing_paper
-returns-in-RefusedAt c = search (onward-refuses, c.in-RefusedAt.is)
-
-pub returns-in-Pass : goal.returns-in-Pass
-unfolding passing_paper
-returns-in-Pass c = search (onward-answers, c.in-Pass.is, c.placed_at.ensures, c.change_passes.ensures)
+pub returns : goal.returns
+returns c = search (papers, c.in_ok-before.was, c.passes_at.ensures)

@@ -1,12 +1,11 @@
 -- `changes::indices_rise` meets its contract. The loop's invariant: what is found so far is said of the changes passed. Assumes nothing.
 use mathlib.Core.Path.{◌≡◌, sym, ap, ◌∙◌}
 use mathlib.Core.Bool.{Bool, ◌&&◌}
-use Prim.Native.Nat.{ℕ, ◌≤◌, ◌<◌, ◌-◌}
+use Prim.Native.Nat.{ℕ, ◌-◌}
 use native.Mathlib.Omega.{arith}
-use borrow.Author.Rules.{rules}
 use lib.Dec.{ltb}
-use lib.ListN.{length, get_or}
-use Rattle.changes.specs.Change.{changes_from, room_of}
+use lib.ListN.{get_or}
+use Rattle.changes.specs.Change.{changes_from}
 use Rattle.changes.specs.Decide.{rises}
 use Rattle.changes.proofs.Passed.{rises-one, rises_next}
 use Rattle.changes.proofs.indices_rise.Goals as goal

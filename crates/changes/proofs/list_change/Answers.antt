@@ -1,8 +1,6 @@
 -- `changes::list_change` meets its contract. Assumes nothing.
 use mathlib.Core.Path.{sym, ◌∙◌, subst}
 use Prim.Native.Nat.{ℕ, ◌<◌, ◌≤◌}
-use native.Mathlib.Omega.{arith}
-use borrow.Author.Rules.{rules}
 use Rattle.changes.proofs.Placed.{list_same, list-none, list_put}
 use Rattle.changes.proofs.list_change.Goals as goal
 

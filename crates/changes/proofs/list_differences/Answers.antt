@@ -1,9 +1,5 @@
 -- `changes::list_differences` meets its contract. Assumes nothing.
-use mathlib.Core.Path.{subst}
-use Prim.Native.Nat.{ℕ, ◌≤◌, ◌<◌}
-use native.Mathlib.Nat.{le_trans}
 use native.Mathlib.Omega.{arith}
-use borrow.Author.Rules.{rules}
 use Rattle.changes.proofs.Rising.{at_most}
 use Rattle.changes.proofs.Proposals.{settled-listed, settled-full}
 use Rattle.changes.specs.Difference.{other_cell}

@@ -1,8 +1,6 @@
 -- `changes::step` meets its contract. Assumes nothing.
 use mathlib.Core.Bool.{true, not, ◌&&◌, ◌||◌}
-use borrow.Author.Rules.{rules}
 use lib.Dec.{ltb}
-use Rattle.changes.specs.Commit.{passing_paper}
 use Rattle.changes.proofs.step.Goals as goal
 
 pub returns : goal.returns

@@ -1,10 +1,9 @@
 -- `changes::write_differences` meets its contract. The loop's invariant: the differing cells passed are over the fronts of the lists. Assumes nothing.
 use mathlib.Core.Path.{◌≡◌, subst}
-use Prim.Native.Nat.{ℕ, ◌≤◌, ◌<◌, ◌-◌}
+use Prim.Native.Nat.{ℕ, ◌<◌}
 use native.Mathlib.Omega.{arith}
 use borrow.Author.Rules.{rules}
-use lib.ListN.{length}
-use Rattle.changes.specs.Change.{changes_to, room_of, Listing}
+use Rattle.changes.specs.Change.{Listing}
 use Rattle.changes.proofs.Placed.{listing_none, listing-next, listing-lengths}
 use Rattle.changes.specs.Difference.{other_cell}
 use Rattle.changes.proofs.write_differences.Goals as goal

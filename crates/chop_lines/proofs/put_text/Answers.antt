@@ -10,12 +10,12 @@ returns-then-scan-ne0 g c = let a = c.args in
 
 pub put_chords-requires : goal.put_chords-requires
 put_chords-requires g c = let a = c.args in
-    chords-fit (state a.scan a.points.now) _ _ c.if-scan-ne0.false (omega arith) c.segments-chopped.ensures _ c.in-Chords.is (omega arith)
+    chords-fit (state a.scan a.points.now) _ _ c.if-scan-ne0.false (omega arith) c.segments.ensures _ c.in-Ok.is (omega arith)
 
-pub returns-in-Refused : goal.returns-in-Refused
-returns-in-Refused g c = let a = c.args in
-    all-put (text-refused (state a.scan a.points.now) _ _ c.if-scan-ne0.false (omega arith) c.segments-chopped.ensures _ _ c.in-Refused.is c.number-number.ensures) c.put_refused-in-Refused.ensures
+pub returns-in-Err : goal.returns-in-Err
+returns-in-Err g c = let a = c.args in
+    all-put (text-refused (state a.scan a.points.now) _ _ c.if-scan-ne0.false (omega arith) c.segments.ensures _ _ c.in-Err.is c.number-number.ensures) c.put_refused-in-Err.ensures
 
-pub returns-in-Chords : goal.returns-in-Chords
-returns-in-Chords g c = let a = c.args in
-    all-put (text-chords (state a.scan a.points.now) _ _ c.if-scan-ne0.false (omega arith) c.segments-chopped.ensures _ c.in-Chords.is) c.put_chords.ensures
+pub returns-in-Ok : goal.returns-in-Ok
+returns-in-Ok g c = let a = c.args in
+    all-put (text-chords (state a.scan a.points.now) _ _ c.if-scan-ne0.false (omega arith) c.segments.ensures _ c.in-Ok.is) c.put_chords.ensures

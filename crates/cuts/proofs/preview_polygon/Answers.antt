@@ -1,5 +1,4 @@
 -- `cuts::preview_polygon` meets its contract: it is that of the tool's preview. Assumes nothing.
-use borrow.Author.Rules.{rules}
 use Rattle.cuts.specs.Tool.{preview_tool}
 use Rattle.cuts.proofs.preview_polygon.Goals as goal
 

@@ -1,5 +1,4 @@
 -- `cuts::preview_tool` meets its contract. Assumes nothing.
-use borrow.Author.Rules.{rules}
 use Rattle.changes.proofs.Proposals.{as-list}
 use Rattle.cuts.proofs.preview_tool.Goals as goal
 

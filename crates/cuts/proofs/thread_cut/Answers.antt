@@ -1,5 +1,4 @@
 -- `cuts::thread_cut` meets its contract: it is that of the cut's preview. Assumes nothing.
-use borrow.Author.Rules.{rules}
 use Rattle.cuts.proofs.thread_cut.Goals as goal
 
 pub returns : goal.returns

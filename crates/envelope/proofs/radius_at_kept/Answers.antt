@@ -2,7 +2,7 @@
 use mathlib.Core.Path.{sym, ap, ◌∙◌}
 use borrow.Author.Tests.{not-true, not-false}
 use mir.Facts.{to_z-of_z}
-use Rattle.envelope.specs.Halving.{radius_of, halved_at, kept_at}
+use Rattle.envelope.specs.Halving.{halved_at, kept_at}
 use Rattle.envelope.proofs.Steps.{reads}
 use Rattle.envelope.proofs.Kept.{rule-outside, rule-refused, rule-answered}
 use Rattle.floats.proofs.Bools.{so}
@@ -19,12 +19,7 @@ unfolding kept_at
 returns-then-not-is_usable c = at-kept c.args.points.now c.shared_slice_known-1.given c.args.order c.args.u (so c.well_formed.1.1.0.1) _
     (rule-refused _ _ _ (sym c.is_usable.ensures ∙ not-true _ c.if-not-is_usable.true-raw))
 
-pub returns-in-At : goal.returns-in-At
-unfolding kept_at radius_of
-returns-in-At c = at-kept c.args.points.now c.shared_slice_known-1.given c.args.order c.args.u (so c.well_formed.1.1.0.1) _
-    (rule-answered _ _ _ (λ e. c.if-order-eq-OUTSIDE.false (rw e)) (sym c.is_usable.ensures ∙ not-false _ c.if-not-is_usable.false-raw) (ap radius_of (sym c.in-At.is) ∙ c.highest_at-found.ensures ∙ ap (λ z. halved_at c.args.points.now z c.clean.result) (to_z-of_z c.ranges.order) ∙ ap (halved_at c.args.points.now c.args.order) c.clean.ensures))
-
-pub returns-in-Nowhere : goal.returns-in-Nowhere
-unfolding kept_at radius_of
-returns-in-Nowhere c = at-kept c.args.points.now c.shared_slice_known-1.given c.args.order c.args.u (so c.well_formed.1.1.0.1) _
-    (rule-answered _ _ _ (λ e. c.if-order-eq-OUTSIDE.false (rw e)) (sym c.is_usable.ensures ∙ not-false _ c.if-not-is_usable.false-raw) (ap radius_of (sym c.in-Nowhere.is) ∙ c.highest_at-found.ensures ∙ ap (λ z. halved_at c.args.points.now z c.clean.result) (to_z-of_z c.ranges.order) ∙ ap (halved_at c.args.points.now c.args.order) c.clean.ensures))
+pub returns : goal.returns
+unfolding kept_at
+returns c = at-kept c.args.points.now c.shared_slice_known-1.given c.args.order c.args.u (so c.well_formed.1.1.0.1) _
+    (rule-answered _ _ _ (λ e. c.if-order-eq-OUTSIDE.false (rw e)) (sym c.is_usable.ensures ∙ not-false _ c.if-not-is_usable.false-raw) (c.highest_at.ensures ∙ ap (λ z. halved_at c.args.points.now z c.clean.result) (to_z-of_z c.ranges.order) ∙ ap (halved_at c.args.points.now c.args.order) c.clean.ensures))

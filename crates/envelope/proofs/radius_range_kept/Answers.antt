@@ -3,7 +3,7 @@ use mathlib.Core.Path.{sym, ap, ap₂, ◌∙◌}
 use mathlib.Core.Bool.{◌&&◌}
 use borrow.Author.Tests.{not-true, not-false}
 use mir.Facts.{to_z-of_z}
-use Rattle.envelope.specs.Halving.{extent_radii, halved_radii, kept_range}
+use Rattle.envelope.specs.Halving.{halved_radii, kept_range}
 use Rattle.envelope.proofs.Steps.{reads}
 use Rattle.envelope.proofs.Kept.{rule-outside, rule-refused, rule-answered}
 use Rattle.floats.proofs.Bools.{so}
@@ -20,12 +20,7 @@ unfolding kept_range
 returns-then-not-is_usable c = range-kept c.args.points.now c.shared_slice_known-1.given c.args.order c.args.lo c.args.hi (so c.well_formed.1.1.0.1) (so c.well_formed.1.1.1.0.1) _
     (rule-refused _ _ _ (ap₂ (λ a b. a && b) (sym c.is_usable.ensures) (sym c.is_usable-2.ensures) ∙ not-true _ c.if-not-is_usable.true-raw))
 
-pub returns-in-From : goal.returns-in-From
-unfolding kept_range extent_radii
-returns-in-From c = range-kept c.args.points.now c.shared_slice_known-1.given c.args.order c.args.lo c.args.hi (so c.well_formed.1.1.0.1) (so c.well_formed.1.1.1.0.1) _
-    (rule-answered _ _ _ (λ e. c.if-order-eq-OUTSIDE.false (rw e)) (ap₂ (λ a b. a && b) (sym c.is_usable.ensures) (sym c.is_usable-2.ensures) ∙ not-false _ c.if-not-is_usable.false-raw) (ap extent_radii (sym c.in-From.is) ∙ c.extent_of-found.ensures ∙ ap (λ z. halved_radii c.args.points.now z c.clean.result c.clean-2.result) (to_z-of_z c.ranges.order) ∙ ap₂ (halved_radii c.args.points.now c.args.order) c.clean.ensures c.clean-2.ensures))
-
-pub returns-in-Nowhere : goal.returns-in-Nowhere
-unfolding kept_range extent_radii
-returns-in-Nowhere c = range-kept c.args.points.now c.shared_slice_known-1.given c.args.order c.args.lo c.args.hi (so c.well_formed.1.1.0.1) (so c.well_formed.1.1.1.0.1) _
-    (rule-answered _ _ _ (λ e. c.if-order-eq-OUTSIDE.false (rw e)) (ap₂ (λ a b. a && b) (sym c.is_usable.ensures) (sym c.is_usable-2.ensures) ∙ not-false _ c.if-not-is_usable.false-raw) (ap extent_radii (sym c.in-Nowhere.is) ∙ c.extent_of-found.ensures ∙ ap (λ z. halved_radii c.args.points.now z c.clean.result c.clean-2.result) (to_z-of_z c.ranges.order) ∙ ap₂ (halved_radii c.args.points.now c.args.order) c.clean.ensures c.clean-2.ensures))
+pub returns : goal.returns
+unfolding kept_range
+returns c = range-kept c.args.points.now c.shared_slice_known-1.given c.args.order c.args.lo c.args.hi (so c.well_formed.1.1.0.1) (so c.well_formed.1.1.1.0.1) _
+    (rule-answered _ _ _ (λ e. c.if-order-eq-OUTSIDE.false (rw e)) (ap₂ (λ a b. a && b) (sym c.is_usable.ensures) (sym c.is_usable-2.ensures) ∙ not-false _ c.if-not-is_usable.false-raw) (c.extent_of.ensures ∙ ap (λ z. halved_radii c.args.points.now z c.clean.result c.clean-2.result) (to_z-of_z c.ranges.order) ∙ ap₂ (halved_radii c.args.points.now c.args.order) c.clean.ensures c.clean-2.ensures))

@@ -9,22 +9,16 @@ use mathlib.Core.List.{List}
 use mir.Syntax.{w8}
 use Rattle.envelope.specs.declared.Span.{Span}
 use Rattle.floats.specs.Numbers.{clean_of}
-use Rattle.envelope.specs.Envelope.{count}
 use Rattle.envelope.specs.Halving.{halved_part, kept_within}
 use Rattle.envelope.proofs.Steps.{reads}
-use Rattle.envelope.proofs.Kept.{Lies, rule-outside, rule-refused, rule-answered, part_lies, by-many}
+use Rattle.envelope.proofs.Kept.{rule-outside, rule-refused, rule-answered}
 use Rattle.floats.proofs.Bools.{so}
 use Rattle.envelope.proofs.Rules.{within-kept}
 use Rattle.envelope.proofs.span_kept.Goals as goal
 
--- `envelope::span_kept` meets its contract. Assumes nothing.
 -- the part that was found
 found : (ps : List Float) (z y : ℤ) (a b lo hi : Float) (r : Span) → r ≡ halved_part ps y a b → y ≡ z → a ≡ clean_of lo → b ≡ clean_of hi → r ≡ halved_part ps z (clean_of lo) (clean_of hi)
 found ps z y a b lo hi r h e p q = h ∙ (ap (λ x. halved_part ps x a b) e ∙ ap₂ (halved_part ps z) p q)
-
--- what lies among the points, if it is the part that was found
-lies : (ps : List Float) (z : ℤ) (lo hi : Float) (r : Span) → r ≡ halved_part ps z lo hi → Lies r (count ps)
-lies ps z lo hi r e = rw e (part_lies ps z lo hi)
 
 pub returns-then-order-eq-OUTSIDE : goal.returns-then-order-eq-OUTSIDE
 unfolding kept_within
@@ -36,13 +30,8 @@ unfolding kept_within
 returns-then-not-is_usable c = within-kept c.args.points.now c.shared_slice_known-1.given c.args.order c.args.lo c.args.hi (so c.well_formed.1.1.0.1) (so c.well_formed.1.1.1.0.1) _
     (rule-refused _ _ _ (ap₂ (λ a b. a && b) (sym c.is_usable.ensures) (sym c.is_usable-2.ensures) ∙ not-true _ c.if-not-is_usable.true-raw))
 
-pub overflow_sub-result : goal.overflow_sub-result
-overflow_sub-result c =
-    let f = (found c.args.points.now c.args.order _ _ _ c.args.lo c.args.hi c.part_of-s.result c.part_of-s.ensures (to_z-of_z {w = w8} c.ranges.order) c.clean.ensures c.clean-2.ensures) in
-    (lies c.args.points.now _ _ _ _ f).0
-
 pub returns : goal.returns
 unfolding kept_within
-returns c =
-    let f = (found c.args.points.now c.args.order _ _ _ c.args.lo c.args.hi c.part_of-s.result c.part_of-s.ensures (to_z-of_z {w = w8} c.ranges.order) c.clean.ensures c.clean-2.ensures) in
-    within-kept c.args.points.now c.shared_slice_known-1.given c.args.order c.args.lo c.args.hi (so c.well_formed.1.1.0.1) (so c.well_formed.1.1.1.0.1) _ (rule-answered _ _ _ (λ e. c.if-order-eq-OUTSIDE.false (rw e)) (ap₂ (λ a b. a && b) (sym c.is_usable.ensures) (sym c.is_usable-2.ensures) ∙ not-false _ c.if-not-is_usable.false-raw) (by-many _ _ (lies c.args.points.now _ _ _ _ f) ∙ f))
+returns c = within-kept c.args.points.now c.shared_slice_known-1.given c.args.order c.args.lo c.args.hi (so c.well_formed.1.1.0.1) (so c.well_formed.1.1.1.0.1) _
+    (rule-answered _ _ _ (λ e. c.if-order-eq-OUTSIDE.false (rw e)) (ap₂ (λ a b. a && b) (sym c.is_usable.ensures) (sym c.is_usable-2.ensures) ∙ not-false _ c.if-not-is_usable.false-raw)
+    (found c.args.points.now c.args.order _ _ _ c.args.lo c.args.hi c.part_of.result c.part_of.ensures (to_z-of_z {w = w8} c.ranges.order) c.clean.ensures c.clean-2.ensures))

@@ -1,13 +1,13 @@
 -- `envelope::within_refusal` meets its contract. Assumes nothing.
-use mathlib.Core.Path.{sym, ap, ◌∙◌}
-use Rattle.refusals.specs.Paper.{onward-answers, onward-refuses}
-use Rattle.envelope.specs.Envelope.{spanned_paper, within_refusal_of}
+use Rattle.refusals.specs.Paper.{papers}
+use Rattle.refusals.proofs.Exits.{same_exit}
+use Rattle.envelope.specs.Envelope.{within_refusal_of}
 use Rattle.envelope.proofs.within_refusal.Goals as goal
 
-pub returns-in-Part : goal.returns-in-Part
+pub returns-in_err-within_span : goal.returns-in_err-within_span
 unfolding within_refusal_of
-returns-in-Part c = simp (sym c.within_span-found.ensures ∙ ap spanned_paper c.in-Part.is, onward-answers)
+returns-in_err-within_span c = search (papers, same_exit _ _ c.from_residual.ensures.1, c.in_err-within_span.was, ← c.within_span.ensures)
 
-pub returns-in-Refused : goal.returns-in-Refused
+pub returns : goal.returns
 unfolding within_refusal_of
-returns-in-Refused c = simp (sym c.within_span-found.ensures ∙ ap spanned_paper c.in-Refused.is, onward-refuses)
+returns c = search (papers, c.in_ok-within_span.was, ← c.within_span.ensures)

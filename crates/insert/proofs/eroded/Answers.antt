@@ -1,5 +1,7 @@
 -- `insert::eroded` meets its contract. Assumes nothing.
-use mathlib.Core.Path.{◌≡◌, sym, ap, ap₂, ◌∙◌}
+use mathlib.Core.Path.{◌≡◌, sym, ap₂, ◌∙◌}
+use mathlib.Core.List.{List}
+use lib.Ieee.{Float}
 use mir.Syntax.{w8}
 use mir.Facts.{to_z-of_z}
 use mathlib.Core.Bool.{◌&&◌}
@@ -7,13 +9,13 @@ use lib.IntN.{pos}
 use borrow.Author.Tests.{not-true, not-false}
 use Rattle.floats.specs.Numbers.{clean_of}
 use Rattle.envelope.specs.Envelope.{points_good}
-use Rattle.envelope.specs.Halving.{kept_of, radius_of}
+use Rattle.envelope.specs.Halving.{kept_of}
 use Rattle.envelope.proofs.Steps.{reads}
 use Rattle.envelope.proofs.Kept.{kept-good}
+use Rattle.insert.specs.declared.Which.{Which}
 use Rattle.insert.specs.declared.Which.TheVariants.{Least}
 use Rattle.insert.specs.Insert.{eroded_asks, offset_of, eroded_of}
 use Rattle.insert.proofs.Steps.{kept-refused, kept-accepted, asks-outside, asks-refused, asks-answered}
-use Rattle.insert.proofs.Held.{held_none, carried}
 use Rattle.insert.proofs.eroded.Goals as goal
 
 pub returns-then-order-eq-OUTSIDE : goal.returns-then-order-eq-OUTSIDE
@@ -28,28 +30,16 @@ returns-then-not-is_usable-is_tolerance c = let a = c.args in
     asks-refused (points_good ps) _ (offset_of Least ps (clean_of a.tolerance) (clean_of a.u))
     (ap₂ (λ a b. a && b) (sym c.is_usable.ensures) (sym c.is_tolerance.ensures) ∙ not-true _ c.if-not-is_usable-is_tolerance.true-raw)
 
-pub look_of-l-requires : goal.look_of-l-requires
-look_of-l-requires c = let ps = c.args.points.now in
+pub new-part-requires : goal.new-part-requires
+new-part-requires c = let ps = c.args.points.now in
     let n = c.number_of-order in
     let g = kept-accepted ps (λ (e : kept_of ps ≡ pos 2). c.if-order-eq-OUTSIDE.false (rw (n.ensures, e))) in
     (g, to_z-of_z {w = w8} (record { sfits = n.type_inv }) ∙ (n.ensures ∙ kept-good ps g))
 
-pub offset-found-requires : goal.offset-found-requires
-offset-found-requires c = let ps = c.args.points.now in
-    carried Least ps ps 0 c.look_of-l.ensures c.first.ensures (held_none Least ps ps)
-
-pub returns-in-At : goal.returns-in-At
-unfolding eroded_of eroded_asks radius_of
-returns-in-At c = let a = c.args in
+pub returns : goal.returns
+unfolding eroded_of eroded_asks
+returns c = let a = c.args in
     let ps = a.points.now in
     let n = c.number_of-order in
     asks-answered _ _ _ (kept-accepted ps (λ (e : kept_of ps ≡ pos 2). c.if-order-eq-OUTSIDE.false (rw (n.ensures, e)))) (ap₂ (λ a b. a && b) (sym c.is_usable.ensures) (sym c.is_tolerance.ensures) ∙ not-false _ c.if-not-is_usable-is_tolerance.false-raw)
-    (ap radius_of (sym c.in-At.is) ∙ (c.offset-found.ensures ∙ ap₂ (offset_of Least ps) c.clean.ensures c.clean-2.ensures))
-
-pub returns-in-Nowhere : goal.returns-in-Nowhere
-unfolding eroded_of eroded_asks radius_of
-returns-in-Nowhere c = let a = c.args in
-    let ps = a.points.now in
-    let n = c.number_of-order in
-    asks-answered _ _ _ (kept-accepted ps (λ (e : kept_of ps ≡ pos 2). c.if-order-eq-OUTSIDE.false (rw (n.ensures, e)))) (ap₂ (λ a b. a && b) (sym c.is_usable.ensures) (sym c.is_tolerance.ensures) ∙ not-false _ c.if-not-is_usable-is_tolerance.false-raw)
-    (ap radius_of (sym c.in-Nowhere.is) ∙ (c.offset-found.ensures ∙ ap₂ (offset_of Least ps) c.clean.ensures c.clean-2.ensures))
+    (c.offset.ensures ∙ (ap₂ (λ (w : Which) (xs : List Float). offset_of w xs c.clean.result c.clean-2.result) c.new-part.ensures.1 c.new-part.ensures.0 ∙ ap₂ (offset_of Least ps) c.clean.ensures c.clean-2.ensures))

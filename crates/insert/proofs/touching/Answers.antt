@@ -7,7 +7,7 @@ use lib.IntN.{pos}
 use borrow.Author.Tests.{not-true, not-false}
 use Rattle.floats.specs.Numbers.{clean_of}
 use Rattle.envelope.specs.Envelope.{points_good}
-use Rattle.envelope.specs.Halving.{kept_of, radius_of}
+use Rattle.envelope.specs.Halving.{kept_of}
 use Rattle.envelope.proofs.Steps.{reads}
 use Rattle.envelope.proofs.Kept.{kept-good}
 use Rattle.insert.specs.Insert.{touch_asks, touch_of, touched}
@@ -26,24 +26,16 @@ returns-then-not-is_polygon-is_tolerance c = let a = c.args in
     asks-refused (points_good ps) _ (touch_of a.w ps a.polygon.now (clean_of a.tolerance))
     (ap₂ (λ a b. a && b) (sym c.is_polygon.ensures) (sym c.is_tolerance.ensures) ∙ not-true _ c.if-not-is_polygon-is_tolerance.true-raw)
 
-pub tried-found-requires : goal.tried-found-requires
-tried-found-requires c = let ps = c.args.points.now in
+pub tried-requires : goal.tried-requires
+tried-requires c = let ps = c.args.points.now in
     let n = c.number_of-order in
     let g = kept-accepted ps (λ (e : kept_of ps ≡ pos 2). c.if-order-eq-OUTSIDE.false (rw (n.ensures, e))) in
     (g, to_z-of_z {w = w8} (record { sfits = n.type_inv }) ∙ (n.ensures ∙ kept-good ps g))
 
-pub returns-in-At : goal.returns-in-At
-unfolding touched touch_asks radius_of
-returns-in-At c = let a = c.args in
+pub returns : goal.returns
+unfolding touched touch_asks
+returns c = let a = c.args in
     let ps = a.points.now in
     let n = c.number_of-order in
     asks-answered _ _ _ (kept-accepted ps (λ (e : kept_of ps ≡ pos 2). c.if-order-eq-OUTSIDE.false (rw (n.ensures, e)))) (ap₂ (λ a b. a && b) (sym c.is_polygon.ensures) (sym c.is_tolerance.ensures) ∙ not-false _ c.if-not-is_polygon-is_tolerance.false-raw)
-    (ap radius_of (sym c.in-At.is) ∙ (c.tried-found.ensures ∙ ap (touch_of a.w ps a.polygon.now) c.clean.ensures))
-
-pub returns-in-Nowhere : goal.returns-in-Nowhere
-unfolding touched touch_asks radius_of
-returns-in-Nowhere c = let a = c.args in
-    let ps = a.points.now in
-    let n = c.number_of-order in
-    asks-answered _ _ _ (kept-accepted ps (λ (e : kept_of ps ≡ pos 2). c.if-order-eq-OUTSIDE.false (rw (n.ensures, e)))) (ap₂ (λ a b. a && b) (sym c.is_polygon.ensures) (sym c.is_tolerance.ensures) ∙ not-false _ c.if-not-is_polygon-is_tolerance.false-raw)
-    (ap radius_of (sym c.in-Nowhere.is) ∙ (c.tried-found.ensures ∙ ap (touch_of a.w ps a.polygon.now) c.clean.ensures))
+    (c.tried.ensures ∙ ap (touch_of a.w ps a.polygon.now) c.clean.ensures)

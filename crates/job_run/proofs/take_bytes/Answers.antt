@@ -4,10 +4,10 @@ use Rattle.std.proofs.Common.{sym, refl, ◌∙◌, rules}
 use Rattle.job_run.proofs.take_bytes.Goals as goal
 
 pub loop-i-init : goal.loop-i-init
-loop-i-init c = (search rules, search rules, search rules, search rules, refl, refl, refl)
+loop-i-init c = (search rules, search rules, search rules, refl, refl, refl)
 
 pub loop-i-preserved : goal.loop-i-preserved
-loop-i-preserved c = (search rules, search rules, search rules, search rules, search rules, search rules, c.loop-i.invariant.6 ∙ bytes-step _ _ _ _ c.loop-i-test.true c.take_byte-t.ensures)
+loop-i-preserved c = (search rules, search rules, search rules, search rules, search rules, c.loop-i.invariant.5 ∙ bytes-step _ _ _ _ c.loop-i-test.true c.take_byte-t.ensures)
 
 pub returns : goal.returns
-returns c = sym (c.loop-i.invariant.6 ∙ bytes-end _ _ _ c.loop-i-test.false)
+returns c = sym (c.loop-i.invariant.5 ∙ bytes-end _ _ _ c.loop-i-test.false)

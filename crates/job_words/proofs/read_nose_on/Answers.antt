@@ -1,13 +1,13 @@
 -- `job_words::read_nose_on` meets its contract. Assumes nothing.
-use Rattle.std.proofs.Common.{sym, ◌∙◌}
+use Rattle.std.proofs.Common.{sym, ap, ◌∙◌, is_some}
 use Rattle.job_words.proofs.All.{nose-is}
 use Rattle.floats.specs.Pick.{picks}
 use Rattle.job_words.specs.Kind.{nose_on}
 use Rattle.job_words.proofs.read_nose_on.Goals as goal
 
-pub returns-then-read_numbers : goal.returns-then-read_numbers
-returns-then-read_numbers c = let o = c.read_numbers in nose-is _ o.new.xs _ (sym o.ensures.are ∙ c.if-read_numbers.true) (o.ensures.each c.if-read_numbers.true)
+pub returns-in_default : goal.returns-in_default
+unfolding nose_on
+returns-in_default c = search (picks, sym c.read_numbers.ensures.are ∙ ap is_some c.in_default.is)
 
 pub returns : goal.returns
-unfolding nose_on
-returns c = search (picks, ← c.read_numbers.ensures.are)
+returns c = let o = c.read_numbers.ensures in nose-is _ _ _ (sym o.are ∙ ap is_some c.in-Some.is) (o.each _ c.in-Some.is)

@@ -1,6 +1,5 @@
 -- `nose::clean_at` meets its contract: 0 / 0 is no number. Assumes nothing.
 use mathlib.Core.Path.{sym}
-use borrow.Author.Rules.{rules}
 use lib.Ieee.{div, of_bits}
 use Rattle.nose.specs.Nose.{clean_at}
 use Rattle.nose.proofs.Segments.{past_end}

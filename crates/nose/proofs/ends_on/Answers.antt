@@ -1,6 +1,6 @@
 -- `nose::ends_on` meets its contract. Assumes nothing.
+use Rattle.std.specs.Prelude.{Option}
 use mathlib.Core.Path.{sym, ap, ◌∙◌}
-use mathlib.Core.Option.{Option}
 use lib.Ieee.{Float}
 use Rattle.floats.specs.Pick.{picks}
 use Rattle.reach.specs.Low.{lower_of}

@@ -1,7 +1,6 @@
 -- `nose::segment_at` meets its contract. Assumes nothing.
 use mathlib.Core.Path.{sym, ◌∙◌}
 use native.Mathlib.Omega.{arith}
-use borrow.Author.Rules.{rules}
 use Rattle.nose.specs.Nose.{segment_at}
 use Rattle.nose.proofs.Segments.{no-segment}
 use Rattle.nose.proofs.segment_at.Goals as goal

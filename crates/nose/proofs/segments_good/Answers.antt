@@ -1,5 +1,4 @@
 -- `nose::segments_good` meets its contract. Assumes nothing.
-use borrow.Author.Rules.{rules}
 use borrow.Author.Tests.{eq-eqb, ne_eqb, le-leb, lt-leb}
 use Rattle.nose.specs.Nose.{segments_good}
 use Rattle.nose.proofs.segments_good.Goals as goal

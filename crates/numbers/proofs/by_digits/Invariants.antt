@@ -4,8 +4,5 @@ use Rattle.numbers.proofs.Roots.{nearest-up, nearest-stay}
 use Rattle.numbers.proofs.Turn.{Inv, up, stay, done}
 use Rattle.numbers.proofs.by_digits.Given as goal
 
-abbrev pub invariant-loop-i : goal.invariant-loop-i
-invariant-loop-i l = Inv l.m l.w l.r l.rem l.i
-
-abbrev pub decreases-loop-i : goal.decreases-loop-i
-decreases-loop-i l = 53 - l.i
+abbrev pub invariant-loop : goal.invariant-loop
+invariant-loop l = Inv l.m l.w l.r l.rem l.counter

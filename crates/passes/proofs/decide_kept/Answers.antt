@@ -1,7 +1,6 @@
 -- `passes::decide_kept` meets its contract. Assumes nothing.
 use mathlib.Core.Path.{◌∙◌}
 use Rattle.passes.proofs.Verdicts.{decided-kept}
-use borrow.Author.Rules.{rules}
 use Rattle.passes.proofs.decide_kept.Goals as goal
 
 pub returns : goal.returns

@@ -1,6 +1,5 @@
 -- `passes::make_all` meets its contract. Assumes nothing.
 use native.Mathlib.Omega.{arith}
-use borrow.Author.Rules.{rules}
 use Rattle.passes.proofs.make_all.Goals as goal
 
 pub make_many-requires : goal.make_many-requires

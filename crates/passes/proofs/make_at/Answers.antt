@@ -1,6 +1,5 @@
 -- `passes::make_at` meets its contract. Assumes nothing.
 use Rattle.passes.proofs.InTurn.{made_at}
-use borrow.Author.Rules.{rules}
 use Rattle.passes.proofs.make_at.Goals as goal
 
 pub returns : goal.returns

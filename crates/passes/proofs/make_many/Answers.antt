@@ -1,6 +1,5 @@
 -- `passes::make_many` meets its contract. Assumes nothing.
 use native.Mathlib.Omega.{arith}
-use borrow.Author.Rules.{rules}
 use Rattle.passes.proofs.make_many.Goals as goal
 
 pub make_each-requires : goal.make_each-requires

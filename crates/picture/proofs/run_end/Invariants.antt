@@ -1,11 +1,7 @@
 -- `picture::run_end` meets its contract. The loop's invariant: all bins passed are at k's radius. Assumes nothing.
-use Prim.Native.Nat.{◌≤◌, ◌<◌, ◌-◌}
 use Rattle.picture.specs.Steps.{edge_of}
 use Rattle.picture.proofs.Runs.{Level}
 use Rattle.picture.proofs.run_end.Given as goal
 
 abbrev pub invariant-loop-j : goal.invariant-loop-j
-invariant-loop-j l = (l.k < l.j) × (l.j ≤ l.n) × Level (edge_of l.look l.side l.cells1 l.cells2 l.s) l.k l.j
-
-abbrev pub decreases-loop-j : goal.decreases-loop-j
-decreases-loop-j l = l.n - l.j
+invariant-loop-j l = Level (edge_of l.look l.side l.cells1 l.cells2 l.s) l.k l.j

@@ -1,6 +1,5 @@
 -- `polygon::past_of` meets its contract. Assumes nothing.
 use native.Mathlib.Omega.{arith}
-use borrow.Author.Rules.{rules}
 use Rattle.polygon.specs.Polygon.{past_of}
 use Rattle.polygon.proofs.past_of.Goals as goal
 

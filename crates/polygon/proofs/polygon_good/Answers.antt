@@ -1,5 +1,4 @@
 -- `polygon::polygon_good` meets its contract. Assumes nothing.
-use borrow.Author.Rules.{rules}
 use borrow.Author.Tests.{eq-eqb, ne_eqb, le-leb, lt-leb}
 use Rattle.polygon.specs.Polygon.{polygon_good}
 use Rattle.polygon.proofs.polygon_good.Goals as goal

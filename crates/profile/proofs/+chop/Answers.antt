@@ -11,8 +11,8 @@ returns-then-sag-tolerance t c = one-put _ _ _ _ _ _ c.sag_of-sag.ensures c.if-s
 pub returns-then-levels-eq0 : goal.returns-then-levels-eq0
 returns-then-levels-eq0 t c = last-over _ _ _ _ _ _ c.sag_of-sag.ensures c.if-sag-tolerance.false c.if-levels-eq0.true
 
-pub returns-in_default : goal.returns-in_default
-returns-in_default t c = first-over _ _ _ _ _ _ _ _ c.sag_of-sag.ensures c.if-sag-tolerance.false c.if-levels-eq0.false c.middle-m.ensures c.half_bulge-half.ensures c.in_default.is c.chop-first.ensures
+pub returns-in_err-next : goal.returns-in_err-next
+returns-in_err-next t c = rw c.from_residual.ensures (first-over _ _ _ _ _ _ _ _ c.sag_of-sag.ensures c.if-sag-tolerance.false c.if-levels-eq0.false c.middle-m.ensures c.half_bulge-half.ensures c.in_err-next.was c.chop.ensures)
 
 pub returns : goal.returns
-returns t c = both_say _ _ _ _ _ _ _ _ c.sag_of-sag.ensures c.if-sag-tolerance.false c.if-levels-eq0.false c.middle-m.ensures c.half_bulge-half.ensures c.in-To.is c.chop-first.ensures c.chop.ensures
+returns t c = both_say _ _ _ _ _ _ _ _ c.sag_of-sag.ensures c.if-sag-tolerance.false c.if-levels-eq0.false c.middle-m.ensures c.half_bulge-half.ensures c.in_ok-next.was c.chop.ensures c.chop-2.ensures

@@ -6,8 +6,8 @@ use Rattle.profile.proofs.half_bulge.Goals as goal
 
 pub returns-in_default : goal.returns-in_default
 unfolding half_of div of_bits
-returns-in_default c = search (picks, c.in_default.is, ← c.root-found.ensures)
+returns-in_default c = search (picks, c.in_default.is, ← c.root.ensures)
 
 pub returns : goal.returns
 unfolding half_of
-returns c = search (picks, c.in-Root.is, ← c.root-found.ensures)
+returns c = search (picks, c.in-Ok.is, ← c.root.ensures)

@@ -1,6 +1,5 @@
 -- `queries::first_at` meets its contract. Assumes nothing.
-use mathlib.Core.Path.{refl, sym, ◌∙◌}
-use borrow.Author.Rules.{rules}
+use mathlib.Core.Path.{sym, ◌∙◌}
 use Rattle.queries.proofs.Walks.{first-start, first-before, first_alone}
 use Rattle.queries.proofs.first_at.Goals as goal
 

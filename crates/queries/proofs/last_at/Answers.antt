@@ -1,7 +1,6 @@
 -- `queries::last_at` meets its contract. Assumes nothing.
-use mathlib.Core.Path.{refl, sym, ◌∙◌}
+use mathlib.Core.Path.{sym, ◌∙◌}
 use native.Mathlib.Omega.{arith}
-use borrow.Author.Rules.{rules}
 use Rattle.queries.proofs.Walks.{last_end, last-behind, last-alone}
 use Rattle.queries.proofs.last_at.Goals as goal
 

@@ -1,6 +1,5 @@
 -- `queries::less_rings` meets its contract. The loop's invariant: what is left is said of the rings passed. Assumes nothing.
 use mathlib.Core.Path.{◌≡◌, refl, ap, ◌∙◌}
-use Prim.Native.Nat.{◌≤◌, ◌-◌}
 use native.Mathlib.Omega.{arith}
 use Rattle.queries.specs.Volume.{less_rings}
 use Rattle.queries.specs.Pass.{less_all}
@@ -9,14 +8,14 @@ use Rattle.queries.proofs.less_rings.Goals as goal
 
 pub loop-k-init : goal.loop-k-init
 unfolding less_rings
-loop-k-init c = (omega arith, refl)
+loop-k-init c = refl
 
 pub loop-k-preserved : goal.loop-k-preserved
 loop-k-preserved c = let args = c.args in
     let loop = c.loop-k in
-    (omega arith, ring-more args.s args.cells.now args.n args.rings.now c.ring_at.result args.v loop.left c.less_ring-left.result loop.k loop.invariant.1 c.ring_at.ensures c.less_ring-left.ensures)
+    ring-more args.s args.cells.now args.n args.rings.now c.ring_at.result args.v loop.left c.less_ring-left.result loop.k loop.invariant c.ring_at.ensures c.less_ring-left.ensures
 
 pub returns : goal.returns
 returns c = let args = c.args in
     let e : c.loop-k.k ≡ args.count = omega arith in
-    c.loop-k.invariant.1 ∙ ap (less_all args.s args.cells.now args.n args.rings.now args.v) e
+    c.loop-k.invariant ∙ ap (less_all args.s args.cells.now args.n args.rings.now args.v) e

@@ -1,24 +1,20 @@
 -- `queries::most_over` meets its contract. The loop's invariant: what is seen so far is the most over the bins passed. Assumes nothing.
 use mathlib.Core.Path.{◌≡◌, refl, ap, ◌∙◌}
-use Prim.Native.Nat.{◌≤◌, ◌-◌}
 use native.Mathlib.Omega.{arith}
-use Rattle.refusals.specs.Paper.{answers}
-use Rattle.queries.specs.Envelope.{most_over, seen_paper}
+use Rattle.queries.specs.Envelope.{most_over}
 use Rattle.queries.proofs.Walks.{walk-on}
 use Rattle.queries.proofs.most_over.Goals as goal
 
 pub loop-k-init : goal.loop-k-init
 unfolding most_over
-loop-k-init c = (omega arith, refl)
+loop-k-init c = refl
 
 pub loop-k-preserved : goal.loop-k-preserved
-loop-k-preserved c = let loop = c.loop-k in (
-  omega arith,
-  walk-on _ _ _ loop.seen c.shown-one.result c.join-seen.result loop.invariant.1 c.cell_at.ensures c.most.ensures c.shown-one.ensures c.join-seen.ensures,
-)
+loop-k-preserved c = let loop = c.loop-k in
+    walk-on _ _ _ loop.seen c.shown-one.result c.together-seen.result loop.invariant c.cell_at.ensures c.most.ensures c.shown-one.ensures c.together-seen.ensures
 
 pub returns : goal.returns
 returns c = let args = c.args in
     let loop = c.loop-k in
     let e : loop.k ≡ args.count = omega arith in
-    loop.invariant.1 ∙ ap (λ k. answers (most_over args.cells.now args.first k)) e
+    loop.invariant ∙ ap (most_over args.cells.now args.first) e

@@ -1,17 +1,14 @@
 -- `queries::seen_at` meets its contract. Assumes nothing.
-use mathlib.Core.Path.{ap, ◌∙◌}
-use Prim.Native.Nat.{◌≤◌, ◌<◌}
+use mathlib.Core.Path.{◌∙◌}
 use native.Mathlib.Omega.{arith}
 use borrow.Author.Tests.{not-true, not-false}
-use Rattle.refusals.specs.Paper.{answers}
-use Rattle.queries.specs.declared.BinSpan.{BinSpan}
 use Rattle.queries.proofs.Walks.{span-room}
 use Rattle.queries.proofs.Envelopes.{outside, inside}
 use Rattle.queries.proofs.seen_at.Goals as goal
 
 pub returns-then-not-s-z : goal.returns-then-not-s-z
 returns-then-not-s-z c = let args = c.args in
-    ap answers (outside args.s args.n args.cells.now args.z (not-true _ c.if-not-s-z.true-raw))
+    outside args.s args.n args.cells.now args.z (not-true _ c.if-not-s-z.true-raw)
 
 pub overflow_sub-bins : goal.overflow_sub-bins
 overflow_sub-bins c = let args = c.args in
@@ -28,4 +25,4 @@ most_over-requires c = let args = c.args in
 pub returns : goal.returns
 returns c = let args = c.args in
     c.most_over.ensures
-    ∙ ap answers (inside args.s args.n args.cells.now args.z (not-false _ c.if-not-s-z.false-raw) c.bins_at-bins.ensures)
+    ∙ inside args.s args.n args.cells.now args.z (not-false _ c.if-not-s-z.false-raw) c.bins_at-bins.ensures

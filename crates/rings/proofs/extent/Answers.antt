@@ -2,7 +2,6 @@
 use mathlib.Core.Path.{ap}
 use Rattle.stock.specs.declared.TurnStockSpec.{TurnStockSpec}
 use Rattle.rings.specs.Store.{bar_ring}
-use borrow.Author.Rules.{rules}
 use Rattle.rings.proofs.extent.Goals as goal
 
 pub returns : goal.returns

@@ -1,7 +1,6 @@
 -- `rings::left_of` meets its contract. Assumes nothing.
 use mathlib.Core.Path.{refl}
 use Rattle.rings.proofs.Adding.{leaves-pieces, leaves-over}
-use borrow.Author.Rules.{rules}
 use Rattle.rings.proofs.left_of.Goals as goal
 
 pub returns-then-left-gt-PIECE_LIMIT : goal.returns-then-left-gt-PIECE_LIMIT

@@ -1,9 +1,6 @@
 -- `rings::list_tests` meets its contract. Assumes nothing.
 use native.Mathlib.Omega.{arith}
-use mathlib.Core.Path.{◌≡◌}
-use lib.ListN.{length}
 use Rattle.rings.proofs.Listed.{tells_none, tells-over, tells-in}
-use borrow.Author.Rules.{rules}
 use Rattle.rings.proofs.list_tests.Goals as goal
 
 pub returns-then-tests-eq0 : goal.returns-then-tests-eq0

@@ -1,7 +1,9 @@
 -- `rings::remove_ring` meets its contract. Assumes nothing.
-use Rattle.rings.proofs.Removing.{removes-from}
-use borrow.Author.Rules.{rules}
+use Rattle.rings.proofs.Removing.{removes-taken, removes-on}
 use Rattle.rings.proofs.remove_ring.Goals as goal
 
+pub returns-in_err-took : goal.returns-in_err-took
+returns-in_err-took c = removes-on _ c.remove_from.ensures _ _ c.in_err-took.was c.from_residual.ensures.1
+
 pub returns : goal.returns
-returns c = removes-from c.with_counts.ensures c.remove_from-took.ensures
+returns c = removes-taken _ c.remove_from.ensures _ _ c.in_ok-took.was c.stock_with.ensures

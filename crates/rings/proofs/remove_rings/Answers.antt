@@ -1,6 +1,5 @@
 -- `rings::remove_rings` meets its contract. Assumes nothing.
 use Rattle.rings.proofs.Removing.{all_of}
-use borrow.Author.Rules.{rules}
 use Rattle.rings.proofs.remove_rings.Goals as goal
 
 pub returns : goal.returns

@@ -2,7 +2,6 @@
 use mathlib.Core.Path.{ap, ◌∙◌}
 use Rattle.rings.specs.declared.Ring.{Ring}
 use Rattle.rings.specs.Store.{count_fits}
-use borrow.Author.Rules.{rules}
 use Rattle.rings.proofs.rings_fit.Goals as goal
 
 pub returns : goal.returns

@@ -9,14 +9,14 @@ use Rattle.side_by_side.proofs.Texts.{each_start, each_next}
 use Rattle.side_by_side.proofs.each_in_hand.Goals as goal
 
 pub loop-i-init : goal.loop-i-init
-loop-i-init c = (omega arith, each_start _ _)
+loop-i-init c = each_start _ _
 
 pub loop-i-preserved : goal.loop-i-preserved
 loop-i-preserved c = let loop = c.loop-i in
-    (omega arith, each_next _ _ _ _ _ _ loop.invariant.1 c.ring_at.ensures c.in_hand-ok.ensures)
+    each_next _ _ _ _ _ _ loop.invariant c.ring_at.ensures c.in_hand-ok.ensures
 
 pub returns : goal.returns
 returns c = let a = c.args in
     let n = c.lent_of-n in
-    let e : c.loop-i.i ≡ n.result = omega arith in
-    c.loop-i.invariant.1 ∙ ap (λ (i : ℕ). each_in_hand (lent_rings a.rings.now a.count) (rings_of i a.others.now)) (e ∙ n.ensures)
+    let e : c.loop-i.i ≡ n.result = omega (arith, c.loop-i.auto.i-end, c.loop-i-test.false) in
+    c.loop-i.invariant ∙ ap (λ (i : ℕ). each_in_hand (lent_rings a.rings.now a.count) (rings_of i a.others.now)) (e ∙ n.ensures)

@@ -1,13 +1,8 @@
 -- `stock::all_fit_solid` meets its contract. The loop's invariant: what is gathered so far says whether the cells passed fit. Assumes nothing.
-use Rattle.std.proofs.Common.{◌≡◌, ◌-◌, ◌≤◌, Bool, ◌&&◌, ltb, refl, ap, ◌∙◌, arith, rules}
+use Rattle.std.proofs.Common.{◌≡◌, ◌&&◌, ltb}
 use Rattle.stock.specs.Cell.{fit_to}
 use Rattle.stock.specs.Signs.{sign_bit}
-use Rattle.stock.proofs.Cells.{fit-more}
-use Rattle.stock.proofs.Signs.{solid-more}
 use Rattle.stock.proofs.all_fit_solid.Given as goal
 
 abbrev pub invariant-loop-i : goal.invariant-loop-i
-invariant-loop-i l = (l.i ≤ l.n) × ((l.ok && ltb l.bits sign_bit) ≡ fit_to l.s l.cells l.i)
-
-abbrev pub decreases-loop-i : goal.decreases-loop-i
-decreases-loop-i l = l.n - l.i
+invariant-loop-i l = ((l.ok && ltb l.bits sign_bit) ≡ fit_to l.s l.cells l.i)

@@ -1,5 +1,5 @@
 -- `stock::bits_of` meets its contract. Assumes nothing.
-use Rattle.std.proofs.Common.{◌≡◌, true, false, not, T, sym, ap, ◌∙◌, subst, rules}
+use Rattle.std.proofs.Common.{◌≡◌, true, false, not, T, sym, ◌∙◌, rules}
 use lib.Ieee.{Float, is_nan}
 use Rattle.stock.specs.Signs.{ordered}
 use Rattle.stock.proofs.Passes.{HeldCell}

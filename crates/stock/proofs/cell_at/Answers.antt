@@ -1,5 +1,5 @@
 -- `stock::cell_at` meets its contract. Assumes nothing.
-use Rattle.std.proofs.Common.{◌*◌, sym, ◌∙◌, arith, rules}
+use Rattle.std.proofs.Common.{◌*◌, sym, ◌∙◌, arith}
 use Rattle.stock.proofs.Cells.{no_cell}
 use Rattle.stock.proofs.cell_at.Goals as goal
 

@@ -1,5 +1,4 @@
 -- `stock::cell_fits` meets its contract. Assumes nothing.
-use Rattle.std.proofs.Common.{rules}
 use Rattle.floats.specs.Pick.{picks}
 use Rattle.stock.specs.Cell.{cell_fits}
 use Rattle.stock.proofs.cell_fits.Goals as goal

@@ -1,8 +1,8 @@
--- `stock::no_cell` meets its contract: 0 / 0 is no number. Assumes nothing.
+-- `stock::no_cell` meets its contract. Assumes nothing.
 use Rattle.std.proofs.Common.{refl}
-use lib.Ieee.{div, of_bits, of_fields, odd}
+use lib.Ieee.{of_bits}
 use Rattle.stock.proofs.no_cell.Goals as goal
 
 pub returns : goal.returns
-unfolding div of_bits
+unfolding of_bits
 returns c = refl

@@ -1,9 +1,9 @@
 -- `stock::number_at` meets its contract. Assumes nothing.
-use Rattle.std.proofs.Common.{sym, rules}
+use Rattle.std.proofs.Common.{sym}
 use lib.ListN.{get_or-eq_default}
-use lib.Ieee.{nan, div, of_bits}
+use lib.Ieee.{nan, of_bits}
 use Rattle.stock.proofs.number_at.Goals as goal
 
-pub returns : goal.returns
-unfolding div of_bits
-returns c = sym (get_or-eq_default c.args.list.now nan c.if-k-list.false)
+pub returns-else-k-list : goal.returns-else-k-list
+unfolding of_bits
+returns-else-k-list c = sym (get_or-eq_default c.args.list.now nan c.if-k-list.false)

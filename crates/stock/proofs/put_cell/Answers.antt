@@ -1,5 +1,5 @@
 -- `stock::put_cell` meets its contract. Assumes nothing.
-use Rattle.std.proofs.Common.{length, sym, ap, ◌∙◌, arith, length-set, rules}
+use Rattle.std.proofs.Common.{length, sym, ap, ◌∙◌, arith, length-set}
 use Rattle.stock.proofs.Cells.{put-room, put-none}
 use Rattle.stock.proofs.put_cell.Goals as goal
 

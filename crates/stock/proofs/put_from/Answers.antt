@@ -1,5 +1,5 @@
 -- `stock::put_from` meets its contract. Assumes nothing.
-use Rattle.std.proofs.Common.{◌≡◌, suc, ◌+◌, arith, length-set, rules}
+use Rattle.std.proofs.Common.{◌≡◌, suc, ◌+◌, arith, length-set}
 use Rattle.stock.proofs.put_from.Goals as goal
 
 pub bounds-cells-at-2 : goal.bounds-cells-at-2

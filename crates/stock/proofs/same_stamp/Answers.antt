@@ -1,8 +1,7 @@
 -- `stock::same_stamp` meets its contract. Assumes nothing.
-use Rattle.std.proofs.Common.{refl}
 use Rattle.stock.specs.Stock.{same_stamp}
 use Rattle.stock.proofs.same_stamp.Goals as goal
 
 pub returns : goal.returns
 unfolding same_stamp
-returns c = refl
+returns c = c.eq.ensures

@@ -1,12 +1,7 @@
 -- `stock_file::hold_bytes` meets its contract. Assumes nothing.
-use mathlib.Core.Path.{◌≡◌}
-use Prim.Native.Nat.{◌-◌}
-use lib.ListN.{length}
+use Rattle.std.proofs.Common.{◌≡◌, length}
 use Rattle.stock_file.specs.Read.{HoldsOn}
 use Rattle.stock_file.proofs.hold_bytes.Given as goal
 
 abbrev pub invariant-loop-m : goal.invariant-loop-m
 invariant-loop-m l = (length l.line ≡ length l.initial.line) × HoldsOn l.len l.initial.line l.bytes l.from l.m l.line
-
-abbrev pub decreases-loop-m : goal.decreases-loop-m
-decreases-loop-m l = 127 - l.m

@@ -1,5 +1,5 @@
 -- `stock_lines::take_line` meets its contract. Assumes nothing.
-use Rattle.std.proofs.Common.{sym, ap, ◌∙◌}
+use Rattle.std.proofs.Common.{Option, sym, ap, ◌∙◌}
 use Rattle.stock_lines.specs.declared.Reading.{Reading}
 use Rattle.stock_lines.specs.declared.form.First.{First}
 use Rattle.stock_lines.specs.Reading.{state, begun}
@@ -9,7 +9,7 @@ use Rattle.stock_lines.proofs.take_line.Goals as goal
 pub returns-then-reading-eq0 : goal.returns-then-reading-eq0
 returns-then-reading-eq0 c = let a = c.args in
     let st = state a.reading a.cells.now a.rings.now in
-    ap (λ (r : Reading). state r a.cells.now a.rings.now) (c.begin.ensures ∙ ap (λ (f : First). begun a.reading f) c.read_first_line.ensures)
+    ap (λ (r : Reading). state r a.cells.now a.rings.now) (c.begin.ensures ∙ ap (λ (f : Option First). begun a.reading f) c.read_first_line.ensures)
     ∙ sym (line_first st a.line.now c.if-reading-eq0.true)
 
 pub returns-then-reading-eq1 : goal.returns-then-reading-eq1

@@ -3,4 +3,4 @@ use Rattle.side_streams.proofs.Told.{no-file}
 use Rattle.stock_picture.proofs.read_named.Goals as goal
 
 pub returns-in-Err : goal.returns-in-Err
-returns-in-Err c = no-file _ _
+returns-in-Err c = no-file _ _ _ c.at.ensures

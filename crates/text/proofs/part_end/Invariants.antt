@@ -1,10 +1,7 @@
 -- `text::part_end` meets its contract. Assumes nothing.
-use Rattle.std.proofs.Common.{◌≡◌, ◌+◌, ◌-◌, ◌≤◌, length, drop}
+use Rattle.std.proofs.Common.{◌≡◌, ◌+◌, length, drop}
 use Rattle.text.proofs.Parting.{first}
 use Rattle.text.proofs.part_end.Given as goal
 
 abbrev pub invariant-loop-e : goal.invariant-loop-e
-invariant-loop-e l = (l.e ≤ length l.s) × (l.a + length (first l.p (drop l.a l.s)) ≡ l.e + length (first l.p (drop l.e l.s)))
-
-abbrev pub decreases-loop-e : goal.decreases-loop-e
-decreases-loop-e l = length l.s - l.e
+invariant-loop-e l = (l.a + length (first l.p (drop l.a l.s)) ≡ l.e + length (first l.p (drop l.e l.s)))

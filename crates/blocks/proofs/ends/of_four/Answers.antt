@@ -1,6 +1,5 @@
 -- `blocks::ends::of_four` meets its contract. Assumes nothing.
 use Prim.Native.Nat.{◌+◌}
-use native.Mathlib.Omega.{arith}
 use Rattle.blocks.specs.Lots.{two_at}
 use Rattle.blocks.proofs.Lots.{joined-ends}
 use Rattle.blocks.proofs.ends.of_four.Goals as goal

@@ -1,5 +1,4 @@
 -- `blocks::ends::of_two` meets its contract. Assumes nothing.
-use native.Mathlib.Omega.{arith}
 use Rattle.blocks.proofs.Lots.{two_ends}
 use Rattle.blocks.proofs.ends.of_two.Goals as goal
 

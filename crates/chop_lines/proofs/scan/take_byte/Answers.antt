@@ -10,13 +10,13 @@ returns-then-scan-ne0 c = record { len_value = byte-stopped _ _ c.if-scan-ne0.tr
 pub returns-then-byte-eq10 : goal.returns-then-byte-eq10
 returns-then-byte-eq10 c = let o = c.on_line in
     let a = c.args in
-    let st = state a.scan (take (3 * a.points) a.numbers.now) in
-    record { len_value = byte-ends st a.line.now a.len a.byte c.if-scan-ne0.false _ _ _ c.if-byte-eq10.true (o.ensures.numbers_after ∙ ap (on_line st) c.front.ensures) o.ensures.len_value; len_bound = omega (arith, o.ensures.len_value) }
+    let st = state a.before.scan (take (3 * a.before.points) a.numbers.now) in
+    record { len_value = byte-ends st a.line.now a.before.len a.byte c.if-scan-ne0.false _ _ _ c.if-byte-eq10.true (o.ensures.numbers_after ∙ ap (on_line st) c.front.ensures) o.ensures.len_value; len_bound = omega (arith, o.ensures.len_value) }
 
 pub returns-then-len : goal.returns-then-len
 returns-then-len c = let a = c.args in
-    record { len_value = byte-goes (state a.scan (take (3 * a.points) a.numbers.now)) a.line.now a.len a.byte c.if-scan-ne0.false c.if-byte-eq10.false (omega (arith, c.if-len.true)) c.requires.0.line; len_bound = omega (arith, c.if-len.true) }
+    record { len_value = byte-goes (state a.before.scan (take (3 * a.before.points) a.numbers.now)) a.line.now a.before.len a.byte c.if-scan-ne0.false c.if-byte-eq10.false (omega (arith, c.if-len.true)) c.requires.0.line; len_bound = omega (arith, c.if-len.true) }
 
 pub returns : goal.returns
 returns c = let a = c.args in
-    record { len_value = byte-over (state a.scan (take (3 * a.points) a.numbers.now)) a.line.now a.len a.byte c.if-scan-ne0.false _ c.if-byte-eq10.false (omega (arith, c.if-len.false)) c.requires.0.line c.refuse.ensures; len_bound = omega arith }
+    record { len_value = byte-over (state a.before.scan (take (3 * a.before.points) a.numbers.now)) a.line.now a.before.len a.byte c.if-scan-ne0.false _ c.if-byte-eq10.false (omega (arith, c.if-len.false)) c.requires.0.line c.refuse.ensures; len_bound = omega arith }

@@ -8,17 +8,17 @@ returns-in_default c = corner-no (fields_of c.args.s.now) (read_as c.part.ensure
 
 pub returns-in_default-read_number : goal.returns-in_default-read_number
 returns-in_default-read_number c = corner-no-z (fields_of c.args.s.now)
-    (read_as c.part.ensures c.read_number.ensures c.in-Mm.is)
+    (read_as c.part.ensures c.read_number.ensures c.in-Some.is)
     (read_as c.part-2.ensures c.read_number-2.ensures c.in_default-read_number.is)
 
 pub returns-in_default-read_bulge : goal.returns-in_default-read_bulge
 returns-in_default-read_bulge c = corner-is (fields_of c.args.s.now)
-    (read_as c.part.ensures c.read_number.ensures c.in-Mm.is)
-    (read_as c.part-2.ensures c.read_number-2.ensures c.in-Mm-read_number.is)
+    (read_as c.part.ensures c.read_number.ensures c.in-Some.is)
+    (read_as c.part-2.ensures c.read_number-2.ensures c.in-Some-read_number.is)
     (bulge-as c.part-3.ensures c.read_bulge.ensures c.in_default-read_bulge.is)
 
 pub returns : goal.returns
 returns c = corner-is (fields_of c.args.s.now)
-    (read_as c.part.ensures c.read_number.ensures c.in-Mm.is)
-    (read_as c.part-2.ensures c.read_number-2.ensures c.in-Mm-read_number.is)
-    (bulge-as c.part-3.ensures c.read_bulge.ensures c.in-Is.is)
+    (read_as c.part.ensures c.read_number.ensures c.in-Some.is)
+    (read_as c.part-2.ensures c.read_number-2.ensures c.in-Some-read_number.is)
+    (bulge-as c.part-3.ensures c.read_bulge.ensures c.in-Some-read_bulge.is)

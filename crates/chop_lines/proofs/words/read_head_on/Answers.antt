@@ -8,10 +8,10 @@ returns-in_default c = head-no (fields_of c.args.s.now) _ (read_as c.part.ensure
 
 pub returns-in_default-read_number : goal.returns-in_default-read_number
 returns-in_default-read_number c = head-is (fields_of c.args.s.now) _
-    (read_as c.part.ensures c.read_number.ensures c.in-Mm.is)
+    (read_as c.part.ensures c.read_number.ensures c.in-Some.is)
     (read_as c.part-2.ensures c.read_number-2.ensures c.in_default-read_number.is)
 
 pub returns : goal.returns
 returns c = head-is (fields_of c.args.s.now) _
-    (read_as c.part.ensures c.read_number.ensures c.in-Mm.is)
-    (read_as c.part-2.ensures c.read_number-2.ensures c.in-Mm-read_number.is)
+    (read_as c.part.ensures c.read_number.ensures c.in-Some.is)
+    (read_as c.part-2.ensures c.read_number-2.ensures c.in-Some-read_number.is)

@@ -1,6 +1,5 @@
 -- `cuts::each_cut::cut_in` meets its contract. Assumes nothing.
 use native.Mathlib.Omega.{arith}
-use borrow.Author.Rules.{rules}
 use Rattle.cuts.specs.Tool.{sweep_act}
 use Rattle.changes.proofs.Proposals.{left, same-proposal}
 use Rattle.cuts.proofs.Previews.{line-proposed, thread-proposed, inner-proposed, drill-proposed, arc-proposed}

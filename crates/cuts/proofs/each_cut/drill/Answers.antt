@@ -1,5 +1,4 @@
 -- `cuts::each_cut::drill` meets its contract. Assumes nothing.
-use borrow.Author.Rules.{rules}
 use Rattle.changes.proofs.Proposals.{same-proposal}
 use Rattle.cuts.proofs.Previews.{drill-propose}
 use Rattle.cuts.proofs.each_cut.drill.Goals as goal

@@ -1,6 +1,5 @@
 -- `cuts::each_cut::fill` meets its contract. Assumes nothing.
-use mathlib.Core.Path.{◌≡◌, subst}
-use borrow.Author.Rules.{rules}
+use mathlib.Core.Path.{subst}
 use lib.Ieee.{Float}
 use Rattle.floats.specs.Numbers.{clean_of}
 use Rattle.nose.specs.Nose.{segment_count}

@@ -1,5 +1,4 @@
 -- `cuts::each_cut::side_of` meets its contract. Assumes nothing.
-use borrow.Author.Rules.{rules}
 use Rattle.floats.specs.Pick.{picks}
 use Rattle.cuts.specs.Tool.{sweep_side}
 use Rattle.cuts.proofs.each_cut.side_of.Goals as goal

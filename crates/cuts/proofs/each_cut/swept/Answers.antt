@@ -1,6 +1,5 @@
 -- `cuts::each_cut::swept` meets its contract. Assumes nothing.
 use native.Mathlib.Omega.{arith}
-use borrow.Author.Rules.{rules}
 use Rattle.cuts.proofs.Places.{fresh-room, fresh-empty}
 use Rattle.cuts.proofs.each_cut.swept.Goals as goal
 

@@ -1,7 +1,6 @@
 -- `cuts::each_cut::swept_long` meets its contract. Assumes nothing.
 use native.Mathlib.Omega.{arith}
 use Prim.Native.Nat.{◌*◌}
-use borrow.Author.Rules.{rules}
 use Rattle.refusals.specs.Limits.{cell_limit}
 use Rattle.changes.proofs.Proposals.{same-proposal}
 use Rattle.cuts.proofs.Places.{fresh-room, fresh-empty}

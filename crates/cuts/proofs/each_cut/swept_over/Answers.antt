@@ -1,5 +1,4 @@
 -- `cuts::each_cut::swept_over` meets its contract. Assumes nothing.
-use borrow.Author.Rules.{rules}
 use Rattle.changes.proofs.Proposals.{same-proposal}
 use Rattle.cuts.proofs.Tools.{sweep-proposes}
 use Rattle.cuts.proofs.each_cut.swept_over.Goals as goal

@@ -1,5 +1,4 @@
 -- `cuts::each_cut::thread` meets its contract. Assumes nothing.
-use borrow.Author.Rules.{rules}
 use Rattle.changes.proofs.Proposals.{same-proposal}
 use Rattle.cuts.proofs.Previews.{thread-propose}
 use Rattle.cuts.proofs.each_cut.thread.Goals as goal

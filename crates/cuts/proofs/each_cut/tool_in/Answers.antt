@@ -1,6 +1,5 @@
 -- `cuts::each_cut::tool_in` meets its contract. Assumes nothing.
 use native.Mathlib.Omega.{arith}
-use borrow.Author.Rules.{rules}
 use Rattle.changes.proofs.Proposals.{same-proposal}
 use Rattle.cuts.proofs.Tools.{in-single, in-nose, in-polygon}
 use Rattle.cuts.proofs.each_cut.tool_in.Goals as goal

@@ -1,5 +1,4 @@
 -- `cuts::each_cut::tool_inside` meets its contract. Assumes nothing.
-use borrow.Author.Rules.{rules}
 use Rattle.floats.specs.Pick.{picks}
 use Rattle.cuts.specs.Tool.{tool_inside}
 use Rattle.cuts.proofs.each_cut.tool_inside.Goals as goal

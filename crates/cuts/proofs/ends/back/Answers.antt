@@ -1,8 +1,6 @@
 -- `cuts::ends::back` meets its contract. Assumes nothing.
-use mathlib.Core.Path.{◌≡◌, sym, ◌∙◌}
-use Prim.Native.Nat.{◌≤◌}
+use mathlib.Core.Path.{sym, ◌∙◌}
 use native.Mathlib.Omega.{arith}
-use borrow.Author.Rules.{rules}
 use borrow.Author.Tests.{not-true, not-false}
 use Rattle.cuts.proofs.Grades.{before-pos}
 use Rattle.cuts.proofs.ends.back.Goals as goal

@@ -1,7 +1,5 @@
 -- `cuts::ends::before` meets its contract. Assumes nothing.
 use mathlib.Core.Path.{sym, ◌∙◌}
-use native.Mathlib.Omega.{arith}
-use borrow.Author.Rules.{rules}
 use Rattle.cuts.proofs.Grades.{before-none, before-some}
 use Rattle.cuts.proofs.ends.before.Goals as goal
 

@@ -1,5 +1,4 @@
 -- `cuts::ends::between` meets its contract. Assumes nothing.
-use borrow.Author.Rules.{rules}
 use Rattle.cuts.proofs.Grades.{between_none, between-some}
 use Rattle.cuts.proofs.ends.between.Goals as goal
 

@@ -1,10 +1,7 @@
 -- `cuts::ends::find` meets its contract. Assumes nothing.
-use mathlib.Core.Path.{◌≡◌, sym, ◌∙◌}
-use mathlib.Core.Bool.{true}
-use Prim.Native.Nat.{◌≤◌, ◌-◌}
+use mathlib.Core.Path.{sym, ◌∙◌}
 use native.Mathlib.Omega.{arith}
 use borrow.Author.Rules.{rules}
-use Rattle.cuts.specs.Rows.{before_of}
 use Rattle.cuts.proofs.Grades.{before-next, onward-lt, split}
 use Rattle.cuts.proofs.ends.find.Goals as goal
 

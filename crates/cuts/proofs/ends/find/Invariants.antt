@@ -1,11 +1,8 @@
 -- `cuts::ends::find` meets its contract. Assumes nothing.
-use mathlib.Core.Path.{◌≡◌, sym, ◌∙◌}
+use mathlib.Core.Path.{◌≡◌}
 use mathlib.Core.Bool.{true}
 use Prim.Native.Nat.{◌≤◌, ◌-◌}
-use native.Mathlib.Omega.{arith}
-use borrow.Author.Rules.{rules}
 use Rattle.cuts.specs.Rows.{before_of}
-use Rattle.cuts.proofs.Grades.{before-next, onward-lt, split}
 use Rattle.cuts.proofs.ends.find.Given as goal
 
 abbrev pub invariant-loop-s : goal.invariant-loop-s

@@ -1,5 +1,4 @@
 -- `cuts::ends::wider` meets its contract. Assumes nothing.
-use borrow.Author.Rules.{rules}
 use Rattle.cuts.proofs.ends.wider.Goals as goal
 
 pub returns : goal.returns

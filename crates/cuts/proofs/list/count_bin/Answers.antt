@@ -1,9 +1,6 @@
 -- `cuts::list::count_bin` meets its contract. Assumes nothing.
-use mathlib.Core.Path.{◌≡◌, sym, ap, ap₂, ◌∙◌}
-use borrow.Author.Rules.{rules}
-use Rattle.stock.specs.declared.TurnCell.{TurnCell}
+use mathlib.Core.Path.{sym, ap₂, ◌∙◌}
 use Rattle.stock.specs.Cell.{same_cell}
-use Rattle.reach.specs.Low.{low_paper}
 use Rattle.cuts.specs.Source.{source_act}
 use Rattle.cuts.proofs.EachBin.{bin-passed, bin-after, none-counted, one-counted}
 use Rattle.cuts.proofs.Left.{bin-left}
@@ -14,9 +11,8 @@ returns-then-leaves c = let a = c.args in
     none-counted _ _ _ _ (bin-left a.s a.source a.values.now a.there.now a.cells.now a.i _ c.cell_at-before.ensures (c.leaves.ensures c.if-leaves.true) c.requires.2)
 
 pub returns-in_default : goal.returns-in_default
-unfolding low_paper
 returns-in_default c = let a = c.args in
-    none-counted _ _ _ _ (bin-passed (source_act a.s a.source a.values.now a.there.now) a.cells.now a.i _ c.reach_at-reached.ensures (sym c.low_of-low.ensures ∙ ap low_paper c.in_default.is) c.requires.2)
+    none-counted _ _ _ _ (bin-passed (source_act a.s a.source a.values.now a.there.now) a.cells.now a.i _ c.reach_at-reached.ensures (sym c.low_of-low.ensures ∙ c.in_default.is) c.requires.2)
 
 pub returns-then-same_cell : goal.returns-then-same_cell
 returns-then-same_cell c = let a = c.args in

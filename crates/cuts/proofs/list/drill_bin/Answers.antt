@@ -3,13 +3,13 @@ use mathlib.Core.Path.{◌≡◌, sym, ap, ◌∙◌, subst}
 use mathlib.Core.Bool.{true}
 use Prim.Native.Nat.{◌%◌}
 use native.Mathlib.Omega.{arith}
-use borrow.Author.Rules.{rules}
 use Rattle.stock.specs.declared.TurnCell.{TurnCell}
 use Rattle.stock.specs.declared.TurnSide.TheVariants.{Inner}
 use Rattle.stock.specs.declared.ZRange.{ZRange}
 use Rattle.stock.specs.Bin.{bin_of}
 use Rattle.stock.specs.Cell.{cell_at, same_cell}
-use Rattle.reach.specs.Reach.{both, cut_cell, act_cell}
+use Rattle.reach.specs.declared.Reach.TheVariants.{Both}
+use Rattle.reach.specs.Reach.{cut_cell, act_cell}
 use Rattle.changes.proofs.Placed.{list_same}
 use Rattle.cuts.specs.Cut.{drill_at}
 use Rattle.cuts.specs.Source.{bore_act, drill_both}
@@ -35,4 +35,4 @@ returns c = let a = c.args in
     let bin = c.bin_of-bin.ensures ∙ ap (bin_of a.s) small in
     let low = c.drill_at-low.ensures ∙ ap (λ (x : ZRange). drill_at x.zb a.tip a.radius a.cone) bin in
     let high = c.kept-high.ensures ∙ ap (λ (x : ZRange). drill_at x.za a.tip a.radius a.cone) bin in
-    (listed-as (act_cell (bore_act a.s a.tip a.radius a.cone)) a.cells.now a.i _ _ _ _ c.cell_at-before.ensures (λ j. cut_cell Inner (c.cell_at-before.ensures j) (both (low j) (high j))) c.put_drill-k.ensures, c.drill_at-low.ensures)
+    (listed-as (act_cell (bore_act a.s a.tip a.radius a.cone)) a.cells.now a.i _ _ _ _ c.cell_at-before.ensures (λ j. cut_cell Inner (c.cell_at-before.ensures j) (Both (low j) (high j))) c.put_drill-k.ensures, c.drill_at-low.ensures)

@@ -2,7 +2,6 @@
 use mathlib.Core.Path.{ap}
 use native.Mathlib.Omega.{arith}
 use lib.ListN.{length}
-use borrow.Author.Rules.{rules}
 use Rattle.changes.proofs.Proposals.{settled-listed, settled-full}
 use Rattle.cuts.specs.Source.{source_act}
 use Rattle.cuts.proofs.Spans.{none-behind, span-most, listing-end}

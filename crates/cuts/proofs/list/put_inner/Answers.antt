@@ -1,5 +1,4 @@
 -- `cuts::list::put_inner` meets its contract. Assumes nothing.
-use borrow.Author.Rules.{rules}
 use Rattle.cuts.proofs.EachBin.{listed-cut}
 use Rattle.cuts.proofs.list.put_inner.Goals as goal
 

@@ -1,5 +1,4 @@
 -- `cuts::list::side_of` meets its contract. Assumes nothing.
-use borrow.Author.Rules.{rules}
 use Rattle.floats.specs.Pick.{picks}
 use Rattle.cuts.specs.Source.{source_side}
 use Rattle.cuts.proofs.list.side_of.Goals as goal

@@ -1,10 +1,9 @@
 -- `cuts::list::write` meets its contract. The loop's invariant: the changes of the cells passed are over the fronts of the lists. Assumes nothing.
 use mathlib.Core.Path.{◌≡◌, subst}
-use Prim.Native.Nat.{ℕ, ◌≤◌, ◌-◌}
+use Prim.Native.Nat.{ℕ}
 use native.Mathlib.Omega.{arith}
 use borrow.Author.Rules.{rules}
-use lib.ListN.{length}
-use Rattle.changes.specs.Change.{changes_to, room_of, Listing}
+use Rattle.changes.specs.Change.{Listing}
 use Rattle.changes.proofs.Placed.{listing-next, listing-lengths}
 use Rattle.reach.specs.Reach.{act_cell}
 use Rattle.cuts.specs.Source.{source_act, span_act}

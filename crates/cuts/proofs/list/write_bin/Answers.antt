@@ -1,10 +1,7 @@
 -- `cuts::list::write_bin` meets its contract. Assumes nothing.
-use mathlib.Core.Path.{refl, sym, ap, ◌∙◌}
-use borrow.Author.Rules.{rules}
+use mathlib.Core.Path.{refl, sym, ◌∙◌}
 use Rattle.stock.specs.declared.TurnSide.TheVariants.{Outer, Inner}
-use Rattle.reach.specs.Low.{low_paper}
 use Rattle.reach.specs.Reach.{act_cell}
-use Rattle.changes.specs.Change.{change_of, ListedOne}
 use Rattle.changes.proofs.Placed.{list_same}
 use Rattle.cuts.specs.Source.{source_act}
 use Rattle.cuts.proofs.EachBin.{bin-passed, bin-after, listed-as}
@@ -16,9 +13,8 @@ returns-then-leaves c = let a = c.args in
     list_same _ _ _ _ (bin-left a.s a.source a.values.now a.there.now a.cells.now a.i _ c.cell_at-before.ensures (c.leaves.ensures c.if-leaves.true) c.requires.1)
 
 pub returns-in_default : goal.returns-in_default
-unfolding low_paper
 returns-in_default c = let a = c.args in
-    list_same _ _ _ _ (bin-passed (source_act a.s a.source a.values.now a.there.now) a.cells.now a.i _ c.write_reach-reached.ensures (sym c.low_of-low.ensures ∙ ap low_paper c.in_default.is) c.requires.1)
+    list_same _ _ _ _ (bin-passed (source_act a.s a.source a.values.now a.there.now) a.cells.now a.i _ c.write_reach-reached.ensures (sym c.low_of-low.ensures ∙ c.in_default.is) c.requires.1)
 
 pub returns-in-Outer : goal.returns-in-Outer
 returns-in-Outer c = let a = c.args in

@@ -1,13 +1,11 @@
 -- `cuts::list::write_drill` meets its contract. The loop's invariant: the changes of the cells passed are over the fronts of the lists, and the radius in hand is the drill's. Assumes nothing.
 use mathlib.Core.Path.{◌≡◌, subst}
-use Prim.Native.Nat.{ℕ, ◌≤◌, ◌<◌, ◌-◌}
+use Prim.Native.Nat.{ℕ, ◌<◌}
 use native.Mathlib.Omega.{arith}
 use borrow.Author.Rules.{rules}
-use lib.ListN.{length}
-use Rattle.changes.specs.Change.{changes_to, room_of, Listing}
+use Rattle.changes.specs.Change.{Listing}
 use Rattle.changes.proofs.Placed.{listing-next, listing-lengths}
 use Rattle.reach.specs.Reach.{act_cell}
-use Rattle.cuts.specs.Cut.{drill_at}
 use Rattle.cuts.specs.Source.{bore_act, span_act}
 use Rattle.cuts.proofs.Spans.{none_before, span-room, span-next, change-of-in, all_held, listing_start}
 use Rattle.cuts.proofs.list.write_drill.Goals as goal
@@ -34,9 +32,6 @@ drill_bin-d-requires c = let a = c.args in
       span-next a.first a.last (bore_act a.s a.tip a.radius a.cone) a.cells.now a.indices.now _ a.records.now _ p.0 p.2 p.3 c.loop-i.i c.loop-i.d.k inv.0 w inv.4,
       inv.5,
     )
-
-pub loop-i-smaller : goal.loop-i-smaller
-loop-i-smaller c = omega (arith, c.loop-i.invariant.2)
 
 pub loop-i-preserved : goal.loop-i-preserved
 loop-i-preserved c = let a = c.args in

@@ -1,5 +1,4 @@
 -- `cuts::list::write_each` meets its contract. Assumes nothing.
-use borrow.Author.Rules.{rules}
 use Rattle.cuts.specs.Source.{source_act}
 use Rattle.cuts.specs.declared.list.Source.TheVariants as source
 use Rattle.cuts.proofs.Spans.{span-room, thread-listed, drill-listed, rows-listed}

@@ -1,13 +1,12 @@
 -- `cuts::list::write_thread` meets its contract. The loop's invariant: the changes of the cells passed are over the fronts of the lists. Assumes nothing.
 use mathlib.Core.Path.{◌≡◌, sym, ap, ◌∙◌, subst}
 use mathlib.Core.Bool.{true}
-use Prim.Native.Nat.{ℕ, ◌≤◌, ◌<◌, ◌-◌}
+use Prim.Native.Nat.{ℕ, ◌<◌}
 use native.Mathlib.Omega.{arith}
 use borrow.Author.Rules.{rules}
-use lib.ListN.{length}
 use Rattle.stock.specs.declared.TurnCell.{TurnCell}
 use Rattle.stock.specs.Cell.{same_cell}
-use Rattle.changes.specs.Change.{changes_to, room_of, Listing}
+use Rattle.changes.specs.Change.{Listing}
 use Rattle.changes.proofs.Placed.{listing-next, listing-lengths}
 use Rattle.reach.specs.Reach.{act_cell}
 use Rattle.cuts.specs.Source.{low_act, span_act, thread_change}
@@ -33,9 +32,6 @@ thread_bin-k-requires c = let a = c.args in
       span-next a.first a.last (low_act a.side a.radius) a.cells.now a.indices.now _ a.records.now _ p.0 p.1 p.2 c.loop-i.i c.loop-i.k inv.0 w inv.4,
       subst (λ (x : TurnCell). same_cell x x ≡ true) (sym c.cell_at-before.ensures) (p.1 c.loop-i.i w),
     )
-
-pub loop-i-smaller : goal.loop-i-smaller
-loop-i-smaller c = omega (arith, c.loop-i.invariant.2)
 
 pub loop-i-preserved : goal.loop-i-preserved
 loop-i-preserved c = let a = c.args in

@@ -1,13 +1,10 @@
 -- `cuts::nose_rows::fill` meets its contract. The loop's invariant: every bin holds what the rule has of the segments passed. Assumes nothing.
 use mathlib.Core.Path.{◌≡◌, refl, ap, ◌∙◌}
-use Prim.Native.Nat.{◌≤◌, ◌-◌}
 use native.Mathlib.Omega.{arith}
-use borrow.Author.Rules.{rules}
 use Rattle.nose.specs.declared.Segment.{Segment}
 use Rattle.nose.specs.Nose.{segment_count}
 use Rattle.nose.specs.Track.{track_of}
-use Rattle.cuts.specs.Rows.{row_at, RowFilled, Idle}
-use Rattle.cuts.proofs.Sweeps.{Even, filled_none, filled_more, idle-none, idle-all}
+use Rattle.cuts.proofs.Sweeps.{filled_none, filled_more, idle-none, idle-all}
 use Rattle.cuts.proofs.nose_rows.fill.Goals as goal
 
 pub loop-k-init : goal.loop-k-init
@@ -18,9 +15,6 @@ pub pass-seen-requires : goal.pass-seen-requires
 pass-seen-requires c = let e = c.loop-k.invariant.2 in
     let p = c.requires in
     (p.0, record { numbers = omega (arith, p.1.numbers); flags = omega (arith, p.1.flags) }, c.loop-k.invariant.4)
-
-pub overflow_add-k : goal.overflow_add-k
-overflow_add-k c = omega (arith, c.loop-k-test.true, c.loop-k.invariant.1)
 
 pub loop-k-preserved : goal.loop-k-preserved
 loop-k-preserved c = let l = c.loop-k in

@@ -1,6 +1,5 @@
 -- `cuts::nose_rows::pass` meets its contract. Assumes nothing.
 use native.Mathlib.Omega.{arith}
-use borrow.Author.Rules.{rules}
 use Rattle.cuts.proofs.Sweeps.{none-reached, all-passed, idle-more}
 use Rattle.cuts.proofs.nose_rows.pass.Goals as goal
 

@@ -1,9 +1,7 @@
 -- `cuts::nose_rows::rested` meets its contract. Assumes nothing.
-use Prim.Native.Nat.{◌≤◌, ◌-◌}
+use mathlib.Core.Path.{◌≡◌}
 use native.Mathlib.Omega.{arith}
-use borrow.Author.Rules.{rules}
 use borrow.Author.Tests.{not-false}
-use Rattle.cuts.specs.Rows.{row_at, Rested}
 use Rattle.cuts.proofs.Rests.{rested-none, rested-more}
 use Rattle.cuts.proofs.nose_rows.rested.Goals as goal
 
@@ -21,4 +19,6 @@ loop-i-preserved c = let l = c.loop-i in (
 )
 
 pub returns : goal.returns
-returns c = (c.loop-i.invariant.1, c.loop-i.invariant.2)
+returns c = let l = c.loop-i in
+    let e : l.i ≡ c.args.last = omega arith in
+    (omega arith, rw (← e) l.invariant.2)

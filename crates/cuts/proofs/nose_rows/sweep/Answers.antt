@@ -1,11 +1,7 @@
 -- `cuts::nose_rows::sweep` meets its contract. The loop's invariant: the bins passed hold one segment more, and the sample in hand is the one on its line. Assumes nothing.
 use mathlib.Core.Path.{◌≡◌, refl, ◌∙◌}
-use Prim.Native.Nat.{◌≤◌, ◌-◌}
 use native.Mathlib.Omega.{arith}
-use borrow.Author.Rules.{rules}
-use Rattle.nose.specs.Track.{sample_paper, sample_at}
-use Rattle.cuts.specs.Rows.{row_at, Stepped}
-use Rattle.cuts.proofs.Sweeps.{Even, stepped-none, stepped-more}
+use Rattle.cuts.proofs.Sweeps.{stepped-none, stepped-more}
 use Rattle.cuts.proofs.nose_rows.sweep.Goals as goal
 
 pub loop-i-init : goal.loop-i-init
@@ -18,9 +14,6 @@ pub touch-requires : goal.touch-requires
 touch-requires c = let e = c.loop-i.invariant.3 in
     let p = c.requires in
     (record { numbers = omega arith; flags = omega arith }, omega arith)
-
-pub overflow_add-i : goal.overflow_add-i
-overflow_add-i c = omega (arith, c.loop-i-test.true, c.requires.1)
 
 pub loop-i-preserved : goal.loop-i-preserved
 loop-i-preserved c = let l = c.loop-i in

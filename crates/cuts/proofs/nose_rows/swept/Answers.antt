@@ -1,9 +1,7 @@
 -- `cuts::nose_rows::swept` meets its contract. Assumes nothing.
 use mathlib.Core.Path.{◌≡◌, refl, ◌∙◌}
-use Prim.Native.Nat.{◌≤◌, ◌-◌}
 use native.Mathlib.Omega.{arith}
-use Rattle.cuts.specs.Rows.{row_at, Stepped}
-use Rattle.cuts.proofs.Sweeps.{Even, stepped-none}
+use Rattle.cuts.proofs.Sweeps.{stepped-none}
 use Rattle.cuts.proofs.Rests.{part-more}
 use Rattle.cuts.proofs.nose_rows.swept.Goals as goal
 

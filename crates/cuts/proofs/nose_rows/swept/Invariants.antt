@@ -1,10 +1,7 @@
 -- `cuts::nose_rows::swept` meets its contract. Assumes nothing.
-use mathlib.Core.Path.{◌≡◌, refl, ◌∙◌}
 use Prim.Native.Nat.{◌≤◌, ◌-◌}
-use native.Mathlib.Omega.{arith}
 use Rattle.cuts.specs.Rows.{row_at, Stepped}
-use Rattle.cuts.proofs.Sweeps.{Even, stepped-none}
-use Rattle.cuts.proofs.Rests.{part-more}
+use Rattle.cuts.proofs.Sweeps.{Even}
 use Rattle.cuts.proofs.nose_rows.swept.Given as goal
 
 abbrev pub invariant-loop-i : goal.invariant-loop-i

@@ -1,8 +1,7 @@
 -- `cuts::polygon_rows::cross` meets its contract. Assumes nothing.
+use Rattle.std.specs.Prelude.{Option}
 use mathlib.Core.Path.{ap, ◌∙◌}
-use mathlib.Core.Option.{Option}
 use lib.Ieee.{Float}
-use borrow.Author.Rules.{rules}
 use Rattle.polygon.specs.Polygon.{lowest_of}
 use Rattle.cuts.proofs.Crossings.{cross-skipped, cross-swept}
 use Rattle.cuts.proofs.polygon_rows.cross.Goals as goal

@@ -1,25 +1,20 @@
 -- `cuts::polygon_rows::fill` meets its contract. Assumes nothing.
-use mathlib.Core.Path.{◌≡◌, refl, sym, ap, ◌∙◌}
-use mathlib.Core.Option.{Option}
-use Prim.Native.Nat.{ℕ, ◌≤◌, ◌<◌}
+use mathlib.Core.Path.{◌≡◌, sym, ap, ◌∙◌}
 use native.Mathlib.Omega.{arith}
-use borrow.Author.Rules.{rules}
 use Rattle.stock.specs.declared.BinRange.{BinRange}
-use Rattle.polygon.specs.Polygon.{extent_paper, bins_of}
+use Rattle.polygon.specs.Polygon.{bins_of}
 use Rattle.polygon.proofs.Visits.{visits-range, spanned}
 use Rattle.cuts.proofs.Crossings.{says_none, says-crossed}
 use Rattle.cuts.proofs.polygon_rows.fill.Goals as goal
 
 pub returns-in_default : goal.returns-in_default
-unfolding extent_paper
-returns-in_default c = says_none _ _ _ _ _ (sym c.extent_of-extent.ensures ∙ ap extent_paper c.in_default.is)
+returns-in_default c = says_none _ _ _ _ _ (sym c.extent_of-extent.ensures ∙ c.in_default.is)
 
 pub sweep-requires : goal.sweep-requires
-unfolding extent_paper
 sweep-requires c = let a = c.args in
     let p = c.requires in
-    let lo = c.in-Over.lo in
-    let hi = c.in-Over.hi in
+    let lo = c.in-Some.field-0.lo in
+    let hi = c.in-Some.field-0.hi in
     let w = visits-range a.s lo hi a.n in
     let f : c.index_range-bins.result.from ≡ (bins_of a.s lo hi a.n).from = ap (λ (z : BinRange). z.from) c.index_range-bins.ensures in
     let t : c.index_range-bins.result.to ≡ (bins_of a.s lo hi a.n).to = ap (λ (z : BinRange). z.to) c.index_range-bins.ensures in
@@ -27,7 +22,7 @@ sweep-requires c = let a = c.args in
     let few = w.few in
     let p1 = p.1.numbers in
     let p2 = p.1.flags in (
-      sym c.extent_of-extent.ensures ∙ ap extent_paper c.in-Over.is,
+      sym c.extent_of-extent.ensures ∙ c.in-Some.is,
       λ j h l. spanned a.s lo hi a.n j (omega arith) (omega arith),
       omega arith,
       omega (arith, p.0),
@@ -36,5 +31,4 @@ sweep-requires c = let a = c.args in
     )
 
 pub returns : goal.returns
-unfolding extent_paper
-returns c = says-crossed _ _ _ _ _ _ _ (sym c.extent_of-extent.ensures ∙ ap extent_paper c.in-Over.is) _ c.clean-raise.ensures _ c.index_range-bins.ensures c.sweep.ensures
+returns c = says-crossed _ _ _ _ _ _ _ (sym c.extent_of-extent.ensures ∙ c.in-Some.is) _ c.clean-raise.ensures _ c.index_range-bins.ensures c.sweep.ensures

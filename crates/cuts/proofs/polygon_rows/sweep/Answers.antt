@@ -1,11 +1,6 @@
 -- `cuts::polygon_rows::sweep` meets its contract. The loop's invariant: the bins passed say what is reached there, and the sample in hand is the one on its line. Assumes nothing.
 use mathlib.Core.Path.{◌≡◌, refl, ◌∙◌}
-use Prim.Native.Nat.{◌≤◌, ◌-◌}
 use native.Mathlib.Omega.{arith}
-use borrow.Author.Rules.{rules}
-use Rattle.polygon.specs.Polygon.{polygon_reach}
-use Rattle.cuts.specs.Rows.{row_at, Sampled, Crossed}
-use Rattle.cuts.proofs.Sweeps.{Even}
 use Rattle.cuts.proofs.Crossings.{crossed-none, crossed-more}
 use Rattle.cuts.proofs.polygon_rows.sweep.Goals as goal
 
@@ -24,9 +19,6 @@ cross-held-requires c = let inv = c.loop-i.invariant in
       omega (arith, below, p.3),
       inv.4.over c.loop-i.i (omega arith) ∙ p.5 c.loop-i.i inv.0 below,
     )
-
-pub overflow_add-i : goal.overflow_add-i
-overflow_add-i c = omega (arith, c.loop-i-test.true, c.requires.3)
 
 pub loop-i-preserved : goal.loop-i-preserved
 loop-i-preserved c = let l = c.loop-i in

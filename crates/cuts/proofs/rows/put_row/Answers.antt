@@ -1,6 +1,4 @@
 -- `cuts::rows::put_row` meets its contract. Assumes nothing.
-use native.Mathlib.Omega.{arith}
-use borrow.Author.Rules.{rules}
 use Rattle.cuts.proofs.Places.{put_both}
 use Rattle.cuts.proofs.rows.put_row.Goals as goal
 

@@ -1,5 +1,4 @@
 -- `cuts::rows::row_at` meets its contract. Assumes nothing.
-use borrow.Author.Rules.{rules}
 use Rattle.cuts.proofs.rows.row_at.Goals as goal
 
 pub returns : goal.returns

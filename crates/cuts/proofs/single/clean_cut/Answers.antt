@@ -1,5 +1,4 @@
 -- `cuts::single::clean_cut` meets its contract. Assumes nothing.
-use borrow.Author.Rules.{rules}
 use Rattle.floats.specs.Pick.{picks}
 use Rattle.cuts.specs.Cut.{clean_cut}
 use Rattle.cuts.proofs.single.clean_cut.Goals as goal

@@ -1,5 +1,4 @@
 -- `cuts::single::cut_good` meets its contract. Assumes nothing.
-use borrow.Author.Rules.{rules}
 use Rattle.floats.specs.Pick.{picks}
 use Rattle.cuts.specs.Cut.{cut_good}
 use Rattle.cuts.proofs.single.cut_good.Goals as goal

@@ -1,6 +1,5 @@
 -- `cuts::unchanged::leaves` meets its contract. Assumes nothing.
 use mathlib.Core.Bool.{false≢true}
-use borrow.Author.Rules.{rules}
 use Rattle.cuts.proofs.Left.{thread-source, drill-source}
 use Rattle.cuts.proofs.unchanged.leaves.Goals as goal
 

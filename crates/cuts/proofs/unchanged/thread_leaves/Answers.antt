@@ -1,5 +1,4 @@
 -- `cuts::unchanged::thread_leaves` meets its contract. Assumes nothing.
-use borrow.Author.Rules.{rules}
 use Rattle.cuts.proofs.Left.{outer-leaves, inner-leaves}
 use Rattle.cuts.proofs.unchanged.thread_leaves.Goals as goal
 

@@ -1,7 +1,8 @@
 -- `envelope::segments::taken` meets its contract. Assumes nothing.
+use Rattle.std.specs.Prelude.{Option, Some}
 use mathlib.Core.Path.{sym, ap, ap₂, ◌∙◌}
-use mathlib.Core.Option.{Option, some}
-use Rattle.envelope.specs.Envelope.{Radii, taken}
+use Rattle.envelope.specs.declared.Radii.{Radii}
+use Rattle.envelope.specs.Envelope.{taken}
 use Rattle.envelope.proofs.Aside.{found-one, found_none, found_some}
 use Rattle.envelope.proofs.segments.taken.Goals as goal
 
@@ -13,4 +14,4 @@ returns-then-r-eq0 c = let a = c.args in
 pub returns : goal.returns
 unfolding taken
 returns c = let a = c.args in
-    found-one _ _ ∙ ap₂ (λ x y. some (record { lowest = x; highest = y })) c.least.ensures c.greatest.ensures ∙ ap (λ (o : Option Radii). taken o a.v) (sym (found_some a.r c.if-r-eq0.false))
+    found-one _ _ ∙ ap₂ (λ x y. Some (record { lowest = x; highest = y })) c.least.ensures c.greatest.ensures ∙ ap (λ (o : Option Radii). taken o a.v) (sym (found_some a.r c.if-r-eq0.false))

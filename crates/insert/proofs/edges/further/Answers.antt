@@ -1,17 +1,16 @@
 -- `insert::edges::further` meets its contract. Assumes nothing.
 use Rattle.floats.specs.Pick.{picks}
-use Rattle.envelope.specs.Halving.{radius_of}
 use Rattle.insert.specs.Insert.{further}
 use Rattle.insert.proofs.edges.further.Goals as goal
 
-pub returns-in-Nowhere : goal.returns-in-Nowhere
-unfolding further radius_of
-returns-in-Nowhere c = search (picks, c.in-Nowhere.is)
+pub returns-in_default : goal.returns-in_default
+unfolding further
+returns-in_default c = search (picks, c.in_default.is)
 
-pub returns-in-Nowhere-b : goal.returns-in-Nowhere-b
-unfolding further radius_of
-returns-in-Nowhere-b c = search (picks, c.in-Nowhere-b.is, c.in-At.is)
+pub returns-in_default-b : goal.returns-in_default-b
+unfolding further
+returns-in_default-b c = search (picks, c.in-Some.is, c.in_default-b.is)
 
-pub returns-in-At-b : goal.returns-in-At-b
-unfolding further radius_of
-returns-in-At-b c = search (picks, ← c.chosen.ensures, c.in-At-b.is, c.in-At.is)
+pub returns : goal.returns
+unfolding further
+returns c = search (picks, ← c.chosen.ensures, c.in-Some.is, c.in-Some-b.is)

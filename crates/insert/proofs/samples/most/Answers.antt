@@ -1,5 +1,4 @@
 -- `insert::samples::most` meets its contract. Assumes nothing.
-use borrow.Author.Rules.{rules}
 use mathlib.Core.Path.{◌≡◌, sym, ap, ◌∙◌}
 use Prim.Native.Nat.{◌-◌, ◌+◌, ◌/◌}
 use native.Mathlib.Omega.{arith}
@@ -17,17 +16,17 @@ returns-then-n-eq0 c = sym (pick_true _ _ _ (eq-eqb _ _ c.if-n-eq0.true))
 
 pub loop-i-init : goal.loop-i-init
 unfolding most_to u_at
-loop-i-init c = (search rules, search rules, c.clean-found.ensures)
+loop-i-init c = c.clean-found.ensures
 
 pub loop-i-preserved : goal.loop-i-preserved
 unfolding u_at
 loop-i-preserved c = let a = c.args in
     let l = c.loop-i in
     let e : l.i + 1 - 1 ≡ l.i = omega arith in
-    (search rules, search rules, rw (e, most-more a.w a.points.now l.i l.invariant.0, ← l.invariant.2, ← c.clean.ensures) c.chosen-found.ensures)
+    rw (e, most-more a.w a.points.now l.i (omega arith), ← l.invariant, ← c.clean.ensures) c.chosen-found.ensures
 
 pub returns : goal.returns
 unfolding most_of
 returns c = let l = c.loop-i in
     let e : l.i - 1 ≡ length c.args.points.now / 2 - 1 = omega arith in
-    l.invariant.2 ∙ ap (most_to c.args.w c.args.points.now) e ∙ sym (pick-false _ _ _ (ne_eqb _ _ c.if-n-eq0.false))
+    l.invariant ∙ ap (most_to c.args.w c.args.points.now) e ∙ sym (pick-false _ _ _ (ne_eqb _ _ c.if-n-eq0.false))

@@ -1,14 +1,12 @@
 -- `passes::lists::are_good` meets its contract. Assumes nothing.
 use mathlib.Core.Path.{◌≡◌, refl, sym, ap, ap₂, ◌∙◌}
 use mathlib.Core.Bool.{Bool, not, ◌&&◌}
-use Prim.Native.Nat.{◌≤◌, ◌-◌}
 use native.Mathlib.Omega.{arith}
 use borrow.Author.Tests.{lt-leb, le-leb}
 use lib.ListN.{length}
 use Rattle.passes.specs.Cuts.{pass_limit}
 use Rattle.passes.specs.Check.{outside_to}
 use Rattle.passes.proofs.Loops.{outside-more}
-use borrow.Author.Rules.{rules}
 use Rattle.passes.proofs.lists.are_good.Goals as goal
 
 pub returns-then-kinds-gt-PASS_LIMIT : goal.returns-then-kinds-gt-PASS_LIMIT

@@ -7,7 +7,6 @@ use lib.ListN.{length}
 use Rattle.stock.proofs.Count.{and_both}
 use Rattle.passes.specs.Cuts.{cuts_of}
 use Rattle.passes.proofs.Decoded.{lies, beside-is, beside_none}
-use borrow.Author.Rules.{rules}
 use Rattle.passes.proofs.lists.beside_at.Goals as goal
 
 pub bounds-parts-k : goal.bounds-parts-k

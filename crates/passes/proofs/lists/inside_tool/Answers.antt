@@ -2,7 +2,6 @@
 use mathlib.Core.Path.{◌∙◌}
 use native.Mathlib.Omega.{arith}
 use Rattle.passes.proofs.Decoded.{is-inner-line, is-inner-thread, is-inner-nose, is-inner-polygon, is-drill, is_none}
-use borrow.Author.Rules.{rules}
 use Rattle.passes.proofs.lists.inside_tool.Goals as goal
 
 pub returns-then-kind-eq4 : goal.returns-then-kind-eq4

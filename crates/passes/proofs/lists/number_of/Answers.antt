@@ -2,7 +2,6 @@
 use mathlib.Core.Path.{sym}
 use lib.ListN.{get_or-eq_default}
 use lib.Ieee.{nan, div, of_bits}
-use borrow.Author.Rules.{rules}
 use Rattle.passes.proofs.lists.number_of.Goals as goal
 
 pub returns : goal.returns

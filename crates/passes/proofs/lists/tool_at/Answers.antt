@@ -3,7 +3,6 @@ use mathlib.Core.Path.{sym, ap₂, ◌∙◌}
 use mathlib.Core.Bool.{Bool, not, ◌&&◌}
 use Rattle.passes.specs.Cuts.{cuts_of, number_of}
 use Rattle.passes.proofs.Decoded.{tool-lacks, tool-is, six-are}
-use borrow.Author.Rules.{rules}
 use Rattle.passes.proofs.lists.tool_at.Goals as goal
 
 pub returns-then-is_swept-part_lies : goal.returns-then-is_swept-part_lies

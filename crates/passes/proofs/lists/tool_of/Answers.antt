@@ -1,7 +1,6 @@
 -- `passes::lists::tool_of` meets its contract. Assumes nothing.
 use mathlib.Core.Path.{◌∙◌}
 use Rattle.passes.proofs.Decoded.{is-line, is-thread, is-nose, is-polygon, is-arc}
-use borrow.Author.Rules.{rules}
 use Rattle.passes.proofs.lists.tool_of.Goals as goal
 
 pub returns-then-kind-eq0 : goal.returns-then-kind-eq0

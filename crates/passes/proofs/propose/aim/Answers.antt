@@ -1,5 +1,4 @@
 -- `passes::propose::aim` meets its contract. Assumes nothing.
-use borrow.Author.Rules.{rules}
 use Rattle.passes.specs.Propose.{aim_of}
 use Rattle.passes.proofs.propose.aim.Goals as goal
 

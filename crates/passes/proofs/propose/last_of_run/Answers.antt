@@ -1,7 +1,6 @@
 -- `passes::propose::last_of_run` meets its contract. Assumes nothing.
 use mathlib.Core.Path.{sym, ap, ◌∙◌}
 use mathlib.Core.Bool.{not}
-use borrow.Author.Rules.{rules}
 use borrow.Author.Tests.{eq-eqb, ne_eqb}
 use Rattle.floats.specs.Pick.{pick_true, pick-false}
 use Rattle.passes.specs.Propose.{last_of_run}

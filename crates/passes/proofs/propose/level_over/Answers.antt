@@ -1,5 +1,4 @@
 -- `passes::propose::level_over` meets its contract. Assumes nothing.
-use borrow.Author.Rules.{rules}
 use Rattle.passes.proofs.propose.level_over.Goals as goal
 
 pub returns : goal.returns

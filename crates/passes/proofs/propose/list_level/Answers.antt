@@ -1,7 +1,6 @@
 -- `passes::propose::list_level` meets its contract. Assumes nothing.
 use mathlib.Core.Path.{subst}
 use Prim.Native.Nat.{ℕ, ◌<◌, ◌≤◌}
-use borrow.Author.Rules.{rules}
 use borrow.Author.Tests.{not-true, not-false}
 use Rattle.passes.proofs.Levels.{list-none, list_full, list_put}
 use Rattle.passes.proofs.propose.list_level.Goals as goal

@@ -1,6 +1,5 @@
 -- `passes::propose::pass_start` meets its contract. Assumes nothing.
 use mathlib.Core.Path.{sym, ◌∙◌}
-use borrow.Author.Rules.{rules}
 use borrow.Author.Tests.{eq-eqb, ne_eqb}
 use Rattle.floats.specs.Pick.{pick_true, pick-false}
 use Rattle.passes.specs.Propose.{pass_start}

@@ -1,5 +1,4 @@
 -- `passes::propose::same_target` meets its contract. Assumes nothing.
-use borrow.Author.Rules.{rules}
 use Rattle.passes.proofs.propose.same_target.Goals as goal
 
 pub returns : goal.returns

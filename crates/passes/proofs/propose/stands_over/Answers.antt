@@ -1,5 +1,4 @@
 -- `passes::propose::stands_over` meets its contract. Assumes nothing.
-use borrow.Author.Rules.{rules}
 use Rattle.passes.proofs.propose.stands_over.Goals as goal
 
 pub returns : goal.returns

@@ -1,12 +1,12 @@
 -- `passes::propose::write_passes` meets its contract. The loop's invariant: the passes of the runs that ended are over the fronts of the lists, and of the open run its first bin is known and whether some bin stands over its target. Assumes nothing.
 use mathlib.Core.Path.{◌≡◌, subst, ap}
 use mathlib.Core.Bool.{Bool, ◌||◌}
-use Prim.Native.Nat.{ℕ, ◌≤◌, ◌-◌}
+use Prim.Native.Nat.{ℕ}
 use native.Mathlib.Omega.{arith}
 use borrow.Author.Rules.{rules}
 use lib.ListN.{take}
 use Rattle.passes.specs.Propose.{open_to, room_in, Listing}
-use Rattle.passes.proofs.Runs.{Reached, reached-none, reached-next}
+use Rattle.passes.proofs.Runs.{reached-none, reached-next}
 use Rattle.passes.proofs.Levels.{taken-lengths}
 use Rattle.passes.proofs.Writing.{written_none, written_next}
 use Rattle.passes.proofs.propose.write_passes.Goals as goal

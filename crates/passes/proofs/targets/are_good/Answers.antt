@@ -1,6 +1,5 @@
 -- `passes::targets::are_good` meets its contract. Assumes nothing.
 use native.Mathlib.Omega.{arith}
-use borrow.Author.Rules.{rules}
 use Rattle.passes.proofs.Runs.{targets-not, targets-are}
 use Rattle.passes.proofs.targets.are_good.Goals as goal
 

@@ -1,16 +1,12 @@
 -- `passes::targets::first_miss` meets its contract. Assumes nothing.
 use mathlib.Core.Path.{◌≡◌, sym, ap, ◌∙◌}
 use mathlib.Core.Bool.{◌&&◌}
-use mathlib.Core.Option.{none}
-use Prim.Native.Nat.{◌*◌, ◌≤◌, ◌-◌}
 use native.Mathlib.Omega.{arith}
 use borrow.Author.Tests.{not-true, not-false}
-use lib.ListN.{length}
 use lib.Ieee.{le}
 use Rattle.stock.specs.declared.TurnCell.{TurnCell}
 use Rattle.passes.specs.Check.{lower_at, upper_at, first_miss}
 use Rattle.passes.proofs.Loops.{missed-at, met-more, met-none}
-use borrow.Author.Rules.{rules}
 use Rattle.passes.proofs.targets.first_miss.Goals as goal
 
 pub loop-i-init : goal.loop-i-init

@@ -1,7 +1,6 @@
 -- `passes::targets::is_met` meets its contract. Assumes nothing.
 use mathlib.Core.Bool.{◌&&◌}
 use lib.Ieee.{le}
-use borrow.Author.Rules.{rules}
 use Rattle.passes.proofs.targets.is_met.Goals as goal
 
 pub returns : goal.returns

@@ -1,5 +1,4 @@
 -- `passes::targets::target_good` meets its contract. Assumes nothing.
-use borrow.Author.Rules.{rules}
 use Rattle.passes.proofs.targets.target_good.Goals as goal
 
 pub returns : goal.returns

@@ -1,6 +1,5 @@
 -- `passes::targets::targets_to` meets its contract. The loop's invariant: what is found so far is said of the bins passed. Assumes nothing.
 use mathlib.Core.Path.{◌≡◌, refl}
-use Prim.Native.Nat.{◌≤◌, ◌-◌}
 use native.Mathlib.Omega.{arith}
 use borrow.Author.Rules.{rules}
 use Rattle.passes.specs.Check.{targets_to}

@@ -2,7 +2,6 @@
 use native.Mathlib.Omega.{arith}
 use mathlib.Core.Path.{◌∙◌, sym}
 use Rattle.rings.proofs.Boxes.{block_apart}
-use borrow.Author.Rules.{rules}
 use Rattle.rings.proofs.fit.apart_block.Goals as goal
 
 pub returns-then-is_apart : goal.returns-then-is_apart

@@ -3,22 +3,15 @@ use native.Mathlib.Omega.{arith}
 use mathlib.Core.Path.{sym}
 use mathlib.Core.Bool.{true}
 use Rattle.rings.proofs.Removing.{count-over, count-within}
-use borrow.Author.Rules.{rules}
 use Rattle.rings.proofs.fit.count_fits.Goals as goal
 
 pub returns-then-room_of-count : goal.returns-then-room_of-count
 returns-then-room_of-count c = let room_of = c.room_of in
     count-over c.args.e c.args.rings.now c.args.count room_of.result room_of.ensures c.if-room_of-count.true
 
-pub sweep_fits-requires : goal.sweep_fits-requires
-sweep_fits-requires c = let e = c.room_of.ensures in (omega arith, omega arith)
-
 pub returns-then-sweep_fits : goal.returns-then-sweep_fits
 returns-then-sweep_fits c = let room_of = c.room_of in
     count-within c.args.e c.args.rings.now c.args.count room_of.result true room_of.ensures c.if-room_of-count.false (sym (c.sweep_fits.ensures c.if-sweep_fits.true))
-
-pub store_fits-requires : goal.store_fits-requires
-store_fits-requires c = let e = c.room_of.ensures in (omega arith, omega arith)
 
 pub returns : goal.returns
 returns c = let room_of = c.room_of in

@@ -1,6 +1,5 @@
 -- `rings::fit::ring_fits` meets its contract. Assumes nothing.
 use Rattle.rings.specs.Store.{ring_fits}
-use borrow.Author.Rules.{rules}
 use Rattle.rings.proofs.fit.ring_fits.Goals as goal
 
 pub returns : goal.returns

@@ -1,11 +1,10 @@
 -- `rings::fit::sweep_fits` meets its contract. Assumes nothing.
-use mathlib.Core.Bool.{true, false, false≢true}
+use mathlib.Core.Bool.{false≢true}
 use Rattle.rings.proofs.Sweeping.{both, swept-fits}
-use borrow.Author.Rules.{rules}
 use Rattle.rings.proofs.fit.sweep_fits.Goals as goal
 
-pub returns-then-n-le-BLOCK : goal.returns-then-n-le-BLOCK
-returns-then-n-le-BLOCK c = λ e. absurd (false≢true e)
+pub returns-then-stored-le-BLOCK : goal.returns-then-stored-le-BLOCK
+returns-then-stored-le-BLOCK c = λ e. absurd (false≢true e)
 
 pub returns-then-rises : goal.returns-then-rises
 returns-then-rises c = λ e. absurd (false≢true e)

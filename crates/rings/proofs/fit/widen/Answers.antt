@@ -1,12 +1,10 @@
 -- `rings::fit::widen` meets its contract. Assumes nothing.
-use native.Mathlib.Omega.{arith}
 use mathlib.Core.Path.{ap, ◌∙◌}
 use lib.Dec.{eqb}
 use Prim.Native.Nat.{◌/◌, ◌%◌}
 use Rattle.rings.specs.declared.Ring.{Ring}
 use Rattle.rings.specs.Store.{write}
 use Rattle.rings.specs.Block.{box_with, boxes_with}
-use borrow.Author.Rules.{rules}
 use Rattle.rings.proofs.fit.widen.Goals as goal
 
 pub returns : goal.returns

@@ -3,7 +3,6 @@ use mathlib.Core.Path.{sym, ◌∙◌}
 use Rattle.floats.specs.Pick.{pick_true, pick-false}
 use Rattle.rings.specs.Block.{box_with}
 use Rattle.rings.proofs.Flat.{same-ring}
-use borrow.Author.Rules.{rules}
 use Rattle.rings.proofs.fit.widened.Goals as goal
 
 pub returns-then-first : goal.returns-then-first

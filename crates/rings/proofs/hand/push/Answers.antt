@@ -1,12 +1,10 @@
 -- `rings::hand::push` meets its contract. Assumes nothing.
-use native.Mathlib.Omega.{arith}
 use Rattle.rings.proofs.InHand.{grows-written, grows-over}
 use mathlib.Core.Path.{subst, sym}
 use mathlib.Core.List.{List, [], ◌∷◌}
 use lib.Ieee.{Float}
 use Prim.Native.Nat.{◌+◌}
 use Rattle.rings.specs.Hand.{Grows}
-use borrow.Author.Rules.{rules}
 use Rattle.rings.proofs.hand.push.Goals as goal
 
 pub returns-then-room-n : goal.returns-then-room-n

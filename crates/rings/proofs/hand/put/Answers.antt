@@ -1,7 +1,6 @@
 -- `rings::hand::put` meets its contract. Assumes nothing.
 use mathlib.Core.Path.{◌∙◌, sym}
 use Rattle.rings.proofs.InHand.{grows-kept, grows-dropped}
-use borrow.Author.Rules.{rules}
 use Rattle.rings.proofs.hand.put.Goals as goal
 
 pub returns-then-is_filled : goal.returns-then-is_filled

@@ -1,7 +1,6 @@
 -- `rings::hand::split_into` meets its contract. Assumes nothing.
 use mathlib.Core.Path.{◌∙◌, sym}
 use Rattle.rings.proofs.InHand.{grows-whole, grows-around}
-use borrow.Author.Rules.{rules}
 use Rattle.rings.proofs.hand.split_into.Goals as goal
 
 pub returns-then-is_apart : goal.returns-then-is_apart

@@ -1,7 +1,6 @@
 -- `rings::lent::write_ring` meets its contract. Assumes nothing.
 use native.Mathlib.Omega.{arith}
 use lib.ListN.{length-set}
-use borrow.Author.Rules.{rules}
 use Rattle.rings.proofs.lent.write_ring.Goals as goal
 
 pub bounds-rings-at-2 : goal.bounds-rings-at-2

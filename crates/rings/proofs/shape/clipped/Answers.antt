@@ -3,7 +3,6 @@ use mathlib.Core.Path.{◌∙◌, ap}
 use Rattle.rings.specs.Ring.{common, clip}
 use Rattle.rings.specs.declared.Ring.{Ring}
 use Rattle.rings.proofs.Flat.{same-ring}
-use borrow.Author.Rules.{rules}
 use Rattle.rings.proofs.shape.clipped.Goals as goal
 
 pub returns : goal.returns

@@ -1,7 +1,6 @@
 -- `rings::shape::is_finite_ring` meets its contract. Assumes nothing.
 use mathlib.Core.Path.{ap₂}
 use mathlib.Core.Bool.{◌&&◌}
-use borrow.Author.Rules.{rules}
 use Rattle.rings.proofs.shape.is_finite_ring.Goals as goal
 
 pub returns : goal.returns

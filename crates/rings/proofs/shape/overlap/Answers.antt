@@ -1,5 +1,4 @@
 -- `rings::shape::overlap` meets its contract. Assumes nothing.
-use borrow.Author.Rules.{rules}
 use Rattle.rings.proofs.shape.overlap.Goals as goal
 
 pub returns : goal.returns

@@ -3,11 +3,10 @@ use native.Mathlib.Omega.{arith}
 use mathlib.Core.Path.{refl}
 use Rattle.rings.proofs.Adding.{added-pieces, adds-as}
 use Rattle.rings.proofs.Tested.{all-counted}
-use borrow.Author.Rules.{rules}
 use Rattle.rings.proofs.store.add_few_pieces.Goals as goal
 
 pub cut_ring-cut-requires : goal.cut_ring-cut-requires
-cut_ring-cut-requires c = (omega arith, omega arith, refl, refl)
+cut_ring-cut-requires c = (omega arith, omega arith)
 
 pub returns-then-cut-gt-FEW : goal.returns-then-cut-gt-FEW
 returns-then-cut-gt-FEW c = c.add_pieces.ensures

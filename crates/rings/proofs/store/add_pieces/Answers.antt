@@ -4,15 +4,14 @@ use mathlib.Core.Path.{refl}
 use Rattle.refusals.specs.declared.Refusal.TheVariants.{RingsOverRoom}
 use Rattle.rings.proofs.Adding.{stores-refused, added-over, added-pieces, adds-as}
 use Rattle.rings.proofs.Tested.{all-counted}
-use borrow.Author.Rules.{rules}
 use Rattle.rings.proofs.store.add_pieces.Goals as goal
 
 pub cut_ring-cut-requires : goal.cut_ring-cut-requires
-cut_ring-cut-requires c = (omega arith, omega arith, refl, refl)
+cut_ring-cut-requires c = (omega arith, omega arith)
 
 pub returns-then-cut-gt-PIECE_LIMIT : goal.returns-then-cut-gt-PIECE_LIMIT
 returns-then-cut-gt-PIECE_LIMIT c = let cut-ring = c.cut_ring-cut in
-    record { stores = stores-refused _ _ RingsOverRoom (added-over c.args.room c.args.count 256 c.args.c c.args.rings.now _ cut-ring.result.left cut-ring.ensures.pieces refl c.if-cut-gt-PIECE_LIMIT.true); tests = tt }
+    record { stores = stores-refused _ _ _ RingsOverRoom refl (added-over c.args.room c.args.count 256 c.args.c c.args.rings.now _ cut-ring.result.left cut-ring.ensures.pieces refl c.if-cut-gt-PIECE_LIMIT.true); tests = tt }
 
 pub store_pieces-requires : goal.store_pieces-requires
 store_pieces-requires c = let s = c.cut_ring-cut.ensures.pieces.size in

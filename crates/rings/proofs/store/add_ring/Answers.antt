@@ -1,10 +1,8 @@
 -- `rings::store::add_ring` meets its contract. Assumes nothing.
-use native.Mathlib.Omega.{arith}
 use mathlib.Core.Path.{◌∙◌, sym}
 use borrow.Author.Tests.{not-true, not-false}
 use Rattle.rings.proofs.Adding.{adds_none, adds-full, adds-whole}
 use Rattle.rings.proofs.Tested.{tests-empty, tests-whole}
-use borrow.Author.Rules.{rules}
 use Rattle.rings.proofs.store.add_ring.Goals as goal
 
 pub returns-then-not-is_filled : goal.returns-then-not-is_filled

@@ -2,7 +2,6 @@
 use native.Mathlib.Omega.{arith}
 use mathlib.Core.Path.{refl}
 use Rattle.rings.proofs.Adding.{stores-past, stores-pieces}
-use borrow.Author.Rules.{rules}
 use Rattle.rings.proofs.store.store_pieces.Goals as goal
 
 pub returns-then-room-count : goal.returns-then-room-count

@@ -1,10 +1,7 @@
 -- `text::digits::places` meets its contract. Assumes nothing.
-use Rattle.std.proofs.Common.{◌≡◌, ◌+◌, ◌-◌, ◌≤◌}
+use Rattle.std.proofs.Common.{◌≡◌, ◌+◌, ◌-◌}
 use Rattle.text.specs.Digits.{more}
 use Rattle.text.proofs.digits.places.Given as goal
 
 abbrev pub invariant-loop-k : goal.invariant-loop-k
-invariant-loop-k l = (l.k ≤ 19) × (more 19 l.n ≡ l.k + more (19 - l.k) l.rest)
-
-abbrev pub decreases-loop-k : goal.decreases-loop-k
-decreases-loop-k l = 19 - l.k
+invariant-loop-k l = (more 19 l.n ≡ l.k + more (19 - l.k) l.rest)

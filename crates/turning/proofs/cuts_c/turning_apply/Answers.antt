@@ -1,5 +1,4 @@
 -- `turning::cuts_c::turning_apply` meets its contract. Assumes nothing.
-use borrow.Author.Rules.{rules}
 use Rattle.turning.proofs.Given.{gives-stock, same-commit, same-stock}
 use Rattle.turning.proofs.cuts_c.turning_apply.Goals as goal
 

@@ -1,5 +1,4 @@
 -- `turning::cuts_c::turning_changes_to` meets its contract. Assumes nothing.
-use borrow.Author.Rules.{rules}
 use Rattle.turning.proofs.Given.{gives-changes, same-difference, same-stock}
 use Rattle.turning.proofs.cuts_c.turning_changes_to.Goals as goal
 

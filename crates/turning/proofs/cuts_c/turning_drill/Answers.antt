@@ -1,5 +1,4 @@
 -- `turning::cuts_c::turning_drill` meets its contract. Assumes nothing.
-use borrow.Author.Rules.{rules}
 use Rattle.turning.proofs.Given.{gives-changes, same-preview, same-stock}
 use Rattle.turning.proofs.cuts_c.turning_drill.Goals as goal
 

@@ -1,6 +1,5 @@
 -- `turning::file_c::code_of` meets its contract. Assumes nothing.
 use mathlib.Core.Path.{sym, ◌∙◌}
-use borrow.Author.Rules.{rules}
 use Rattle.floats.specs.Pick.{pick_true, pick-false}
 use Rattle.turning.proofs.file_c.code_of.Goals as goal
 

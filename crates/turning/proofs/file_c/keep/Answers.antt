@@ -1,5 +1,4 @@
 -- `turning::file_c::keep` meets its contract. Assumes nothing.
-use borrow.Author.Rules.{rules}
 use Rattle.turning.proofs.Filing.{kept-reading}
 use Rattle.turning.proofs.file_c.keep.Goals as goal
 

@@ -1,5 +1,4 @@
 -- `turning::file_c::reading_of` meets its contract. Assumes nothing.
-use borrow.Author.Rules.{rules}
 use Rattle.turning.proofs.Filing.{reading-is}
 use Rattle.turning.proofs.file_c.reading_of.Goals as goal
 

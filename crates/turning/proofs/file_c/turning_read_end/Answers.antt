@@ -1,5 +1,4 @@
 -- `turning::file_c::turning_read_end` meets its contract. Assumes nothing.
-use borrow.Author.Rules.{rules}
 use Rattle.turning.proofs.Filing.{gives-kept, told_is}
 use Rattle.turning.proofs.file_c.turning_read_end.Goals as goal
 

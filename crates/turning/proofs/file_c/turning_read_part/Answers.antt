@@ -1,5 +1,4 @@
 -- `turning::file_c::turning_read_part` meets its contract. Assumes nothing.
-use borrow.Author.Rules.{rules}
 use Rattle.turning.specs.Files.{flat_of}
 use Rattle.turning.proofs.Filing.{part-refused, part-taken}
 use Rattle.turning.proofs.file_c.turning_read_part.Goals as goal

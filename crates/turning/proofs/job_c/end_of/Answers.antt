@@ -1,5 +1,4 @@
 -- `turning::job_c::end_of` meets its contract. Assumes nothing.
-use borrow.Author.Rules.{rules}
 use Rattle.turning.proofs.Keeping.{end_is}
 use Rattle.turning.proofs.job_c.end_of.Goals as goal
 

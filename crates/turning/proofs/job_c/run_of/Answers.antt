@@ -1,5 +1,4 @@
 -- `turning::job_c::run_of` meets its contract. Assumes nothing.
-use borrow.Author.Rules.{rules}
 use Rattle.turning.proofs.Keeping.{run_is}
 use Rattle.turning.proofs.job_c.run_of.Goals as goal
 

@@ -1,5 +1,4 @@
 -- `turning::job_c::turning_job_finish` meets its contract. Assumes nothing.
-use borrow.Author.Rules.{rules}
 use Rattle.turning.proofs.Keeping.{ends-well, ends-refused}
 use Rattle.turning.proofs.job_c.turning_job_finish.Goals as goal
 

@@ -1,5 +1,4 @@
 -- `turning::job_c::turning_job_output` meets its contract. Assumes nothing.
-use borrow.Author.Rules.{rules}
 use Rattle.turning.proofs.Keeping.{writes-job}
 use Rattle.turning.proofs.job_c.turning_job_output.Goals as goal
 

@@ -1,6 +1,5 @@
 -- `turning::passes_c::turning_check_passes` meets its contract. Assumes nothing.
 use lib.ListN.{length}
-use borrow.Author.Rules.{rules}
 use Rattle.stock.specs.declared.TurnStock.{TurnStock}
 use Rattle.passes.specs.Cuts.{cuts_of}
 use Rattle.passes.specs.Check.{check_of}

@@ -1,7 +1,6 @@
 -- `turning::profile_c::turning_segments` meets its contract. Assumes nothing.
-use borrow.Author.Rules.{rules}
 use Rattle.turning.proofs.Given.{gives-chords}
 use Rattle.turning.proofs.profile_c.turning_segments.Goals as goal
 
 pub returns : goal.returns
-returns c = gives-chords _ _ _ _ _ _ _ _ c.give_chords.ensures c.segments-answer.ensures
+returns c = gives-chords _ _ _ _ _ _ _ _ c.give.ensures c.segments-answer.ensures

@@ -1,5 +1,4 @@
 -- `turning::rings_c::turning_remove_ring` meets its contract. Assumes nothing.
-use borrow.Author.Rules.{rules}
 use Rattle.stock.specs.declared.TurnStock.{TurnStock}
 use Rattle.rings.specs.Ring.{ring}
 use Rattle.rings.specs.Remove.{remove_ring}

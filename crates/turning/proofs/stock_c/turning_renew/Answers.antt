@@ -1,5 +1,4 @@
 -- `turning::stock_c::turning_renew` meets its contract. Assumes nothing.
-use borrow.Author.Rules.{rules}
 use Rattle.turning.proofs.Blocks.{gives-blocks, same_blocks}
 use Rattle.turning.proofs.stock_c.turning_renew.Goals as goal
 

@@ -1,6 +1,5 @@
 -- `turning::sweeps_c::turning_preview` meets its contract. Assumes nothing.
 use lib.ListN.{length}
-use borrow.Author.Rules.{rules}
 use Rattle.stock.specs.declared.TurnSide.{TurnSide}
 use Rattle.changes.specs.Change.{room_of}
 use Rattle.cuts.specs.Preview.{preview_nose}

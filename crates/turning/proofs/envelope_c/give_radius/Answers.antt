@@ -1,7 +1,0 @@
--- `turning::envelope_c::give_radius` meets its contract. Assumes nothing.
-use borrow.Author.Rules.{rules}
-use Rattle.turning.proofs.envelope_c.give_radius.Goals as goal
-
-pub returns-in-Refused : goal.returns-in-Refused
-returns-in-Refused c = let e = c.in-Refused.is in
-    record { code = search (rules, e); found = search (rules, e); out = search (rules, e) }

@@ -1,7 +1,0 @@
--- `turning::insert_c::turning_excess` meets its contract. Assumes nothing.
-use borrow.Author.Rules.{rules}
-use Rattle.turning.proofs.Given.{gives_found}
-use Rattle.turning.proofs.insert_c.turning_excess.Goals as goal
-
-pub returns : goal.returns
-returns c = gives_found _ _ _ _ _ _ _ c.excess.ensures c.give_touch.ensures

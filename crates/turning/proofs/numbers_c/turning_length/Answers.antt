@@ -1,7 +1,0 @@
--- `turning::numbers_c::turning_length` meets its contract. Assumes nothing.
-use borrow.Author.Rules.{rules}
-use Rattle.turning.proofs.Given.{gives}
-use Rattle.turning.proofs.numbers_c.turning_length.Goals as goal
-
-pub returns : goal.returns
-returns c = gives _ _ _ _ _ c.length.ensures c.give.ensures
