@@ -34,23 +34,6 @@ pub fn blocks_in(n: usize) -> usize
     if n % BLOCK == 0 { whole } else { whole + 1 }
 }
 
-// The bin behind block j.
-fn block_end(n: usize, j: usize) -> usize
-    requires { block_bins * j < n }
-    ensures { result ≡ block_end n j }
-{
-    let from = BLOCK * j;
-    if n - from < BLOCK { n } else { from + BLOCK }
-}
-
-// Block j of n bins, worked out of the cells.
-fn block_of(s: TurnStockSpec, n: usize, cells: &[f64], j: usize) -> Band
-    requires { block_bins * j < n }
-    ensures { result ≡ block_of s n cells.now j }
-{
-    bins::fold(bins::no_material(s), cells, BLOCK * j, block_end(n, j))
-}
-
 // Block j of lent numbers.
 fn block_at(blocks: &[f64], j: usize) -> Band
     ensures { result ≡ block_at blocks.now j }
@@ -107,38 +90,117 @@ fn whole_matches(s: TurnStockSpec, cells: &[f64], kept: Band, a: usize) -> bool
     bins_match(s, kept, &whole)
 }
 
-// The numbers `kept` are those of block j of n bins.
-fn block_matches(s: TurnStockSpec, n: usize, cells: &[f64], kept: Band, j: usize) -> bool
-    requires { block_bins * j < n }
-    ensures { result ≡ same_block kept (block_of s n cells.now j) }
-{
-    let from = BLOCK * j;
-    let to = block_end(n, j);
-    if cells.len() / 4 < to {
-        let found = block_of(s, n, cells, j);
-        return (kept.outer == found.outer) & (kept.bore == found.bore);
-    }
-    if to - from == BLOCK {
-        return whole_matches(s, cells, kept, from);
-    }
-    let bins = Bins {
-        cells,
-        a: from,
-        e: to,
-    };
-    bins_match(s, kept, &bins)
+// Block j of the cells, one that they have.
+#[derive(Clone, Copy)]
+struct Block<'a> {
+    of: &'a Cells<'a>,
+    j: usize,
+    ghost has_bins: { block_bins * j < of.now.n },
 }
 
-// The first `count` blocks are those of the cells.
-fn match_to(s: TurnStockSpec, n: usize, cells: &[f64], blocks: &[f64], count: usize) -> bool
-    requires { count ≤ blocks_in n }
-    ensures { result ≡ match_to s n cells.now blocks.now count }
-{
-    let mut ok = true;
-    for j in 0..count {
-        ok = ok & block_matches(s, n, cells, block_at(blocks, j), j);
+impl<'a> Block<'a> {
+    // The bin behind it.
+    fn end(&self) -> usize
+        ensures { result ≡ block_end self.now.of.now.n self.now.j }
+    {
+        let n = self.of.n;
+        let from = BLOCK * self.j;
+        if n - from < BLOCK { n } else { from + BLOCK }
     }
-    ok
+
+    // Its numbers, worked out of the cells.
+    fn band(&self) -> Band
+        ensures { result ≡ block_of self.now.of.now.s self.now.of.now.n self.now.of.now.cells.now self.now.j }
+    {
+        let to = self.end();
+        let none = bins::no_material(self.of.s);
+        bins::fold(none, self.of.cells, BLOCK * self.j, to)
+    }
+
+    // The numbers `kept` are its own.
+    fn matches(&self, kept: Band) -> bool
+        ensures { result ≡ same_block kept (block_of self.now.of.now.s self.now.of.now.n self.now.of.now.cells.now self.now.j) }
+    {
+        let s = self.of.s;
+        let cells = self.of.cells;
+        let to = self.end();
+        let from = BLOCK * self.j;
+        if cells.len() / 4 < to {
+            let found = self.band();
+            return (kept.outer == found.outer) & (kept.bore == found.bore);
+        }
+        if to - from == BLOCK {
+            return whole_matches(s, cells, kept, from);
+        }
+        let bins = Bins {
+            cells,
+            a: from,
+            e: to,
+        };
+        bins_match(s, kept, &bins)
+    }
+}
+
+// n cells of a stock, whose spec is checked.
+#[derive(Clone, Copy)]
+struct Cells<'a> {
+    s: TurnStockSpec,
+    n: usize,
+    cells: &'a [f64],
+}
+
+impl<'a> Cells<'a> {
+    // The first `count` blocks are those of the cells.
+    fn match_to(&self, blocks: &[f64], count: usize) -> bool
+        requires { count ≤ blocks_in self.now.n }
+        ensures { result ≡ match_to self.now.s self.now.n self.now.cells.now blocks.now count }
+    {
+        let mut ok = true;
+        for j in 0..count {
+            let block = Block { of: &*self, j };
+            ok = ok & block.matches(block_at(blocks, j));
+        }
+        ok
+    }
+
+    // All blocks, written over as many numbers.
+    fn write_all(&self, blocks: &mut [f64], count: usize)
+        requires { (count ≡ blocks_in self.now.n) × (length blocks.old ≡ 2 * count) }
+        ensures { blocks.new ≡ blocks_of self.now.s self.now.n self.now.cells.now }
+    {
+        for j in 0..count {
+            let block = Block { of: &*self, j };
+            put_block(blocks, j, block.band());
+        }
+    }
+
+    // The blocks in which the first k bins of a list lie, worked out; k at most as many as the list has.
+    fn renew_over(&self, blocks: &mut [f64], indices: &[usize], k: usize)
+        requires { k ≤ length indices.now }
+        ensures { blocks.new ≡ renew_over self.now.s self.now.n self.now.cells.now blocks.old (take k indices.now) }
+    {
+        let mut block = blocks_in(self.n);
+        for i in 0..k {
+            block = leave_block(self.s, self.n, self.cells, blocks, block, indices[i]);
+        }
+        renew_block(self.s, self.n, self.cells, blocks, block);
+    }
+
+    // What may remain over a range, by kept numbers: none of these is asked.
+    fn kept_between(&self, blocks: &[f64], lo: f64, hi: f64) -> Option<Band>
+        ensures { result ≡ kept_between self.now.s self.now.n self.now.cells.now blocks.now lo hi }
+    {
+        let s = self.s;
+        if !((lo <= hi) & (s.z_min_mm <= hi) & (lo <= s.z_max_mm)) {
+            return None;
+        }
+        let from = floats::greatest(lo, s.z_min_mm);
+        let to = floats::least(hi, s.z_max_mm);
+        let bins = bins_over(s, self.n, from, to);
+        let first = bins.first;
+        let last = bins.last;
+        queries::shown(most_kept(s, self.cells, blocks, first, last + 1))
+    }
 }
 
 // The lent numbers are those of n cells, in a spec whose numbers are checked.
@@ -149,7 +211,8 @@ pub fn matches(s: TurnStockSpec, n: usize, cells: &[f64], blocks: &[f64]) -> boo
     if blocks.len() != 2 * count {
         return false;
     }
-    match_to(s, n, cells, blocks, count)
+    let own = Cells { s, n, cells };
+    own.match_to(blocks, count)
 }
 
 // The number of cells of a stock whose cells fit and whose kept numbers match them; 1, 2, 3, 20.
@@ -163,16 +226,6 @@ pub fn kept_cells(spec: TurnStockSpec, cells: &[f64], blocks: &[f64]) -> Result<
     Err(Refusal::BlocksDoNotMatch)
 }
 
-// All blocks of n cells, written over as many numbers.
-fn write_all(s: TurnStockSpec, n: usize, cells: &[f64], blocks: &mut [f64], count: usize)
-    requires { (count ≡ blocks_in n) × (length blocks.old ≡ 2 * count) }
-    ensures { blocks.new ≡ blocks_of s n cells.now }
-{
-    for j in 0..count {
-        put_block(blocks, j, block_of(s, n, cells, j));
-    }
-}
-
 // All blocks of n cells, worked out of them; nothing where the lent numbers are not as many.
 pub fn renew_all(s: TurnStockSpec, n: usize, cells: &[f64], blocks: &mut [f64])
     ensures { blocks.new ≡ renewed_all s n cells.now blocks.old }
@@ -181,7 +234,8 @@ pub fn renew_all(s: TurnStockSpec, n: usize, cells: &[f64], blocks: &mut [f64])
     if blocks.len() != 2 * count {
         return;
     }
-    write_all(s, n, cells, blocks, count);
+    let own = Cells { s, n, cells };
+    own.write_all(blocks, count);
 }
 
 // All blocks of a stock, worked out of its cells: how many cells those are; 1, 2, 3, and 20 where
@@ -194,7 +248,12 @@ pub fn renew(spec: TurnStockSpec, cells: &[f64], blocks: &mut [f64]) -> Result<u
     if blocks.len() != 2 * count {
         return Err(Refusal::BlocksDoNotMatch);
     }
-    write_all(stock::clean_spec(spec), n, cells, blocks, count);
+    let own = Cells {
+        s: stock::clean_spec(spec),
+        n,
+        cells,
+    };
+    own.write_all(blocks, count);
     Ok(n)
 }
 
@@ -214,7 +273,9 @@ pub fn renew_block(s: TurnStockSpec, n: usize, cells: &[f64], blocks: &mut [f64]
     if blocks_in(n) <= j {
         return;
     }
-    let fresh = block_of(s, n, cells, j);
+    let own = Cells { s, n, cells };
+    let block = Block { of: &own, j };
+    let fresh = block.band();
     put_block(blocks, j, fresh);
 }
 
@@ -238,26 +299,6 @@ pub fn leave_block(
     block
 }
 
-// The blocks in which the first k bins of a list lie, worked out of the cells; k at most as many as
-// the list has.
-fn renew_over(
-    s: TurnStockSpec,
-    n: usize,
-    cells: &[f64],
-    blocks: &mut [f64],
-    indices: &[usize],
-    k: usize,
-)
-    requires { k ≤ length indices.now }
-    ensures { blocks.new ≡ renew_over s n cells.now blocks.old (take k indices.now) }
-{
-    let mut block = blocks_in(n);
-    for i in 0..k {
-        block = leave_block(s, n, cells, blocks, block, indices[i]);
-    }
-    renew_block(s, n, cells, blocks, block);
-}
-
 // The kept numbers after changes of the first k bins of a list, or of all where it has fewer: each
 // number cleared, and the blocks of these bins worked out of the cells afterwards.
 pub fn renew_changed(
@@ -271,14 +312,8 @@ pub fn renew_changed(
     ensures { blocks.new ≡ renewed_for s n cells.now indices.now k blocks.old }
 {
     clear(blocks);
-    renew_over(
-        s,
-        n,
-        cells,
-        blocks,
-        indices,
-        numbers::lesser(k, indices.len()),
-    );
+    let own = Cells { s, n, cells };
+    own.renew_over(blocks, indices, numbers::lesser(k, indices.len()));
 }
 
 // The kept blocks from a up to e, onto k.
@@ -318,28 +353,6 @@ fn bins_over(s: TurnStockSpec, n: usize, lo: f64, hi: f64) -> BinSpan
     }
 }
 
-// What may remain over a range of n cells, by kept numbers: none of these is asked.
-fn kept_between(
-    s: TurnStockSpec,
-    n: usize,
-    cells: &[f64],
-    blocks: &[f64],
-    lo: f64,
-    hi: f64,
-) -> Option<Band>
-    ensures { result ≡ kept_between s n cells.now blocks.now lo hi }
-{
-    if !((lo <= hi) & (s.z_min_mm <= hi) & (lo <= s.z_max_mm)) {
-        return None;
-    }
-    let from = floats::greatest(lo, s.z_min_mm);
-    let to = floats::least(hi, s.z_max_mm);
-    let bins = bins_over(s, n, from, to);
-    let first = bins.first;
-    let last = bins.last;
-    queries::shown(most_kept(s, cells, blocks, first, last + 1))
-}
-
 // What may remain over a range of a stock of n cells, by kept numbers that are not asked again.
 // `range` is this after its check; a caller who asks many ranges of one stock has had it once.
 pub fn range_kept(
@@ -352,8 +365,12 @@ pub fn range_kept(
 ) -> Option<Band>
     ensures { RangeKept spec n cells.now blocks.now lo hi result }
 {
-    let s = stock::clean_spec(spec);
-    kept_between(s, n, cells, blocks, floats::clean(lo), floats::clean(hi))
+    let own = Cells {
+        s: stock::clean_spec(spec),
+        n,
+        cells,
+    };
+    own.kept_between(blocks, floats::clean(lo), floats::clean(hi))
 }
 
 // The most material that may remain between two heights, from bore to outer radius: over the bins

@@ -1,7 +1,8 @@
 // What is left of a part, or of a bore's room, within a tolerance along u: the ends of the window from
 // u - t to u + t are sampled, and every point's u strictly between them.
 ghost use Rattle.std.specs.Prelude.{◌≡◌, true, ◌*◌, ◌+◌, ◌≤◌, length, take};
-ghost use Rattle.insert.specs.Insert.{most_of, Looks, Bored, Held, HeldTo, bore_at, sample_at, both, with_inside, sampled_in, moved, moved_of, offset_of};
+ghost use Rattle.insert.specs.Insert.{most_of, end_of, Looks, Bored, Held, HeldTo, bore_at, sample_at, both, with_inside, sampled_in, moved, moved_of, offset_of};
+ghost use Rattle.insert.specs.declared.Which.TheVariants.{Least, Greatest};
 ghost use Rattle.envelope.specs.Envelope.{u_at, span_of, points_good, order_of};
 
 use super::{Which, chosen};
@@ -42,10 +43,11 @@ pub fn most(points: &[f64], w: Which) -> f64
     found
 }
 
-// Accepted points beside their order.
+// The order, and the ends of the bore where one is asked.
 fn look_of(points: &[f64], order: i8, w: Which) -> Look
-    requires { (points_good points.now ≡ true) × (order ≡ order_of points.now) }
-    ensures { Looks w points.now result }
+    ensures order { result.order ≡ order }
+    ensures front { result.front ≡ end_of w (most_of Greatest points.now) }
+    ensures deepest { result.deepest ≡ end_of w (most_of Least points.now) }
 {
     match w {
         Which::Least => Look {

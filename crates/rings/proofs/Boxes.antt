@@ -211,14 +211,10 @@ pub checked-start : (e : Ring) (rings boxes : List Float) → length boxes ≡ 6
 unfolding store_fits rings_of
 checked-start e rings boxes h = record { size = h; found = refl; boxes-about = λ _. record { boxed = λ j l. absurd (omega arith) } }
 
-size-with : (boxes : List Float) (i : ℕ) (q : Ring) → length (boxes_with boxes i q) ≡ length boxes
-unfolding boxes_with
-size-with boxes i q = simp length-set refl
-
 pub checked-next : (e : Ring) (rings : List Float) (i : ℕ) (boxes boxes' : List Float) (ok fit far : Bool) (q : Ring) → i < 256 → Checked e rings i boxes ok → q ≡ ring_at rings i → fit ≡ ring_fits e q
-    → (Boxed boxes rings i → far ≡ apart_all (rings_of i rings) q) → boxes' ≡ boxes_with boxes i q → Checked e rings (i + 1) boxes' (ok && fit && far)
-checked-next e rings i boxes boxes' ok fit far q l c qs f a w =
-    record { size = ap length w ∙ size-with boxes i q ∙ c.size; found = find ok c.found c.boxes-about; boxes-about = λ t. about t }
+    → (Boxed boxes rings i → far ≡ apart_all (rings_of i rings) q) → length boxes' ≡ length boxes → boxes' ≡ boxes_with boxes i q → Checked e rings (i + 1) boxes' (ok && fit && far)
+checked-next e rings i boxes boxes' ok fit far q l c qs f a s w =
+    record { size = s ∙ c.size; found = find ok c.found c.boxes-about; boxes-about = λ t. about t }
   where
     find : (ok : Bool) → ok ≡ store_fits e (rings_of i rings) → (ok ≡ true → Boxed boxes rings i) → (ok && fit && far) ≡ store_fits e (rings_of (i + 1) rings)
     find false o x = goes_on (store_fits e) (λ l q. ring_fits e q && apart_all l q) (store_fits-snoc e) rings i q false (ring_fits e q && apart_all (rings_of i rings) q) o qs refl

@@ -3,7 +3,7 @@
 // A box is kept about each block of 16 rings, so that a ring which is apart from the box is found apart
 // from the whole block at once. Rings that come in no order make boxes about all: a sweep is tried
 // first (`swept`).
-ghost use Rattle.std.specs.Prelude.{◌≡◌, true, ◌+◌, ◌*◌, ◌/◌, ◌≤◌, ◌<◌, min, length};
+ghost use Rattle.std.specs.Prelude.{◌≡◌, true, ◌+◌, ◌*◌, ◌/◌, ◌≤◌, min, length};
 ghost use Rattle.rings.specs.Store.{rings_of, ring_fits, apart_all, store_fits, count_fits};
 ghost use Rattle.rings.specs.Swept.{Each};
 ghost use Rattle.rings.specs.Block.{box_with, boxes_with, BoxAbout, Boxed};
@@ -46,8 +46,8 @@ fn widened(first: bool, b: Ring, q: Ring) -> Ring
 }
 
 // The box of a block widened about its next ring, the ring i.
-fn widen(boxes: &mut [f64; 64], i: usize, q: Ring)
-    requires { i < 256 }
+fn widen(boxes: &mut [f64], i: usize, q: Ring)
+    requires { 4 * (i / 16) + 4 ≤ length boxes.old }
     ensures { boxes.new ≡ boxes_with boxes.old i q }
 {
     let at = i / BLOCK;
@@ -67,27 +67,29 @@ fn apart_block(rings: &[f64], from: usize, to: usize, b: Ring, k: Ring, before: 
 }
 
 // As `apart_from`, block by block.
-fn apart_blocks(stored: Stored, boxes: &[f64; 64], k: Ring) -> bool
-    ensures { Boxed boxes.now stored.entry.rings.now stored.entry.n → result ≡ apart_all (rings_of stored.entry.n stored.entry.rings.now) k }
+fn apart_blocks(rings: &[f64], n: usize, boxes: &[f64], k: Ring) -> bool
+    requires { (4 * n ≤ length rings.now) × (n ≤ 256) × (length boxes.now ≡ 64) }
+    ensures { Boxed boxes.now rings.now n → result ≡ apart_all (rings_of n rings.now) k }
 {
     let mut ok = true;
-    for at in 0..stored.n.div_ceil(BLOCK) {
+    for at in 0..n.div_ceil(BLOCK) {
         let from = BLOCK * at;
-        let to = numbers::lesser(from + BLOCK, stored.n);
-        ok = apart_block(stored.rings, from, to, lent::ring_at(boxes, at), k, ok);
+        let to = numbers::lesser(from + BLOCK, n);
+        ok = apart_block(rings, from, to, lent::ring_at(boxes, at), k, ok);
     }
     ok
 }
 
-// Each of the rings fits, and no two overlap.
-fn store_fits(e: Ring, stored: Stored) -> bool
-    ensures { result ≡ store_fits e (rings_of stored.entry.n stored.entry.rings.now) }
+// Each of the first n rings fits, and no two overlap.
+fn store_fits(e: Ring, rings: &[f64], n: usize) -> bool
+    requires { (4 * n ≤ length rings.now) × (n ≤ 256) }
+    ensures { result ≡ store_fits e (rings_of n rings.now) }
 {
     let mut boxes = [0.0f64; 64];
     let mut ok = true;
-    for i in 0..stored.n {
-        let q = stored.at(i);
-        ok = ok & ring_fits(e, q) & apart_blocks(stored.first(i), &boxes, q);
+    for i in 0..n {
+        let q = lent::ring_at(rings, i);
+        ok = ok & ring_fits(e, q) & apart_blocks(rings, i, &boxes, q);
         widen(&mut boxes, i, q);
     }
     ok
@@ -141,5 +143,5 @@ pub fn count_fits(e: Ring, rings: &[f64], count: usize) -> bool
     if sweep_fits(e, stored) {
         return true;
     }
-    store_fits(e, stored)
+    store_fits(e, rings, count)
 }

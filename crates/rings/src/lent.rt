@@ -21,17 +21,6 @@ impl<'a> Stored<'a> {
     {
         ring_at(self.rings, i)
     }
-
-    // The first n of them.
-    pub fn first(self, n: usize) -> Stored<'a>
-        requires { n ≤ self.n }
-        ensures { (result.rings ≡ self.entry.rings) × (result.n ≡ n) }
-    {
-        Stored {
-            rings: self.rings,
-            n,
-        }
-    }
 }
 
 pub fn ring_at(rings: &[f64], i: usize) -> Ring

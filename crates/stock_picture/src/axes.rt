@@ -79,11 +79,9 @@ fn z_ticks(rt: &HostRuntime, out: Out, gathered: &mut [u8; GATHERED], frame: Fra
     let step = step_for(frame.along, label_room(frame));
     let base = first_tick(frame.spec.z_min_mm, step);
     let mut o = out;
-    let mut k: u64 = 0;
-    while k < TICKS {
+    for k in 0..TICKS {
         let z = base + std::num::nearest_u64_to_f64(k) * step;
         o = z_tick_at(rt, o, gathered, frame, z);
-        k += 1;
     }
     o
 }
@@ -92,16 +90,9 @@ fn z_ticks(rt: &HostRuntime, out: Out, gathered: &mut [u8; GATHERED], frame: Fra
 fn r_ticks(rt: &HostRuntime, out: Out, gathered: &mut [u8; GATHERED], frame: Frame) -> Out {
     let step = step_for(frame.up, 7.0);
     let mut o = out;
-    let mut k: u64 = 0;
-    while k < TICKS {
-        o = r_tick_at(
-            rt,
-            o,
-            gathered,
-            frame,
-            std::num::nearest_u64_to_f64(k) * step,
-        );
-        k += 1;
+    for k in 0..TICKS {
+        let r = std::num::nearest_u64_to_f64(k) * step;
+        o = r_tick_at(rt, o, gathered, frame, r);
     }
     o
 }

@@ -47,11 +47,7 @@ fn read_named(
 
 // The first n fours of numbers, all where there are fewer.
 fn first_fours(xs: &[f64], n: usize) -> &[f64] {
-    if xs.len() / 4 < n {
-        return xs;
-    }
-    let end = 4 * n;
-    &xs[..end]
+    xs.get(..n.saturating_mul(4)).unwrap_or(xs)
 }
 
 // Gathers the line of a file that is refused; nothing where it tells a stock.

@@ -96,24 +96,13 @@ pub fn count_after(
 
 // The greatest nice scale by which an extent finds room.
 pub fn scale_for(extent: f64, room: f64) -> f64 {
-    let mut k = LAST_SCALE;
-    while 0 < k {
-        if extent * NICE[k] <= room {
-            return NICE[k];
-        }
-        k -= 1;
-    }
-    NICE[0]
+    let mut scales = NICE[..=LAST_SCALE].iter().rev();
+    let fitting = scales.find(|scale| extent * **scale <= room);
+    fitting.copied().unwrap_or(NICE[0])
 }
 
 // The least nice step of so much on paper at least, under a scale.
 pub fn step_for(scale: f64, room: f64) -> f64 {
-    let mut k: usize = 0;
-    while k < LAST {
-        if room <= NICE[k] * scale {
-            return NICE[k];
-        }
-        k += 1;
-    }
-    NICE[LAST]
+    let wide = NICE.iter().find(|step| room <= **step * scale);
+    wide.copied().unwrap_or(NICE[LAST])
 }

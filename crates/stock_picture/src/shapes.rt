@@ -9,7 +9,7 @@ use text::LINE_ROOM;
 
 // How many bins a stretch has.
 fn bins(s: Stretch) -> usize {
-    if s.from < s.to { s.to - s.from } else { 0 }
+    s.to.saturating_sub(s.from)
 }
 
 // One side of a contour.
@@ -189,10 +189,8 @@ fn rings_to(
     n: usize,
 ) -> Out {
     let mut o = out;
-    let mut i: usize = 0;
-    while i < n {
+    for i in 0..n {
         o = ring(rt, o, gathered, z_min, ring_at(rings, i));
-        i += 1;
     }
     o
 }
@@ -211,18 +209,6 @@ fn all_rings(
     say(rt, b, gathered, b"\"/>\n")
 }
 
-// The first n pieces.
-fn pieces_to(
-    rt: &HostRuntime,
-    out: Out,
-    gathered: &mut [u8; GATHERED],
-    z_min: f64,
-    pieces: &[f64; 1024],
-    n: usize,
-) -> Out {
-    rings_to(rt, out, gathered, z_min, pieces, n)
-}
-
 // What the others leave of a ring.
 fn left(
     rt: &HostRuntime,
@@ -233,9 +219,8 @@ fn left(
     others: &[f64],
 ) -> Out {
     let mut pieces = [0.0f64; 1024];
-    let left = rings::left_of(others, others.len() / 4, q, &mut pieces);
-    match left {
-        Ok(n) => pieces_to(rt, out, gathered, z_min, &pieces, n),
+    match rings::left_of(others, others.len() / 4, q, &mut pieces) {
+        Ok(n) => rings_to(rt, out, gathered, z_min, &pieces, n),
         Err(_) => out,
     }
 }
@@ -252,10 +237,8 @@ fn all_left(
 ) -> Out {
     let n = rings.len() / 4;
     let mut o = say(rt, out, gathered, opening);
-    let mut i: usize = 0;
-    while i < n {
+    for i in 0..n {
         o = left(rt, o, gathered, z_min, ring_at(rings, i), others);
-        i += 1;
     }
     say(rt, o, gathered, b"\"/>\n")
 }

@@ -26,10 +26,8 @@ fn main(rt: HostRuntime) {
         return;
     }
     let pairs = streams::argument_count(&rt) / 2;
-    let mut k: usize = 0;
-    while k < pairs {
+    for k in 0..pairs {
         compare_pair(&rt, 2 * k + 1);
-        k += 1;
     }
     many::say_all();
 }

@@ -7,10 +7,7 @@ const ROOM: usize = 16388;
 
 // The first n numbers of a room, or none.
 fn front(xs: &[f64], n: usize) -> &[f64] {
-    if n <= xs.len() {
-        return &xs[..n];
-    }
-    &xs[..0]
+    xs.get(..n).unwrap_or(&[])
 }
 
 // Chunk c of two stocks without rings.

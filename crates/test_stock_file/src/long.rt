@@ -113,13 +113,7 @@ fn count_of(long: Long) -> usize {
 // The sum of a file's bytes.
 fn sum_made(long: Long) -> u64 {
     let count = count_of(long);
-    let mut s: u64 = 0;
-    let mut k: usize = 0;
-    while k < count {
-        s = sum_line(s, long, k);
-        k += 1;
-    }
-    s
+    (0..count).fold(0, |s, k| sum_line(s, long, k))
 }
 
 // The first n bytes of a line read.
@@ -157,10 +151,8 @@ fn read(long: Long, cells: &mut [f64], rings: &mut [f64]) -> Result<Kept, Refuse
         len: 0,
     };
     let count = count_of(long);
-    let mut k: usize = 0;
-    while k < count {
+    for k in 0..count {
         t = take(t, long, k, cells, rings, &mut line);
-        k += 1;
     }
     let reading = t.reading;
     stock_file::finish(reading, t.len, MAX_CELLS, cells, rings)
@@ -176,13 +168,7 @@ fn sum_spelled(before: u64, stock: TurnStock, cells: &[f64], rings: &[f64], k: u
 // The sum of a stock's file.
 fn sum_lines(stock: TurnStock, cells: &[f64], rings: &[f64]) -> u64 {
     let count = shown::lines_of(stock, cells, rings);
-    let mut s: u64 = 0;
-    let mut k: usize = 0;
-    while k < count {
-        s = sum_spelled(s, stock, cells, rings, k);
-        k += 1;
-    }
-    s
+    (0..count).fold(0, |s, k| sum_spelled(s, stock, cells, rings, k))
 }
 
 fn sum_written(kept: Result<Kept, Refused>, cells: &[f64], rings: &[f64]) -> u64 {

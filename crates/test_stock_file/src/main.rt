@@ -28,17 +28,11 @@ const MAX_CELLS: usize = 512;
 
 // The bytes before a place, and those from it on; past the end, all and none.
 pub fn before(bytes: &[u8], at: usize) -> &[u8] {
-    if bytes.len() < at {
-        return bytes;
-    }
-    &bytes[..at]
+    bytes.get(..at).unwrap_or(bytes)
 }
 
 pub fn behind(bytes: &[u8], at: usize) -> &[u8] {
-    if bytes.len() < at {
-        return before(bytes, 0);
-    }
-    &bytes[at..]
+    bytes.get(at..).unwrap_or(&[])
 }
 
 // The first n numbers of a room, or none.
@@ -74,13 +68,12 @@ fn read_in_parts(
         reading: stock_file::fresh(),
         len: 0,
     };
-    let mut i: usize = 0;
-    while i < MOST {
+    for part in bytes.chunks(7) {
         let reading = t.reading;
-        let part = before(behind(bytes, i), 7);
         t = stock_file::take_part(reading, cells, rings, &mut line, t.len, part);
-        i += 7;
     }
+    let reading = t.reading;
+    let t = stock_file::take_part(reading, cells, rings, &mut line, t.len, &[]);
     let reading = t.reading;
     stock_file::finish(reading, t.len, most, cells, rings)
 }
@@ -162,10 +155,8 @@ fn put_way(out: &mut [u8], e: usize, bytes: &[u8], at: usize, way: usize) -> usi
 
 fn put_ways(out: &mut [u8], from: usize, bytes: &[u8], at: usize) -> usize {
     let mut e = from;
-    let mut way: usize = 0;
-    while way < ways::COUNT {
+    for way in 0..ways::COUNT {
         e = put_way(out, e, bytes, at, way);
-        way += 1;
     }
     e
 }
@@ -180,10 +171,8 @@ fn say_damaged(bytes: &[u8], at: usize) {
 }
 
 fn say_all_damaged(bytes: &[u8]) {
-    let mut at: usize = 0;
-    while at < bytes.len() {
+    for at in 0..bytes.len() {
         say_damaged(bytes, at);
-        at += 1;
     }
 }
 
@@ -227,10 +216,8 @@ fn run_open(i: usize, name: &[u8], file: &mut File) {
 fn run_case(rt: &HostRuntime, i: usize) {
     let mut path = io::buffer();
     let length = streams::argument(rt, i, &mut path);
-    let opened = streams::open(rt, &path[..length]);
-    match opened {
-        Ok(mut file) => run_open(i, &path[..length], &mut file),
-        Err(_) => {}
+    if let Ok(mut file) = streams::open(rt, &path[..length]) {
+        run_open(i, &path[..length], &mut file);
     }
 }
 
@@ -239,10 +226,8 @@ fn main(rt: HostRuntime) {
         return;
     }
     let n = streams::argument_count(&rt);
-    let mut i: usize = 1;
-    while i < n {
+    for i in 1..n {
         run_case(&rt, i);
-        i += 1;
     }
     long::say_all();
 }

@@ -10,17 +10,11 @@ pub const LENT: f64 = -7777.75;
 // A sum goes on below 2^55.
 const BELOW: u64 = 0x80000000000000;
 
-fn wide(b: u8) -> u64 {
-    b as u64
-}
-
 // Bytes summed behind those before: 257 times the sum, and the byte.
 pub fn sum(before: u64, bytes: &[u8]) -> u64 {
     let mut s = before;
-    let mut i: usize = 0;
-    while i < bytes.len() {
-        s = std::num::wrapping_add_u64((s % BELOW) * 257, wide(bytes[i]));
-        i += 1;
+    for b in bytes {
+        s = ((s % BELOW) * 257).wrapping_add(u64::from(*b));
     }
     s % BELOW
 }
@@ -38,24 +32,12 @@ fn sum_number(before: u64, x: f64) -> u64 {
 }
 
 fn sum_numbers(before: u64, xs: &[f64]) -> u64 {
-    let mut s = before;
-    let mut i: usize = 0;
-    while i < xs.len() {
-        s = sum_number(s, xs[i]);
-        i += 1;
-    }
-    s
+    xs.iter().fold(before, |s, x| sum_number(s, *x))
 }
 
 // How many numbers of a room were written.
 fn written(xs: &[f64]) -> u64 {
-    let mut k: u64 = 0;
-    let mut i: usize = 0;
-    while i < xs.len() {
-        k = std::num::wrapping_add_u64(k, (xs[i] != LENT) as u64);
-        i += 1;
-    }
-    k
+    xs.iter().filter(|x| **x != LENT).count() as u64
 }
 
 fn put_number(out: &mut [u8], at: usize, r: Refusal) -> usize {
@@ -112,7 +94,7 @@ fn put_kept(out: &mut [u8], at: usize, kept: Result<Kept, Refused>) -> usize {
 // What was read, as short as can be: 0, or the refusal, with a point before its line.
 pub fn put_short(out: &mut [u8], at: usize, kept: Result<Kept, Refused>) -> usize {
     match kept {
-        Ok(Kept { stock, cells: n }) => text::put_text(out, at, b"0"),
+        Ok(_) => text::put_text(out, at, b"0"),
         Err(
             Refused {
                 why: r,
@@ -165,11 +147,7 @@ pub fn say_kept(kept: Result<Kept, Refused>, cells: &[f64], rings: &[f64], sum: 
 
 // The first n fours of numbers, or none.
 pub fn fours(xs: &[f64], n: usize) -> &[f64] {
-    if xs.len() / 4 < n {
-        return &xs[..0];
-    }
-    let end = 4 * n;
-    &xs[..end]
+    xs.get(..n.saturating_mul(4)).unwrap_or(&[])
 }
 
 // Line k of a stock's file is put into out; where it is refused, nothing.
@@ -180,19 +158,12 @@ pub fn spell(
     rings: &[f64],
     k: usize,
 ) -> usize {
-    match stock_file::file_line(out, stock, cells, rings, k) {
-        Ok(n) => n,
-        Err(r) => 0,
-    }
+    stock_file::file_line(out, stock, cells, rings, k).unwrap_or(0)
 }
 
 // How many lines a stock's file has; where it is refused, none.
 pub fn lines_of(stock: TurnStock, cells: &[f64], rings: &[f64]) -> usize {
-    let spec = stock.spec;
-    match stock_file::line_count(spec, cells, rings, stock.rings) {
-        Ok(n) => n,
-        Err(r) => 0,
-    }
+    stock_file::line_count(stock.spec, cells, rings, stock.rings).unwrap_or(0)
 }
 
 fn say_front(line: [u8; LINE_ROOM], n: usize) {
@@ -208,18 +179,15 @@ fn say_line(stock: TurnStock, cells: &[f64], rings: &[f64], k: usize) {
 
 fn say_lines(stock: TurnStock, cells: &[f64], rings: &[f64]) {
     let count = lines_of(stock, cells, rings);
-    let mut k: usize = 0;
-    while k < count {
+    for k in 0..count {
         say_line(stock, cells, rings, k);
-        k += 1;
     }
 }
 
 // The file of what was read, written back.
 fn say_written(kept: Result<Kept, Refused>, cells: &[f64], rings: &[f64]) {
-    match kept {
-        Ok(Kept { stock, cells: n }) => say_lines(stock, fours(cells, n), rings),
-        Err(_) => {}
+    if let Ok(Kept { stock, cells: n }) = kept {
+        say_lines(stock, fours(cells, n), rings);
     }
 }
 

@@ -12,7 +12,7 @@ returns c = let args = c.args in
     held
     c.shared_slice_known-1.given
     c.shared_slice_known-2-1.given
-    c.clean_spec-s.ensures
+    c.clean_spec.ensures
     c.clean.ensures
     c.clean-2.ensures
     c.kept_between.ensures

@@ -8,4 +8,4 @@ returns-then-blocks_in-j c = no_block _ _ _ _ _ _ c.blocks_in.ensures c.if-block
 
 pub returns : goal.returns
 returns c = let args = c.args in
-    new-block args.s args.n args.cells.now args.blocks.now _ _ args.j _ c.blocks_in.ensures (omega arith) c.block_of-fresh.ensures c.put_block.ensures
+    new-block args.s args.n args.cells.now args.blocks.now _ _ args.j _ c.blocks_in.ensures (omega arith) c.band-fresh.ensures c.put_block.ensures

@@ -8,8 +8,8 @@ use Rattle.rings.proofs.fit.apart_blocks.Goals as goal
 
 pub loop-at-init : goal.loop-at-init
 unfolding rings_of apart_all
-loop-at-init c = let e : 0 ≡ min (16 * 0) c.args.stored.n = omega arith in
-    λ x. ap (λ (j : ℕ). apart_all (rings_of j c.args.stored.rings.now) c.args.k) e
+loop-at-init c = let e : 0 ≡ min (16 * 0) c.args.n = omega arith in
+    λ x. ap (λ (j : ℕ). apart_all (rings_of j c.args.rings.now) c.args.k) e
 
 pub apart_block-ok-requires : goal.apart_block-ok-requires
 apart_block-ok-requires c = let l = c.lesser-to.ensures in
@@ -19,9 +19,9 @@ pub loop-at-preserved : goal.loop-at-preserved
 loop-at-preserved c = let lesser = c.lesser-to in
     let loop = c.loop-at in
     let ring-at = c.ring_at in
-    let rings = c.args.stored.rings.now in
+    let rings = c.args.rings.now in
     let k = c.args.k in
-    let n = c.args.stored.n in
+    let n = c.args.n in
     let l = lesser.ensures in
     let e : min (16 * loop.at) n ≡ 16 * loop.at = omega arith in
     let f : lesser.result ≡ min (16 * (loop.at + 1)) n = omega arith in
@@ -29,5 +29,5 @@ loop-at-preserved c = let lesser = c.lesser-to in
     ∙ ap (λ (j : ℕ). apart_all (rings_of j rings) k) f
 
 pub returns : goal.returns
-returns c = let e : min (16 * c.loop-at.at) c.args.stored.n ≡ c.args.stored.n = omega arith in
-    λ x. c.loop-at.invariant x ∙ ap (λ (j : ℕ). apart_all (rings_of j c.args.stored.rings.now) c.args.k) e
+returns c = let e : min (16 * c.loop-at.at) c.args.n ≡ c.args.n = omega arith in
+    λ x. c.loop-at.invariant x ∙ ap (λ (j : ℕ). apart_all (rings_of j c.args.rings.now) c.args.k) e

@@ -6,4 +6,4 @@ use Rattle.rings.specs.Block.{Boxed}
 use Rattle.rings.proofs.fit.apart_blocks.Given as goal
 
 abbrev pub invariant-loop-at : goal.invariant-loop-at
-invariant-loop-at l = Boxed l.boxes l.stored.rings.now l.stored.n → l.ok ≡ apart_all (rings_of (min (16 * l.at) l.stored.n) l.stored.rings.now) l.k
+invariant-loop-at l = Boxed l.boxes l.rings l.n → l.ok ≡ apart_all (rings_of (min (16 * l.at) l.n) l.rings) l.k

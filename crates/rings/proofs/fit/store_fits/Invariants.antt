@@ -3,4 +3,4 @@ use Rattle.rings.proofs.Boxes.{Checked}
 use Rattle.rings.proofs.fit.store_fits.Given as goal
 
 abbrev pub invariant-loop-i : goal.invariant-loop-i
-invariant-loop-i l = Checked l.e l.stored.rings.now l.i l.boxes l.ok
+invariant-loop-i l = Checked l.e l.rings l.i l.boxes l.ok
