@@ -38,33 +38,23 @@ fn same(x: f64, y: f64) -> bool {
 // The first n of xs are the numbers from word i on.
 pub fn numbers_are(words: &[u64; LIMIT], i: usize, list: usize, xs: &[f64], n: u64) -> bool {
     let mut ok = n <= xs.len() as u64;
-    let mut j: usize = 0;
-    while j < xs.len() {
-        let k = std::num::wrapping_add_usize(j, (j / 8) & list);
-        ok = ok & ((n <= j as u64) | same(xs[j], words::number(words, i, k)));
-        j += 1;
+    for (j, x) in xs.iter().enumerate() {
+        let k = j.wrapping_add((j / 8) & list);
+        ok = ok & ((n <= j as u64) | same(*x, words::number(words, i, k)));
     }
     ok
 }
 
 // All of xs are 0.
 pub fn are_zero(xs: &[f64]) -> bool {
-    let mut ok = true;
-    let mut j: usize = 0;
-    while j < xs.len() {
-        ok = ok & same(xs[j], 0.0);
-        j += 1;
-    }
-    ok
+    xs.iter().all(|x| same(*x, 0.0))
 }
 
 // The first n of xs are the indices of the changes from word i on.
 fn indices_are(words: &[u64; LIMIT], i: usize, xs: &[usize], n: u64) -> bool {
     let mut ok = n <= xs.len() as u64;
-    let mut j: usize = 0;
-    while j < xs.len() {
-        ok = ok & ((n <= j as u64) | (xs[j] as u64 == words::at(words, i, 9 * j)));
-        j += 1;
+    for (j, x) in xs.iter().enumerate() {
+        ok = ok & ((n <= j as u64) | (*x as u64 == words::at(words, i, 9 * j)));
     }
     ok
 }
@@ -80,26 +70,17 @@ fn is_told(n: u64, j: u64, x: u64, word: u64) -> bool {
 // The first n of xs are the sizes from word i on, and the others are as they were lent.
 fn sizes_are(words: &[u64; LIMIT], i: usize, xs: &[usize], n: u64) -> bool {
     let mut ok = n <= xs.len() as u64;
-    let mut j: usize = 0;
-    while j < xs.len() {
-        ok = ok & is_told(n, j as u64, xs[j] as u64, words::at(words, i, j));
-        j += 1;
+    for (j, x) in xs.iter().enumerate() {
+        ok = ok & is_told(n, j as u64, *x as u64, words::at(words, i, j));
     }
     ok
-}
-
-// The same of a kind.
-fn kind_told(n: u64, j: u64, kind: u32, word: u64) -> bool {
-    is_told(n, j, kind as u64, word)
 }
 
 // The same of kinds.
 fn kinds_are(words: &[u64; LIMIT], i: usize, xs: &[u32], n: u64) -> bool {
     let mut ok = n <= xs.len() as u64;
-    let mut j: usize = 0;
-    while j < xs.len() {
-        ok = ok & kind_told(n, j as u64, xs[j], words::at(words, i, j));
-        j += 1;
+    for (j, kind) in xs.iter().enumerate() {
+        ok = ok & is_told(n, j as u64, u64::from(*kind), words::at(words, i, j));
     }
     ok
 }
@@ -145,12 +126,9 @@ pub fn list(words: &[u64; LIMIT], m: Mark, asked: bool, count: u64, n: u64, xs: 
 // Each of xs is told by the words from i on, or as it was before the call.
 fn tests_are(words: &[u64; LIMIT], i: usize, told: bool, xs: &[usize]) -> bool {
     let mut ok = true;
-    let mut j: usize = 0;
-    while j < xs.len() {
-        let x = xs[j];
-        let same = x as u64 == words::at(words, i, j);
-        ok = ok & ((told & same) | (!told & (x == UNTOLD)));
-        j += 1;
+    for (j, x) in xs.iter().enumerate() {
+        let same = *x as u64 == words::at(words, i, j);
+        ok = ok & ((told & same) | (!told & (*x == UNTOLD)));
     }
     ok
 }

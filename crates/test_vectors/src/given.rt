@@ -145,21 +145,7 @@ pub fn numbers_of(words: &[u64; LIMIT], p: Places) -> Given {
 }
 
 // The first n, or none.
-fn front(xs: &mut [f64], n: u64) -> &mut [f64] {
-    if n <= xs.len() as u64 {
-        return &mut xs[..n as usize];
-    }
-    &mut xs[..0]
-}
-
-fn front_indices(xs: &mut [usize], n: u64) -> &mut [usize] {
-    if n <= xs.len() as u64 {
-        return &mut xs[..n as usize];
-    }
-    &mut xs[..0]
-}
-
-fn front_kinds(xs: &mut [u32], n: u64) -> &mut [u32] {
+fn front<T>(xs: &mut [T], n: u64) -> &mut [T] {
     if n <= xs.len() as u64 {
         return &mut xs[..n as usize];
     }
@@ -170,46 +156,38 @@ fn front_kinds(xs: &mut [u32], n: u64) -> &mut [u32] {
 // each four.
 pub fn lent_tests<'a>(kind: usize, len: usize, xs: &'a mut [usize]) -> &'a mut [usize] {
     match kind {
-        table::REMOVE_RING => front_indices(xs, 1),
-        table::APPLY_MOVE | table::FROM_PARTS => front_indices(xs, len as u64 / 4),
-        _ => front_indices(xs, 0),
+        table::REMOVE_RING => front(xs, 1),
+        table::APPLY_MOVE | table::FROM_PARTS => front(xs, len as u64 / 4),
+        _ => front(xs, 0),
     }
 }
 
 // The numbers from word i on.
 fn fill(words: &[u64; LIMIT], i: usize, list: usize, xs: &mut [f64]) {
-    let mut j: usize = 0;
-    while j < xs.len() {
-        let k = std::num::wrapping_add_usize(j, (j / 8) & list);
-        xs[j] = words::number(words, i, k);
-        j += 1;
+    for (j, x) in xs.iter_mut().enumerate() {
+        let k = j.wrapping_add((j / 8) & list);
+        *x = words::number(words, i, k);
     }
 }
 
 // The indices of the changes from word i on.
 fn fill_indices(words: &[u64; LIMIT], i: usize, xs: &mut [usize]) {
-    let mut j: usize = 0;
-    while j < xs.len() {
-        xs[j] = words::at(words, i, 9 * j) as usize;
-        j += 1;
+    for (j, x) in xs.iter_mut().enumerate() {
+        *x = words::at(words, i, 9 * j) as usize;
     }
 }
 
 // The sizes from word i on.
 fn fill_sizes(words: &[u64; LIMIT], i: usize, xs: &mut [usize]) {
-    let mut j: usize = 0;
-    while j < xs.len() {
-        xs[j] = words::at(words, i, j) as usize;
-        j += 1;
+    for (j, x) in xs.iter_mut().enumerate() {
+        *x = words::at(words, i, j) as usize;
     }
 }
 
 // The kinds from word i on.
 fn fill_kinds(words: &[u64; LIMIT], i: usize, xs: &mut [u32]) {
-    let mut j: usize = 0;
-    while j < xs.len() {
-        xs[j] = short(words::at(words, i, j));
-        j += 1;
+    for (j, kind) in xs.iter_mut().enumerate() {
+        *kind = short(words::at(words, i, j));
     }
 }
 
@@ -228,19 +206,19 @@ pub fn lent<'a>(
 
 // Word i says how many indices are lent, and the changes stand behind it.
 pub fn lent_indices<'a>(words: &[u64; LIMIT], i: usize, xs: &'a mut [usize]) -> &'a mut [usize] {
-    let ys = front_indices(xs, words::at(words, i, 0));
+    let ys = front(xs, words::at(words, i, 0));
     fill_indices(words, words::after(i, TO_CHANGES), ys);
     ys
 }
 
 // Word i says how many sizes are lent; nothing is put into them.
 pub fn room_sizes<'a>(words: &[u64; LIMIT], i: usize, xs: &'a mut [usize]) -> &'a mut [usize] {
-    front_indices(xs, words::at(words, i, 0))
+    front(xs, words::at(words, i, 0))
 }
 
 // Or how many kinds, or numbers.
 pub fn room_kinds<'a>(words: &[u64; LIMIT], i: usize, xs: &'a mut [u32]) -> &'a mut [u32] {
-    front_kinds(xs, words::at(words, i, 0))
+    front(xs, words::at(words, i, 0))
 }
 
 pub fn room_numbers<'a>(words: &[u64; LIMIT], i: usize, xs: &'a mut [f64]) -> &'a mut [f64] {

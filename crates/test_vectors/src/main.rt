@@ -54,10 +54,8 @@ fn take_part(
     bytes: &[u8],
 ) -> Reading {
     let mut at = r;
-    let mut i: usize = 0;
-    while i < bytes.len() {
-        at = take_byte(counts, words, at, bytes[i]);
-        i += 1;
+    for b in bytes {
+        at = take_byte(counts, words, at, *b);
     }
     at
 }
@@ -82,14 +80,12 @@ fn take_some(counts: &mut [u64; COUNTS], words: &mut [u64; LIMIT], at: Reading) 
 // Reads to the end.
 fn take_all(counts: &mut [u64; COUNTS], words: &mut [u64; LIMIT]) {
     let mut at = words::blank(0, 0);
-    let mut turns = u64::MAX;
-    while turns > 0 {
+    for _ in 0..u64::MAX {
         let t = take_some(counts, words, at);
         at = t.at;
         if !t.more {
             return;
         }
-        turns -= 1;
     }
 }
 

@@ -127,28 +127,19 @@ pub fn digit(k: usize, j: usize) -> u64 {
 // The number that the name of kind k reads as.
 fn named(k: usize) -> u64 {
     let mut r = words::blank(0, 0);
-    let mut j: usize = 0;
-    while j < NAME {
+    for j in 0..NAME {
         let b = cell(k, j);
         if b == SPACE {
             return words::value(r);
         }
         r = words::with_digit(r, b);
-        j += 1;
     }
     words::value(r)
 }
 
 // Which kind of call a line with this first word is.
 pub fn kind_of(name: u64) -> usize {
-    let mut k: usize = 0;
-    while k < UNREAD {
-        if named(k) == name {
-            return k;
-        }
-        k += 1;
-    }
-    UNREAD
+    (0..UNREAD).find(|k| named(*k) == name).unwrap_or(UNREAD)
 }
 
 // One call more of kind k, as recorded or not.
@@ -159,27 +150,23 @@ pub fn count(counts: &mut [u64; COUNTS], k: usize, same: bool) {
 }
 
 fn write_name(k: usize) {
-    let mut j: usize = 0;
-    while j < NAME {
+    for j in 0..NAME {
         let b = cell(k, j);
         if b == SPACE {
             return;
         }
         io::write_all(1, &[b]);
-        j += 1;
     }
 }
 
 // A line for each kind: its name, how many calls, how many differ.
 pub fn write(counts: &[u64; COUNTS]) {
-    let mut k: usize = 0;
-    while k < ROWS {
+    for k in 0..ROWS {
         write_name(k);
         io::write_all(1, b" ");
         io::print_decimal(1, counts[k]);
         io::write_all(1, b" ");
         io::print_decimal(1, counts[APART + k]);
         io::write_all(1, b"\n");
-        k += 1;
     }
 }

@@ -69,11 +69,9 @@ fn times(r: Reading) -> u64 {
 
 // The words from `first` to `end` are each the one so many places before it.
 fn again(words: &mut [u64; LIMIT], first: usize, end: usize, back: usize) {
-    let mut k = first;
-    while k < end {
-        let from = std::num::wrapping_sub_usize(k, back);
+    for k in first..end {
+        let from = k.wrapping_sub(back);
         words[k % LIMIT] = words[from % LIMIT];
-        k += 1;
     }
 }
 

@@ -1,9 +1,0 @@
--- `test_vectors::words::again` meets its contract. Assumes nothing.
-use Rattle.std.proofs.Common.{◌-◌}
-use Rattle.test_vectors.proofs.words.again.Given as goal
-
-abbrev pub invariant-loop-k : goal.invariant-loop-k
-invariant-loop-k l = Unit
-
-abbrev pub decreases-loop-k : goal.decreases-loop-k
-decreases-loop-k l = l.end - l.k
