@@ -12,7 +12,8 @@ mod spell;
 mod words;
 
 ghost use Rattle.std.specs.Prelude.{◌≡◌, ◌*◌, ◌≤◌, take};
-ghost use Rattle.chop_lines.specs.Scan.{state, ScanRoom};
+ghost use Rattle.streams.specs.Brought.{held_by};
+ghost use Rattle.chop_lines.specs.Scan.{state, finish_of, ScanRoom};
 ghost use Rattle.chop_lines.specs.Reads.{ReadsOn, ReadsSome};
 ghost use Rattle.chop_lines.specs.Chopped.{text_of, AllPut, ChopsSome};
 
@@ -55,6 +56,16 @@ fn take_some(
     Turn { taken, got }
 }
 
+// A profile after its last read.
+fn end_by(got: Got, taken: Taken) -> Read
+    ensures { (result.scan ≡ finish_of taken.scan (held_by got taken.len)) × (result.points ≡ taken.points) }
+{
+    Read {
+        scan: scan::finish(taken.scan, got.held(taken.len)),
+        points: taken.points,
+    }
+}
+
 // Reads a profile to the end of its input.
 fn read_profile(
     rt: &(impl Eprint + Clock),
@@ -70,16 +81,10 @@ fn read_profile(
         let t = take_some(rt, from, taken, numbers, line);
         taken = t.taken;
         if !t.got.may_be_more() {
-            return Read {
-                scan: scan::finish(taken.scan, t.got.held(taken.len)),
-                points: taken.points,
-            };
+            return end_by(t.got, taken);
         }
     }
-    Read {
-        scan: scan::finish(taken.scan, Got::Cut.held(taken.len)),
-        points: taken.points,
-    }
+    end_by(Got::Cut, taken)
 }
 
 // The numbers of the first n points.

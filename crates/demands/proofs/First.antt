@@ -2,7 +2,7 @@
 -- `Exactly rule asks` says it of a rule: `asks` is the list of its tests in 01's order, each with its number (specs/Refused). The rule refuses with k exactly when the first
 -- of them that does not hold has the number k, and answers exactly when all of them hold. Each call's promise says that it answers by its rule. Assumes nothing.
 --
--- Below each law names the calls that it is of. `change_slices::propose` has the rule of the flat call, with the number of records as the room (`preview-tool-exactly`). `changes::list_of` and `moves::with_counts` refuse with the number that they are given. What the methods of an `Envelope` made by `new` answer is the rule of the flat call too (proofs/Profile): `envelope::held::Envelope::order`,
+-- Below each law names the calls that it is of. `change_slices::propose` has the rule of the flat call, with the number of records as the room (`preview-tool-exactly`). `changes::list_of` refuses with the number that it is given. What the methods of an `Envelope` made by `new` answer is the rule of the flat call too (proofs/Profile): `envelope::held::Envelope::order`,
 -- `envelope::held::Envelope::radius_at`, `envelope::held::Envelope::radius_range`.
 use Rattle.std.specs.Prelude.{Option, None, Some}
 use mathlib.Core.Path.{◌≡◌, refl, sym, ap, ap₂, ◌∙◌, subst}

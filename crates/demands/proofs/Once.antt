@@ -23,15 +23,15 @@
 --   stock_file fresh
 --
 -- alike: the promise is `paper_of answer ≡ rule` (same-result), or with a place `placed_of answer ≡ rule` (same-placed), and both papers are one to one
---   numbers   root, length
---   stock     validate, cells_fit, bin
---   changes   first_refusal, outcome, raised (same-placed); begin, step (same-deciding); asked_cells
---   envelope  order_of, within_span, within_refusal, radius_at, radius_range
---   insert    excess, penetration, eroded
---   queries   volume, envelope_at
---   stock_file finish (same-placed), line_count
---   side_by_side compare
---   blocks    kept_cells, range
+--   numbers   root, length (same-result)
+--   stock     validate, cells_fit, bin (same-result)
+--   changes   first_refusal, outcome, raised (same-placed); begin, step (same-deciding); asked_cells (same-result)
+--   envelope  order_of, within_span, within_refusal, radius_at, radius_range (same-result)
+--   insert    excess, penetration, eroded (same-result)
+--   queries   volume, envelope_at (same-result)
+--   stock_file finish (same-placed), line_count (same-result)
+--   side_by_side compare (same-result)
+--   blocks    kept_cells, range (same-result)
 --
 -- a record of equations: the answer and each lent buffer
 --   stock     fill (filled-once)

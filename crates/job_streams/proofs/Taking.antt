@@ -1,23 +1,26 @@
 -- Bytes taken in turn, and the job that they are. Assumes nothing.
-use mathlib.Core.Path.{◌≡◌, refl, sym, ap, ◌∙◌}
+use mathlib.Core.Path.{◌≡◌, refl, sym, ap, ◌∙◌, subst}
 use mathlib.Core.Bool.{Bool, true, false}
 use mathlib.Core.List.{List, [], ◌∷◌, ◌++◌, append-nil, foldl}
 use Prim.Native.Nat.{ℕ, ◌≤◌}
 use lib.Dec.{eqb, ltb}
-use lib.ListN.{length, length-set}
+use lib.ListN.{length, take, length-set}
 use lib.Ieee.{Float}
+use Rattle.refusals.specs.Lent.{Lent}
 use Rattle.text.proofs.Chosen.{yes, no}
 use Rattle.streams.specs.declared.Got.{Got}
 use Rattle.streams.specs.declared.Got.TheVariants as got
+use Rattle.streams.specs.Brought.{brought_by}
 use Rattle.job_run.specs.declared.Run.{Run}
+use Rattle.job_run.specs.declared.Taken.{Taken}
 use Rattle.lines.specs.File.{joined}
-use Rattle.job_run.specs.Run.{State, state, stopped, Hold, hold, byte_on, finish_of, job_of}
+use Rattle.job_run.specs.Run.{State, state, stopped, Hold, hold, byte_on, as_found, as_left, TakesPart, finish_of, job_of}
 use borrow.Author.Tests.{eqb-false}
 use Rattle.job_run.proofs.Lines.{finish-stopped}
 use Rattle.job_run.proofs.WholeFile.{end_of, end_cut_of, however-cut, cut-finish}
 use Rattle.job_streams.specs.declared.End.{End}
 use Rattle.job_streams.specs.declared.Ended.{Ended}
-use Rattle.job_streams.specs.Read.{After, end_at, whole_end, cut_at, cut_end, end_by, JobOfSome}
+use Rattle.job_streams.specs.Read.{After, ReadsPart, end_at, whole_end, cut_at, cut_end, end_by, JobOfSome}
 
 -- two parts in turn are their concatenation
 on : (s t : List ℕ) (h : Hold) → foldl byte_on h (s ++ t) ≡ foldl byte_on (foldl byte_on h s) t
@@ -51,6 +54,14 @@ pub after_more : {h k m : Hold} → After h k → After k m → After h m
 after_more {h} a b = record {
   bytes = a.bytes ++ b.bytes;
   same = b.same ∙ ap (λ (x : Hold). foldl byte_on x b.bytes) a.same ∙ sym (on a.bytes b.bytes h);
+}
+
+-- the bytes that a read brought, taken
+pub read_once : {run : Run} {len : ℕ} {cells rings : Lent Float} {line : Lent ℕ} (g : Got) (part s : List ℕ) (k : ℕ) (r : Taken)
+    → TakesPart run len cells rings line s r → s ≡ take k part → k ≡ brought_by g → ReadsPart run len cells rings line g part r.run r.len
+read_once {run} {len} {cells} {rings} {line} g part s k r t e f = record {
+  room = t.room;
+  same = subst (λ (b : List ℕ). as_left r.run r.len cells rings line ≡ foldl byte_on (as_found run len cells rings line) b) (e ∙ ap (λ (n : ℕ). take n part) f) t.same;
 }
 
 -- the end after one

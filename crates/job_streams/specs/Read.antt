@@ -1,10 +1,11 @@
 -- A job read from a reader. No contract can say which bytes come: a promise here says that there are some of which the run is the job. Assumes nothing.
-use Rattle.std.specs.Prelude.{◌≡◌, ℕ, eqb, Float}
+use Rattle.std.specs.Prelude.{◌≡◌, ℕ, eqb, take, Float}
 use mathlib.Core.List.{List, foldl}
 use Rattle.refusals.specs.Lent.{Lent}
 use Rattle.floats.specs.Pick.{pick}
 use Rattle.streams.specs.declared.Got.{Got}
 use Rattle.streams.specs.declared.Got.TheVariants as got
+use Rattle.streams.specs.Brought.{brought_by}
 use Rattle.job_run.specs.declared.Run.{Run}
 use Rattle.job_run.specs.Run.{State, state, Hold, byte_on, JobRoom, as_found, as_left, finish_of, job_of, cut_of}
 use Rattle.job_streams.specs.declared.End.{End}
@@ -20,6 +21,11 @@ pub record After (h k : Hold) : Type 0 where
 pub record ReadsOn (run : Run) (len : ℕ) (cells rings : Lent Float) (line : Lent ℕ) (r : Run) (n : ℕ) : Type 0 where
   pub room : JobRoom cells.entry.now rings.entry.now line.entry.now
   pub after : After (as_found run len cells rings line) (as_left r n cells rings line)
+
+-- the same, by the bytes that a read brought to the front of what was lent to it
+pub record ReadsPart (run : Run) (len : ℕ) (cells rings : Lent Float) (line : Lent ℕ) (g : Got) (part : List ℕ) (r : Run) (n : ℕ) : Type 0 where
+  pub room : JobRoom cells.entry.now rings.entry.now line.entry.now
+  pub same : as_left r n cells rings line ≡ foldl byte_on (as_found run len cells rings line) (take (brought_by g) part)
 
 -- ---- the end
 

@@ -7,7 +7,7 @@
 
 ghost use Rattle.std.specs.Prelude.{◌≡◌};
 ghost use Rattle.job_run.specs.Run.{state, output_of};
-ghost use Rattle.job_streams.specs.Read.{ReadsOn, end_at, whole_end, cut_at, cut_end, end_by, ReadsJob};
+ghost use Rattle.job_streams.specs.Read.{ReadsOn, ReadsPart, end_at, whole_end, cut_at, cut_end, end_by, ReadsJob};
 ghost use Rattle.job_streams.specs.Write.{PutsLine, AllPut};
 
 use job_run::{ANSWER_LINES, CELL_NUMBERS, LINE_LIMIT, RING_NUMBERS, Run};
@@ -56,7 +56,7 @@ fn take_once(
     line: &mut [u8; LINE_LIMIT],
     len: usize,
 ) -> Turn
-    ensures { ReadsOn run len cells rings line result.run result.len }
+    ensures { ReadsPart run len cells rings line result.got part.new result.run result.len }
 {
     let got = streams::read_some(rt, from, part);
     let came = text::front(part, got.brought());

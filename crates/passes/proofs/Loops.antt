@@ -1,19 +1,33 @@
--- What loops of a check hand on: targets, kinds, the first bin that does not meet its target. Assumes nothing.
+-- What loops of a check hand on: numbers copied, targets, kinds, the first bin that does not meet its target. Assumes nothing.
 use Rattle.std.specs.Prelude.{Option, None, Some}
-use mathlib.Core.Path.{◌≡◌, refl, ap, ap₂, ◌∙◌}
+use mathlib.Core.Path.{◌≡◌, refl, sym, ap, ap₂, ◌∙◌}
 use mathlib.Core.Bool.{Bool, true, false, not, ◌&&◌}
-use mathlib.Core.List.{List}
+use mathlib.Core.List.{List, [], ◌∷◌, ◌++◌}
 use Prim.Native.Nat.{ℕ, zero, suc, ◌+◌, ◌≤◌, ◌<◌}
 use native.Mathlib.Numerals.{add-one}
 use native.Mathlib.Omega.{arith}
 use borrow.Author.Tests.{leb-true, leb-false}
 use lib.Dec.{leb}
-use lib.ListN.{get_or}
-use lib.Ieee.{Float}
+use lib.ListN.{length, take, set, get_or}
+use lib.Seq.{take_all, take-suc, take-suc-set}
+use lib.Ieee.{Float, nan}
 use Rattle.refusals.specs.Paper.{first_of}
 use Rattle.floats.specs.Pick.{pick, pick_true, pick-false}
 use Rattle.passes.specs.Cuts.{is_inside}
 use Rattle.passes.specs.Check.{target_good, targets_to, meets, first_miss, outside_to}
+
+-- ---- numbers copied one by one
+
+pub copied_more : (to from : List Float) (i : ℕ) → i < length from → length to ≡ length from → take i to ≡ take i from → take (i + 1) (set to i (get_or from i nan)) ≡ take (i + 1) from
+copied_more to from i h l e =
+    ap (λ (n : ℕ). take n (set to i (get_or from i nan))) (add-one i)
+    ∙ take-suc-set to i (get_or from i nan) (omega arith)
+    ∙ ap (λ (r : List Float). r ++ (get_or from i nan ∷ [])) e
+    ∙ sym (take-suc from i nan h)
+    ∙ ap (λ (n : ℕ). take n from) (sym (add-one i))
+
+pub copied_all : (to from : List Float) (i : ℕ) → length from ≤ i → length to ≡ length from → take i to ≡ take i from → to ≡ from
+copied_all to from i h l e = sym (take_all i to (omega arith)) ∙ e ∙ take_all i from h
 
 -- ---- one more
 

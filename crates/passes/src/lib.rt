@@ -188,6 +188,17 @@ fn make_all(
     make_most(stock, after, kinds, numbers, parts, lists)
 }
 
+// The numbers of one list, written over those of another. The library's method would have the archive
+// need `memmove` of the C library.
+fn copy(from: &[f64], to: &mut [f64])
+    requires { length to.old ≡ length from.now }
+    ensures { to.new ≡ from.now }
+{
+    for i in 0..from.len() {
+        to[i] = from[i];
+    }
+}
+
 // The stock s whose cells are `after`, if each bin meets its target; else the first that does not, and
 // the old cells.
 fn judge(s: TurnStock, n: usize, cells: &[f64], targets: &[f64], after: &mut [f64]) -> Verdict
@@ -196,7 +207,7 @@ fn judge(s: TurnStock, n: usize, cells: &[f64], targets: &[f64], after: &mut [f6
 {
     let i = targets::first_miss(targets, after, n);
     if i < n {
-        after.copy_from_slice(cells);
+        copy(cells, after);
         return Verdict::BinFails(i);
     }
     Verdict::Yes(s)
@@ -219,11 +230,11 @@ fn decide(
         (verdict_of stock cells.now n targets.now (cuts_of kinds.now numbers.now parts.now lists.now))
         result after.new }
 {
-    after.copy_from_slice(cells);
+    copy(cells, after);
     let applied = make_all(stock, after, kinds, numbers, parts, lists);
     match applied {
         Err(e) => {
-            after.copy_from_slice(cells);
+            copy(cells, after);
             Verdict::CutFails(e.place.unwrap_or(0), e.why)
         }
         Ok(s) => judge(s, n, cells, targets, after),

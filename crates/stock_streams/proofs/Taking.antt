@@ -1,11 +1,11 @@
 -- Bytes of a stock file taken in turn, and what they tell at the end. Assumes nothing.
 use Prim.Native.Nat.{ℕ, ◌≤◌}
 use native.Mathlib.Omega.{arith}
-use mathlib.Core.Path.{◌≡◌, refl, sym, ap, ◌∙◌}
+use mathlib.Core.Path.{◌≡◌, refl, sym, ap, ◌∙◌, subst}
 use mathlib.Core.Bool.{Bool, true, false}
 use mathlib.Core.List.{List, [], ◌∷◌, ◌++◌}
 use lib.Dec.{ltb}
-use lib.ListN.{length, length-append}
+use lib.ListN.{length, take, length-append}
 use lib.Ieee.{Float}
 use borrow.Author.Tests.{ne_eqb}
 use Rattle.std.specs.Prelude.{Result}
@@ -15,17 +15,18 @@ use Rattle.refusals.specs.Lent.{Lent, over}
 use Rattle.text.proofs.Chosen.{yes, no}
 use Rattle.streams.specs.declared.Got.{Got}
 use Rattle.streams.specs.declared.Got.TheVariants as got
-use Rattle.streams.specs.Brought.{held_by}
+use Rattle.streams.specs.Brought.{brought_by, held_by}
 use Rattle.lines.specs.File as file
 use Rattle.lines.specs.Hands.{Hand, hand, byte_on, takes}
 use Rattle.lines.proofs.Parts.{parts}
 use Rattle.lines.proofs.OneFile.{whole-file}
 use Rattle.stock_lines.specs.declared.Reading.{Reading}
 use Rattle.stock_lines.specs.Reading.{State, state, refusing, on_line}
+use Rattle.stock_file.specs.declared.Taken.{Taken}
 use Rattle.stock_file.specs.declared.Kept.{Kept}
-use Rattle.stock_file.specs.Read.{fresh_reading, stopped, on_long, on_end, held_in, taking, ended, told_as, file_in}
+use Rattle.stock_file.specs.Read.{TakesPart, fresh_reading, stopped, on_long, on_end, held_in, taking, ended, told_as, file_in}
 use Rattle.stock_file.proofs.Cut.{long-stops, takes-few, found-again, end_is}
-use Rattle.stock_streams.specs.Read.{ReadsOn, StockOfSome}
+use Rattle.stock_streams.specs.Read.{ReadsOn, ReadsPart, StockOfSome}
 
 -- some bytes from before the first on
 abbrev pub came : List Float → List Float → List ℕ → Hand State
@@ -45,6 +46,13 @@ pub record SoFar (cs rs : List Float) (reading : Reading) (len : ℕ) (cells rin
 pub none_yet : (cs rs : List Float) (reading : Reading) (line : List ℕ) → reading ≡ fresh_reading → SoFar cs rs reading 0 cs rs line
 unfolding takes
 none_yet cs rs reading line e = record { bytes = []; reads = ap (λ (x : Reading). state x cs rs) e; holds = refl; keeps = refl }
+
+-- the bytes that a read brought, taken
+pub read_once : {reading : Reading} {len : ℕ} {cells rings : Lent Float} {line : Lent ℕ} (g : Got) (part s : List ℕ) (k : ℕ) (r : Taken)
+    → TakesPart reading len cells rings line s r → s ≡ take k part → k ≡ brought_by g → ReadsPart reading len cells rings line g part r.reading r.len
+read_once {reading} {len} {cells} {rings} {line} g part s k r t e f =
+    subst (λ (b : List ℕ). TakesPart reading len cells rings line b (record { reading = r.reading; len = r.len })) (e ∙ ap (λ (n : ℕ). take n part) f)
+    (record { room = t.room; reads = t.reads; holds = t.holds; keeps = t.keeps })
 
 -- and on from there
 pub some_more : {cs rs : List Float} {reading r : Reading} {len n : ℕ} {cells rings : Lent Float} {line : Lent ℕ}

@@ -8,7 +8,10 @@
 ghost use Rattle.std.specs.Prelude.{◌≡◌, true};
 ghost use Rattle.streams.specs.Moves.{Puts};
 ghost use Rattle.stock_file.specs.Write.{line_for, lines_to};
-ghost use Rattle.stock_streams.specs.Read.{ReadsOn, ReadsStock};
+ghost use Rattle.streams.specs.Brought.{held_by};
+ghost use Rattle.refusals.specs.Number.{placed_of};
+ghost use Rattle.stock_file.specs.Read.{ended, told_as};
+ghost use Rattle.stock_streams.specs.Read.{ReadsOn, ReadsPart, ReadsStock};
 ghost use Rattle.stock_streams.specs.Write.{text_in, AllPut, PutsStock, Asked};
 
 use refusals::Refused;
@@ -44,7 +47,7 @@ fn take_once(
     line: &mut [u8; LINE_ROOM],
     len: usize,
 ) -> Turn
-    ensures { ReadsOn reading len cells rings line result.reading result.len }
+    ensures { ReadsPart reading len cells rings line result.got part.new result.reading result.len }
 {
     let got = streams::read_some(rt, from, part);
     let came = text::front(part, got.brought());
@@ -74,6 +77,20 @@ fn take_some(
     take_once(rt, from, &mut buf[..end], reading, cells, rings, line, len)
 }
 
+// What a stock file tells, after its last read; 16 at a line, 1, 2, 3, 4.
+fn end_by(
+    got: Got,
+    reading: Reading,
+    len: usize,
+    max_cells: usize,
+    cells: &[f64],
+    rings: &[f64],
+) -> Result<Kept, Refused>
+    ensures { placed_of result ≡ told_as (ended reading (held_by got len)) max_cells cells.now rings.now }
+{
+    stock_file::finish(reading, got.held(len), max_cells, cells, rings)
+}
+
 // Reads a stock file to the end of its input, at most so many bytes at a time, from 1 to 65,536; 16 at
 // a line, 1, 2, 3, 4.
 pub fn read_stock(
@@ -94,10 +111,10 @@ pub fn read_stock(
         reading = t.reading;
         len = t.len;
         if !t.got.may_be_more() {
-            return stock_file::finish(reading, t.got.held(len), max_cells, cells, rings);
+            return end_by(t.got, reading, len, max_cells, cells, rings);
         }
     }
-    stock_file::finish(reading, Got::Cut.held(len), max_cells, cells, rings)
+    end_by(Got::Cut, reading, len, max_cells, cells, rings)
 }
 
 // ---- writing

@@ -20,6 +20,9 @@ use text::LINE_ROOM;
 // A file has so many bytes at most.
 const MOST: usize = 4096;
 
+// So many parts of seven bytes hold them.
+const PARTS: usize = (MOST + 6) / 7;
+
 // The room that is lent: twelve cells, and twelve rings.
 const ROOM: usize = 48;
 
@@ -56,7 +59,7 @@ fn read_whole(
     stock_file::finish(reading, t.len, most, cells, rings)
 }
 
-// A file in parts of seven bytes; behind its last byte nothing comes any more.
+// A file in parts of seven bytes, as many as the longest has: those behind its last byte are empty.
 fn read_in_parts(
     bytes: &[u8],
     most: usize,
@@ -68,12 +71,11 @@ fn read_in_parts(
         reading: stock_file::fresh(),
         len: 0,
     };
-    for part in bytes.chunks(7) {
+    for k in 0..PARTS {
         let reading = t.reading;
+        let part = before(behind(bytes, 7 * k), 7);
         t = stock_file::take_part(reading, cells, rings, &mut line, t.len, part);
     }
-    let reading = t.reading;
-    let t = stock_file::take_part(reading, cells, rings, &mut line, t.len, &[]);
     let reading = t.reading;
     stock_file::finish(reading, t.len, most, cells, rings)
 }

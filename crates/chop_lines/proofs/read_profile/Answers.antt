@@ -1,7 +1,7 @@
 -- `chop_lines::read_profile` meets its contract. Assumes nothing.
-use Rattle.std.proofs.Common.{refl, ap, ◌∙◌, rules}
+use Rattle.std.proofs.Common.{refl, rules}
 use Rattle.streams.specs.declared.Got.TheVariants.{Cut}
-use Rattle.chop_lines.specs.Scan.{fresh_scan, finish_of}
+use Rattle.chop_lines.specs.Scan.{fresh_scan}
 use Rattle.chop_lines.proofs.Taking.{after-fresh, after_more, done}
 use Rattle.chop_lines.proofs.read_profile.Goals as goal
 
@@ -13,8 +13,9 @@ take_some-t-requires g c = (record { numbers = search rules; line = search rules
 
 pub returns-then-not-may_be_more : goal.returns-then-not-may_be_more
 returns-then-not-may_be_more g c = let o = c.take_some-t.ensures in
-    done c.take_some-t.result.got c.take_some-t.new.numbers c.take_some-t.result.taken.points c.take_some-t.result.taken.len c.take_some-t.new.line
-    (after_more c.loop.invariant.1 o.after) o.within (search rules) (c.finish.ensures ∙ ap (finish_of _) c.held.ensures)
+    rw c.end_by.ensures.1
+    (done c.take_some-t.result.got c.take_some-t.new.numbers c.take_some-t.result.taken.points c.take_some-t.result.taken.len c.take_some-t.new.line
+    (after_more c.loop.invariant.1 o.after) o.within (search rules) c.end_by.ensures.0)
 
 pub loop-preserved : goal.loop-preserved
 loop-preserved g c = let o = c.take_some-t.ensures in
@@ -22,5 +23,6 @@ loop-preserved g c = let o = c.take_some-t.ensures in
 
 pub returns : goal.returns
 returns g c =
-    done Cut c.loop.numbers c.loop.taken.points c.loop.taken.len c.loop.line
-    c.loop.invariant.1 c.loop.invariant.0 (search rules) (c.finish-2.ensures ∙ ap (finish_of _) c.held-2.ensures)
+    rw c.end_by-2.ensures.1
+    (done Cut c.loop.numbers c.loop.taken.points c.loop.taken.len c.loop.line
+    c.loop.invariant.1 c.loop.invariant.0 (search rules) c.end_by-2.ensures.0)

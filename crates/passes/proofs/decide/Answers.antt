@@ -14,8 +14,8 @@ or_first (Some k) j e = sym e
 
 pub returns-in-Err : goal.returns-in-Err
 returns-in-Err c = let a = c.args in
-    decided-cut a.stock a.cells.now a.n a.targets.now (cuts_of a.kinds.now a.numbers.now a.parts.now a.lists.now) _ _ _ c.copy_from_slice.ensures.after _ c.make_all-applied.ensures (reason_in c.in-Err.e) c.in-Err.e.why c.unwrap_or.result (ap placed_of c.in-Err.is) refl (or_first c.in-Err.e.place _ c.unwrap_or.ensures) c.copy_from_slice-in-Err.ensures.after
+    decided-cut a.stock a.cells.now a.n a.targets.now (cuts_of a.kinds.now a.numbers.now a.parts.now a.lists.now) _ _ _ c.copy.ensures _ c.make_all-applied.ensures (reason_in c.in-Err.e) c.in-Err.e.why c.unwrap_or.result (ap placed_of c.in-Err.is) refl (or_first c.in-Err.e.place _ c.unwrap_or.ensures) c.copy-in-Err.ensures
 
 pub returns-in-Ok : goal.returns-in-Ok
 returns-in-Ok c = let a = c.args in
-    decided-bins a.stock a.cells.now a.n a.targets.now (cuts_of a.kinds.now a.numbers.now a.parts.now a.lists.now) _ _ _ c.copy_from_slice.ensures.after _ c.make_all-applied.ensures c.in-Ok.s _ c.in-Ok.is c.judge.ensures
+    decided-bins a.stock a.cells.now a.n a.targets.now (cuts_of a.kinds.now a.numbers.now a.parts.now a.lists.now) _ _ _ c.copy.ensures _ c.make_all-applied.ensures c.in-Ok.s _ c.in-Ok.is c.judge.ensures

@@ -1,6 +1,7 @@
 -- `stock_streams::take_once` meets its contract. Assumes nothing.
+use Rattle.stock_streams.proofs.Taking.{read_once}
 use Rattle.stock_streams.proofs.take_once.Goals as goal
 
 pub returns : goal.returns
-returns g c = let o = c.take_part-taken.ensures in
-    record { bytes = c.front-came.result.now; takes = record { room = o.room; reads = o.reads; holds = o.holds; keeps = o.keeps } }
+returns g c = let t = read_once c.read_some-got.result _ _ _ c.take_part-taken.result c.take_part-taken.ensures c.front-came.ensures c.brought.ensures in
+    record { room = t.room; reads = t.reads; holds = t.holds; keeps = t.keeps }
