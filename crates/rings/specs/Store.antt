@@ -91,7 +91,7 @@ unfoldable pub all_good : List Ring → Bool
 all_good [] = true
 all_good (q ∷ qs) = finite_ring q && filled q && all_good qs
 
--- whole rings, each good: no ring is bad (`Good-none`, proofs/Some)
+-- whole rings, each good: no ring is bad (`Good-none`, proofs/Bad)
 unfoldable pub rings_good : List Float → Bool
 rings_good xs = eqb (length xs % 4) 0 && all_good (rings_of (length xs / 4) xs)
 

@@ -1,21 +1,9 @@
 -- Two lists of bytes compared from the left. Assumes nothing.
-use Rattle.std.proofs.Common.{◌≡◌, ℕ, Bool, true, false, ◌&&◌, T, eqb, List, [], ◌∷◌, sym, refl, ◌∙◌, subst, eq-eqb, eqb-true}
-use lib.Pointwise.{pointwise}
+use Rattle.std.proofs.Common.{◌≡◌, ℕ, Bool, true, false, T, eqb, List, [], ◌∷◌, sym, refl, ◌∙◌, subst, eq-eqb, eqb-true}
+use Rattle.std.specs.Bool.{Decides}
 use Rattle.floats.specs.Pick.{pick_true, pick-false}
-use Rattle.text.proofs.Chosen.{yes, no}
+use Rattle.text.proofs.Chosen.{yes}
 use Rattle.text.specs.Same.{same_bytes}
-
--- pair by pair, as `==` compares
-pub same_pairs : (a b : List ℕ) → pointwise eqb a b ≡ same_bytes a b
-unfolding same_bytes
-same_pairs [] [] = refl
-same_pairs [] (y ∷ ys) = refl
-same_pairs (x ∷ xs) [] = refl
-same_pairs (x ∷ xs) (y ∷ ys) = by (eqb x y) refl (same_pairs xs ys)
-  where
-    by : (t : Bool) → eqb x y ≡ t → pointwise eqb xs ys ≡ same_bytes xs ys → (eqb x y && pointwise eqb xs ys) ≡ same_bytes (x ∷ xs) (y ∷ ys)
-    by true e h = simp (e, yes, h)
-    by false e h = simp (e, no)
 
 -- what is compared with itself is the same
 pub same_self : (a : List ℕ) → same_bytes a a ≡ true
@@ -37,3 +25,12 @@ same_true (x ∷ xs) (y ∷ ys) e = by (eqb x y) refl (same_true xs ys)
         let q : xs ≡ ys = r (sym (pick_true _ _ _ f) ∙ e) in
         cc
     by false f r = absurd (subst T (sym (sym (pick-false _ _ _ f) ∙ e)) tt)
+
+-- what says whether two lists are equal says whether they are the same
+pub same_decided : (r : Bool) (a b : List ℕ) → Decides r (a ≡ b) → r ≡ same_bytes a b
+same_decided true a b h = let p : a ≡ b = h.0 refl in sym (subst (λ (x : List ℕ). same_bytes a x ≡ true) p (same_self a))
+same_decided false a b h = by (same_bytes a b) refl
+  where
+    by : (t : Bool) → same_bytes a b ≡ t → false ≡ same_bytes a b
+    by true e = h.1 (same_true a b e) ∙ sym e
+    by false e = sym e
