@@ -20,13 +20,13 @@ loop-i-init g c = (omega arith, numbers-start _ _ _ _ c.part_count.ensures c.if-
 pub returns-in_err-xs : goal.returns-in_err-xs
 returns-in_err-xs g c = let l = c.loop-i in
     let a = c.args in
-    let n = ap field_number (sym c.part.ensures) ∙ sym c.read_number.ensures ∙ c.in_err-xs.was in
+    let n = ap field_number (sym c.field.ensures) ∙ sym c.read_number.ensures ∙ c.in_err-xs.was in
     rw c.from_residual.ensures (record { are = sym (l.invariant.1 ∙ all-no (fields_of a.s.now) (a.k + l.i) (omega arith) n); each = λ xs e. absurd (not-both (ap is_some e)) })
 
 pub loop-i-preserved : goal.loop-i-preserved
 loop-i-preserved g c = let l = c.loop-i in
     let a = c.args in
-    let n = ap field_number (sym c.part.ensures) ∙ sym c.read_number.ensures ∙ c.in_ok-xs.was in (
+    let n = ap field_number (sym c.field.ensures) ∙ sym c.read_number.ensures ∙ c.in_ok-xs.was in (
       l.invariant.0,
       l.invariant.1 ∙ all-step (fields_of a.s.now) a.k l.i (omega arith) n,
       search rules,
